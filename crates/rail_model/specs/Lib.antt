@@ -1,0 +1,16 @@
+pub mod Certificate
+pub mod Checks
+pub mod Exchange
+pub mod Journal
+pub mod Layout
+pub mod Lines
+pub mod Move
+pub mod Names
+pub mod Naming
+pub mod Plain
+pub mod State
+pub mod Sums
+pub mod Table
+pub mod Times
+pub mod Turns
+pub mod Yard
