@@ -1,0 +1,4 @@
+pub mod Adding
+pub mod Giving
+mod Rows
+pub mod Taking

@@ -1,0 +1,4 @@
+pub mod Adapted
+pub mod Bytes
+pub mod Faults
+pub mod Memory
