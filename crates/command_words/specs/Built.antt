@@ -1,0 +1,13 @@
+-- A command as it is built, piece by piece.
+use Rattle.std.specs.Prelude.{◌≡◌, false}
+use Rattle.clap.specs.Words.{App, app_of}
+use Rattle.clap.specs.declared.Command.{Command}
+use Rattle.clap.specs.declared.Command.TheViews.{out-Command}
+
+-- The command has no argument that its subcommands share.
+abbrev pub IsLocal : Command → Type 0
+IsLocal command = (out-Command command).has_globals ≡ false
+
+-- What a parse reads of the command is `app`.
+abbrev pub Is : App → Command → Type 0
+Is app command = (app_of command ≡ app) × IsLocal command

@@ -1,0 +1,45 @@
+-- The options of the command line: each takes one whole number, and stands for its default where it isn't given.
+use Rattle.std.specs.Prelude.{ℕ, ◌≤◌, ◌&&◌, List, codes, nat_le, Option, Some, None, option_and_then, if◌then◌else◌}
+use Rattle.std.specs.Option.{option_map_or}
+use Rattle.clap.specs.Words.{Row, Text, first_of}
+use Rattle.decimal_number.specs.Decimal.{number_of}
+
+-- an option: its name, the numbers from `least` to `greatest` that it takes, and its default
+pub record NumberOption : Type 0 where
+  pub name : Text
+  pub least : ℕ
+  pub greatest : ℕ
+  pub default : ℕ
+
+-- the option of this name, least and greatest number, and default
+abbrev pub option : Text → ℕ → ℕ → ℕ → NumberOption
+option name least greatest default = record { name = name; least = least; greatest = greatest; default = default }
+
+-- the greatest number of workers that the trains can be given to
+abbrev pub most_workers : ℕ
+most_workers = 0
+
+-- how many workers run the trains; 0 is one thread alone
+abbrev pub workers : NumberOption
+workers = option (codes "workers") 0 most_workers 0
+
+-- how many rounds the workers make at most
+abbrev pub rounds : NumberOption
+rounds = option (codes "rounds") 0 1000000 1000
+
+-- how many nodes a certificate has at most
+abbrev pub budget : NumberOption
+budget = option (codes "budget") 1 1000000 1000000
+
+-- The option takes this number.
+abbrev pub Takes : NumberOption → ℕ → Type 0
+Takes o n = (o.least ≤ n) × (n ≤ o.greatest)
+
+-- the number that a text is, if it is in range
+abbrev pub number_between : ℕ → ℕ → Text → Option ℕ
+number_between least greatest text =
+    option_and_then (λ n. if nat_le least n && nat_le n greatest then Some n else None) (number_of text)
+
+-- the number that an option stands for: the one that it was given, else its default
+abbrev pub number : NumberOption → List Row → Option ℕ
+number o given = option_map_or (number_between o.least o.greatest) (first_of o.name given) (Some o.default)

@@ -1,0 +1,68 @@
+-- The subcommands: the options of each, and what it asks for.
+use Rattle.std.specs.Prelude.{List, [], ◌∷◌, codes, Option, Some, option_and_then}
+use Rattle.clap.specs.Words.{Row, Text}
+use Rattle.command_words.specs.Options.{NumberOption, Takes, number, workers, rounds, budget}
+use Rattle.command_words.specs.declared.orders.Order.{Order}
+use Rattle.command_words.specs.declared.orders.Order.TheVariants as order
+
+-- the next step, where there is a value
+infixl 10 ◌>>=◌
+abbrev pub ◌>>=◌ : {A B : Type 0} → Option A → (A → Option B) → Option B
+o >>= f = option_and_then f o
+
+-- a subcommand: its name, its options, and what it asks for where its options were given so
+pub record Subcommand : Type 0 where
+  pub name : Text
+  pub options : List NumberOption
+  pub order : List Row → Option Order
+
+-- runs the trains of a document
+abbrev pub run : Subcommand
+run = record {
+  name = codes "run";
+  options = workers ∷ rounds ∷ [];
+  order = λ given. do
+    w ← number workers given
+    r ← number rounds given
+    Some (order.Run w r);
+}
+
+-- runs the trains of a document on from the beginning of a journal
+abbrev pub resume : Subcommand
+resume = record {
+  name = codes "resume";
+  options = workers ∷ rounds ∷ [];
+  order = λ given. do
+    w ← number workers given
+    r ← number rounds given
+    Some (order.Resume w r);
+}
+
+-- checks the certificates of a document
+abbrev pub check : Subcommand
+check = record { name = codes "check"; options = []; order = λ given. Some order.Check }
+
+-- checks a journal of a document
+abbrev pub verify : Subcommand
+verify = record { name = codes "verify"; options = []; order = λ given. Some order.Verify }
+
+-- brings a document of version 1 to version 2
+abbrev pub migrate : Subcommand
+migrate = record { name = codes "migrate"; options = []; order = λ given. Some order.Migrate }
+
+-- makes the certificates of a document
+abbrev pub make : Subcommand
+make = record {
+  name = codes "make";
+  options = budget ∷ [];
+  order = λ given. do
+    b ← number budget given
+    Some (order.Make b);
+}
+
+-- Each number of the order is one that its option takes.
+abbrev pub HasItsNumbers : Order → Type 0
+HasItsNumbers (order.Run w r) = Takes workers w × Takes rounds r
+HasItsNumbers (order.Resume w r) = Takes workers w × Takes rounds r
+HasItsNumbers (order.Make b) = Takes budget b
+HasItsNumbers _ = Unit {0}

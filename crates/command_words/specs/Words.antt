@@ -1,0 +1,62 @@
+-- What the words of a command line ask for: they are read by clap's definition of a command with one required
+-- subcommand and long options alone, which has no help words.
+use Rattle.std.specs.Prelude.{List, [], ◌∷◌, ◌++◌, codes, fold, true, Option, Some, None, find, option_and_then}
+use Rattle.std.specs.Str.{bytes_eq}
+use Rattle.clap.specs.Words.{App, Rule, Shape, Row, Text, Kinds, new_app, new_rule, with_rule, with_subcommand, fault_of, subcommand_of}
+use Rattle.command_words.specs.Options.{NumberOption}
+use Rattle.command_words.specs.Subcommands as sub
+use Rattle.command_words.specs.Subcommands.{Subcommand}
+use Rattle.command_words.specs.declared.orders.Order.{Order}
+
+-- what runs the trains
+abbrev pub runs : List Subcommand
+runs = sub.run ∷ sub.resume ∷ []
+
+-- what checks a document or a journal
+abbrev pub checks : List Subcommand
+checks = sub.check ∷ sub.verify ∷ []
+
+-- what makes a document of version 2, or certificates
+abbrev pub makers : List Subcommand
+makers = sub.migrate ∷ sub.make ∷ []
+
+-- all of them
+abbrev pub subcommands : List Subcommand
+subcommands = runs ++ checks ++ makers
+
+-- a long option with one value
+abbrev pub rule : NumberOption → Rule
+rule o = record (new_rule o.name) { long = Some o.name }
+
+-- a subcommand with these options
+unfoldable pub leaf : Subcommand → App
+leaf s = fold (λ app o. with_rule app (rule o)) (new_app s.name) s.options
+
+-- the command with these subcommands more
+abbrev pub with_all : List Subcommand → App → App
+with_all more app = fold (λ app s. with_subcommand app (leaf s).top) app more
+
+-- the settings of the command itself
+abbrev pub as_top : Shape → Shape
+as_top s = record s { no_binary_name = true; subcommand_required = true; disable_help_flag = true; disable_help_subcommand = true }
+
+-- the command before any subcommand: one is required, and there are no help words
+abbrev pub start : App
+start = let app = new_app (codes "ats") in record app { top = as_top app.top }
+
+-- the whole command
+abbrev pub ats : App
+ats = with_all subcommands start
+
+-- what a subcommand of this name asks for
+abbrev pub order_of : Text × List Row → Option Order
+order_of called = option_and_then (λ s. s.order called.1) (find (λ s. bytes_eq called.0 s.name) subcommands)
+
+-- what was found where clap finds no fault
+abbrev pub unless_faulty : {A : Type 0} → Kinds → Option A → Option A
+unless_faulty [] found = found
+unless_faulty (fault ∷ faults) found = None
+
+-- what the words ask for, or None where they are refused
+unfoldable pub words : List Text → Option Order
+words ws = unless_faulty (fault_of ats ws) (option_and_then order_of (subcommand_of ats ws))

@@ -1,0 +1,13 @@
+//! The words after `ats`: they ask for exactly one order, or are refused.
+#![tactic(auto)]
+
+mod options;
+mod orders;
+mod reading;
+mod table;
+
+pub use orders::{Order, WordsRefused};
+pub use reading::words;
+
+#[cfg(test)]
+mod tests;

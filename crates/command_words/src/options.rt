@@ -1,0 +1,63 @@
+//! The number of each option, of what clap found.
+ghost use Rattle.std.specs.Prelude.{◌≡◌, ◌≤◌, IfSome};
+ghost use Rattle.clap.specs.Words.{found_of, rows_of};
+ghost use Rattle.command_words.specs.Options as spec;
+
+use clap::ArgMatches;
+use decimal_number::number_of;
+
+// The greatest number of workers that the trains can be given to.
+const MOST_WORKERS: u32 = 0;
+
+pub(crate) fn workers(matches: &ArgMatches<'_>) -> Option<u32>
+    ensures exact { result ≡ spec.number spec.workers (rows_of (found_of matches.now)) }
+    ensures within { IfSome result (spec.Takes spec.workers) }
+{
+    number(matches, "workers", 0, MOST_WORKERS, 0)
+}
+
+pub(crate) fn rounds(matches: &ArgMatches<'_>) -> Option<u32>
+    ensures exact { result ≡ spec.number spec.rounds (rows_of (found_of matches.now)) }
+    ensures within { IfSome result (spec.Takes spec.rounds) }
+{
+    number(matches, "rounds", 0, 1_000_000, 1000)
+}
+
+pub(crate) fn budget(matches: &ArgMatches<'_>) -> Option<u32>
+    ensures exact { result ≡ spec.number spec.budget (rows_of (found_of matches.now)) }
+    ensures within { IfSome result (spec.Takes spec.budget) }
+{
+    number(matches, "budget", 1, 1_000_000, 1_000_000)
+}
+
+// The number of the option, or its default where it isn't given.
+fn number(
+    matches: &ArgMatches<'_>,
+    name: &str,
+    least: u32,
+    greatest: u32,
+    default: u32,
+) -> Option<u32>
+    requires not_low { least ≤ default }
+    requires not_high { default ≤ greatest }
+    ensures exact { result ≡ spec.number (spec.option name.now least greatest default)
+        (rows_of (found_of matches.now)) }
+    ensures within { IfSome result (λ n. (least ≤ n) × (n ≤ greatest)) }
+{
+    match matches.get_str(name) {
+        Some(text) => number_between(least, greatest, text),
+        None => Some(default),
+    }
+}
+
+fn number_between(least: u32, greatest: u32, text: &str) -> Option<u32>
+    ensures exact { result ≡ spec.number_between least greatest text.now }
+    ensures within { IfSome result (λ n. (least ≤ n) × (n ≤ greatest)) }
+{
+    let number = number_of(text.as_bytes())?;
+    if least <= number && number <= greatest {
+        Some(number)
+    } else {
+        None
+    }
+}

@@ -1,0 +1,27 @@
+//! What the program can be asked for.
+
+/// What the words ask for, with the numbers of its options.
+#[derive(Clone, Copy, Debug, PartialEq, Eq)]
+pub enum Order {
+    /// Run the trains of a document by so many workers, which make so many rounds at most.
+    Run { workers: u32, rounds: u32 },
+    /// Run the trains of a document on from the beginning of a journal.
+    Resume { workers: u32, rounds: u32 },
+    /// Check the certificates of a document.
+    Check,
+    /// Check a journal of a document.
+    Verify,
+    /// Bring a document of version 1 to version 2.
+    Migrate,
+    /// Make the certificates of a document, of so many nodes at most.
+    Make { budget: u32 },
+}
+
+/// Why there is no order for the words.
+#[derive(Clone, Copy, Debug, PartialEq, Eq)]
+pub enum WordsRefused {
+    /// The words ask for nothing that there is, or for two things, or have a number that is out of range.
+    Words,
+    /// There was no memory to read them.
+    Memory,
+}

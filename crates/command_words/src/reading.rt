@@ -1,0 +1,83 @@
+//! Reading the words.
+ghost use Rattle.std.specs.Prelude.{◌≡◌, ◌⊎◌, IfOk, IfErr, IfSome, Some, None, map, string_bytes, option_and_then};
+ghost use Rattle.clap.specs.Words.{found_of, rows_of, subcommand_rows_of};
+ghost use Rattle.command_words.specs.Subcommands as sub;
+ghost use Rattle.command_words.specs.Words as spec;
+
+use crate::options::{budget, rounds, workers};
+use crate::orders::{Order, WordsRefused};
+use crate::table::command;
+use clap::ArgMatches;
+use clap::error::ErrorKind;
+use std::alloc::Global;
+
+/// What the words after the program's name ask for. `Words` comes exactly where the definition refuses
+/// them, unless there was no memory to read them: then the answer is `Memory`, whatever they are.
+pub fn words(alloc: Global, words: &[String]) -> Result<Order, WordsRefused>
+    ensures ok { IfOk result (λ order. spec.words (map string_bytes words.now) ≡ Some order) }
+    ensures within { IfOk result sub.HasItsNumbers }
+
+    ensures refused { result ≡ Err WordsRefused.Words → spec.words (map string_bytes words.now) ≡ None }
+    ensures errors { IfErr result (λ e. (e ≡ WordsRefused.Words) ⊎ (e ≡ WordsRefused.Memory)) }
+{
+    let Ok(command) = command(alloc) else {
+        return Err(WordsRefused::Memory);
+    };
+    match command.try_get_matches_from(words) {
+        Ok(matches) => order_of(&matches).ok_or(WordsRefused::Words),
+        Err(error) => if error.kind() == ErrorKind::OutOfMemory {
+            Err(WordsRefused::Memory)
+        } else {
+            Err(WordsRefused::Words)
+        },
+    }
+}
+
+fn order_of(matches: &ArgMatches<'_>) -> Option<Order>
+    ensures exact { result ≡ option_and_then spec.order_of (subcommand_rows_of matches.now) }
+    ensures within { IfSome result sub.HasItsNumbers }
+{
+    let (name, inner) = matches.subcommand()?;
+    order_called(name, inner)
+}
+
+fn order_called(name: &str, matches: &ArgMatches<'_>) -> Option<Order>
+    ensures exact { result ≡ spec.order_of (name.now, rows_of (found_of matches.now)) }
+    ensures within { IfSome result sub.HasItsNumbers }
+{
+    match name {
+        "run" => run(matches),
+        "resume" => resume(matches),
+        "check" => Some(Order::Check),
+        "verify" => Some(Order::Verify),
+        "migrate" => Some(Order::Migrate),
+        "make" => make(matches),
+        _ => None,
+    }
+}
+
+fn run(matches: &ArgMatches<'_>) -> Option<Order>
+    ensures exact { result ≡ sub.run.order (rows_of (found_of matches.now)) }
+    ensures within { IfSome result sub.HasItsNumbers }
+{
+    let workers = workers(matches)?;
+    let rounds = rounds(matches)?;
+    Some(Order::Run { workers, rounds })
+}
+
+fn resume(matches: &ArgMatches<'_>) -> Option<Order>
+    ensures exact { result ≡ sub.resume.order (rows_of (found_of matches.now)) }
+    ensures within { IfSome result sub.HasItsNumbers }
+{
+    let workers = workers(matches)?;
+    let rounds = rounds(matches)?;
+    Some(Order::Resume { workers, rounds })
+}
+
+fn make(matches: &ArgMatches<'_>) -> Option<Order>
+    ensures exact { result ≡ sub.make.order (rows_of (found_of matches.now)) }
+    ensures within { IfSome result sub.HasItsNumbers }
+{
+    let budget = budget(matches)?;
+    Some(Order::Make { budget })
+}
