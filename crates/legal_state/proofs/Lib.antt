@@ -1,0 +1,4 @@
+pub mod Legality
+pub mod Points
+pub mod Rows
+pub mod Verdicts

@@ -1,0 +1,10 @@
+//! Tells when the next table is due and whether it may take over, and steps the yard on one thread.
+#![tactic(auto)]
+
+mod exchange;
+mod laws;
+mod steps;
+
+pub use exchange::{NotNow, admit, all_arrived, due};
+pub use laws::{admitted_stays_legal, each_admission_is_computed};
+pub use steps::{ask, in_force, try_table};
