@@ -1,0 +1,17 @@
+use Rattle.std.proofs.Common.{◌≡◌, ◌∷◌, [], drop, ◌∙◌}
+use Rattle.rail_model.specs.Certificate.{full_box, visits}
+use Rattle.cert_checker.specs.Walked.{walked}
+use Rattle.cert_checker.proofs.Whole.{walk_whole, on_ok, on_err}
+use Rattle.cert_checker.proofs.checks.check.Goals as goal
+
+pub returns : goal.returns
+returns c =
+    let T = c.args.table.now in
+    let cert = c.args.cert.now in
+    let same : walked (c.in_ok-carried.carried.ranges ∷ []) (drop 0 c.as_slice.result.now) ≡ visits (full_box T) cert =
+    (λ k. walked (c.in_ok-carried.ensures.full k ∷ []) (drop 0 (c.as_slice.ensures.nodes k))) ∙ walk_whole cert (full_box T) in
+    record {
+      accepted = on_ok T cert _ c.visit_tree.result same c.visit_tree.ensures.good;
+      bad = on_err T cert _ c.visit_tree.result same c.visit_tree.ensures.bad;
+      formed = c.in_ok-carried.ensures.formed;
+    }

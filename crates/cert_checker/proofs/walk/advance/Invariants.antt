@@ -1,0 +1,15 @@
+use Rattle.std.proofs.Common.{◌≡◌, reverse, vec_len}
+use Rattle.std.specs.Prelude.{All}
+use Rattle.cert_checker.specs.Carried.{IsCarried}
+use Rattle.cert_checker.specs.Walked.{IsStep, waiting}
+use Rattle.cert_checker.proofs.walk.advance.Given as goal
+
+abbrev pub invariant-loop-step : goal.invariant-loop-step
+invariant-loop-step l = record {
+  carried : IsCarried l.table l.carried.ranges l.carried.sums.items;
+  steps : All (λ step. IsStep l.table step) l.steps.items;
+  boxes : waiting l.initial.carried.ranges (reverse l.initial.steps.items) ≡ waiting l.carried.ranges (reverse l.steps.items);
+}
+
+abbrev pub decreases-loop-step : goal.decreases-loop-step
+decreases-loop-step l = vec_len l.steps

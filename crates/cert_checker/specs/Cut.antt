@@ -1,0 +1,63 @@
+-- A tree cut into parts: subtrees of which each has its own box.
+use Rattle.std.specs.Prelude.{◌≡◌, ℕ, ◌+◌, ◌-◌, ◌<◌, ◌≤◌, List, [], ◌∷◌, ◌++◌, length, drop, slice_index_or, All, Result, Ok, Err, MatchResult}
+use Rattle.rail_model.specs.declared.types.Node.{Node}
+use Rattle.rail_model.specs.declared.types.Node.TheVariants.{Split}
+use Rattle.rail_model.specs.Table.{Table}
+use Rattle.rail_model.specs.Certificate.{Range, IsBox, IsGood, IsSplit}
+use Rattle.cert_checker.specs.declared.parts.Part.{Part}
+use Rattle.cert_checker.specs.declared.faults.CheckFault.{CheckFault}
+use Rattle.cert_checker.specs.Walked.{walked, StopsAt}
+
+-- a node and its box
+abbrev pub Visited : Type 0
+Visited = List Range × Node
+
+-- how many trees are wanted behind a node
+abbrev pub wanted_behind : Node → ℕ → ℕ
+wanted_behind (Split i m) wanted = wanted + 1
+wanted_behind _ wanted = wanted - 1
+
+-- The tree that begins at one index ends before the other, in whichever box it is visited.
+abbrev pub IsEnd : List Node → ℕ → ℕ → Type 0
+IsEnd nodes first end = (B : List Range) (later : List (List Range))
+    → (walked (B ∷ later) (drop first nodes) ≡ walked (B ∷ []) (drop first nodes) ++ walked later (drop end nodes))
+    × (first + length (walked (B ∷ []) (drop first nodes)) ≡ end)
+
+-- the visits of a part's nodes
+abbrev pub part_visits : List Node → Part → List (List Range × Node)
+part_visits nodes part = walked (part.ranges ∷ []) (drop part.first nodes)
+
+-- A part begins at a node, with a box of the table.
+pub record IsPart (T : Table) (nodes : List Node) (part : Part) : Type 0 where
+  pub boxed : IsBox T part.ranges
+  pub first : part.first ≤ length nodes
+
+-- The visits from one index on are those of the parts, in order, and good ones between them.
+abbrev pub IsCut : Table → List Node → ℕ → List Part → List (List Range × Node) → Type 0
+IsCut T nodes at [] visits = All (λ v. IsGood T v.0 v.1) visits
+IsCut T nodes at (part ∷ later) visits =
+    (before : List (List Range × Node)) × (behind : List (List Range × Node))
+    × (visits ≡ before ++ (part_visits nodes part ++ behind)) × All (λ v. IsGood T v.0 v.1) before × (part.first ≡ at + length before)
+    × IsCut T nodes (part.first + length (part_visits nodes part)) later behind
+
+-- The new list of parts stands for the old one and one part more.
+abbrev pub Divides : Table → List Node → List Part → Part → List Part → Type 0
+Divides T nodes old part new =
+    (at : ℕ) (later : List Part) (visits : List (List Range × Node)) → IsCut T nodes at (old ++ part ∷ later) visits → IsCut T nodes at (new ++ later) visits
+
+-- The part's first node is a split that parts its box.
+pub record IsDivided (T : Table) (nodes : List Node) (part : Part) (i m : ℕ) : Type 0 where
+  pub there : part.first < length nodes
+  pub node : slice_index_or nodes part.first (Split 0 0) ≡ Split i m
+  pub splits : IsSplit T part.ranges i m
+
+-- All nodes of the part are good, or the first that isn't.
+abbrev pub IsChecked : Table → List Node → Part → Result (Unit {0}) CheckFault → Type 0
+IsChecked T nodes part answer =
+    MatchResult answer (λ _. All (λ v. IsGood T v.0 v.1) (part_visits nodes part)) (StopsAt T (part_visits nodes part) part.first)
+
+-- the first fault of the answers
+abbrev pub first_fault : List (Result (Unit {0}) CheckFault) → Result (Unit {0}) CheckFault
+first_fault [] = Ok tt
+first_fault (Ok u ∷ later) = first_fault later
+first_fault (Err e ∷ later) = Err e

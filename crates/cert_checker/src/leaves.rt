@@ -1,0 +1,162 @@
+// Whether a node is good in a box; else why not.
+ghost use Rattle.std.specs.Prelude.{◌≡◌, ℕ, ◌+◌, ◌<◌, ◌≤◌, length, IsTrue, ◌↔◌};
+ghost use Rattle.rail_model.specs.declared.types.Node.TheVariants.{Move as MoveNode};
+ghost use Rattle.rail_model.specs.Table.{IsTable, trains, last};
+ghost use Rattle.rail_model.specs.Move.{IsFirstOrNone};
+ghost use Rattle.rail_model.specs.Certificate.{range, IsBox, IsAtEnd, MayBlock, MayBeFull, MayBeHeld};
+ghost use Rattle.cert_checker.specs.Places.{IsAway};
+ghost use Rattle.cert_checker.specs.Faults.{Judges};
+
+use crate::places::{clashes, may_be_full, may_be_held, may_block};
+use crate::ranges::Ranges;
+use crate::shares::least_count;
+use rail_model::{Bad, Node, Table, connections_of, last_of, limit_of, sections_of, trains_of};
+
+// Whether a train is at its last place alone.
+fn is_at_end(table: &Table, ranges: &Ranges, train: u32) -> bool
+    requires size { length ranges.now ≡ trains table.now }
+    requires train { train < trains table.now }
+    ensures { IsTrue result ↔ IsAtEnd table.now ranges.now train }
+{
+    let last = last_of(table, train);
+    let span = ranges.span(train);
+    span.lo() == last && span.hi() == last
+}
+
+// The first train that isn't at its last place alone.
+pub fn first_away(table: &Table, ranges: &Ranges) -> Option<u32>
+    requires { length ranges.now ≡ trains table.now }
+    ensures { IsFirstOrNone (IsAway table.now ranges.now) result }
+{
+    for train in 0..trains_of(table) {
+        if !is_at_end(table, ranges, train) {
+            return Some(train);
+        }
+    }
+    None
+}
+
+// The first train that may block a train's move.
+fn first_blocker(table: &Table, ranges: &Ranges, train: u32) -> Option<u32>
+    requires boxed { IsBox table.now ranges.now }
+    requires train { train < trains table.now }
+    ensures { IsFirstOrNone (MayBlock table.now ranges.now train) result }
+{
+    for other in 0..trains_of(table) {
+        if may_block(table, ranges, train, other) {
+            return Some(other);
+        }
+    }
+    None
+}
+
+// The first section that may be full.
+fn first_full(table: &Table, ranges: &Ranges, train: u32) -> Option<u32>
+    requires boxed { IsBox table.now ranges.now }
+    requires train { train < trains table.now }
+    requires unfinished { (range ranges.now train).hi < last table.now train }
+    ensures { IsFirstOrNone (MayBeFull table.now ranges.now train) result }
+{
+    for section in 0..sections_of(table) {
+        if may_be_full(table, ranges, train, section) {
+            return Some(section);
+        }
+    }
+    None
+}
+
+// The first connection that may hold a train.
+pub fn first_holder(table: &Table, ranges: &Ranges, train: u32) -> Option<u32>
+    requires size { length ranges.now ≡ trains table.now }
+    requires train { train < trains table.now }
+    ensures { IsFirstOrNone (MayBeHeld table.now ranges.now train) result }
+{
+    for number in 0..connections_of(table) {
+        if may_be_held(table, ranges, train, number) {
+            return Some(number);
+        }
+    }
+    None
+}
+
+fn check_move(table: &Table, ranges: &Ranges, train: u32, index: u32) -> Result<(), Bad>
+    requires boxed { IsBox table.now ranges.now }
+    ensures { Judges table.now ranges.now (MoveNode train) index result }
+{
+    if train >= trains_of(table) {
+        return Err(Bad::Name { index });
+    }
+    if ranges.span(train).hi() >= last_of(table, train) {
+        return Err(Bad::MoveEnd { index, train });
+    }
+    if let Some(other) = first_blocker(table, ranges, train) {
+        return Err(Bad::MovePoint {
+            index,
+            train,
+            other,
+        });
+    }
+    if let Some(section) = first_full(table, ranges, train) {
+        return Err(Bad::MoveRoom {
+            index,
+            train,
+            section,
+        });
+    }
+    if let Some(connection) = first_holder(table, ranges, train) {
+        return Err(Bad::MoveWait {
+            index,
+            train,
+            connection,
+        });
+    }
+    Ok(())
+}
+
+/// Whether a node is good in a box; else why not.
+pub fn check_node(table: &Table, ranges: &Ranges, node: Node, index: u32) -> Result<(), Bad>
+    requires boxed { IsBox table.now ranges.now }
+    ensures { Judges table.now ranges.now node index result }
+{
+    match node {
+        Node::Split { train, place } => {
+            if train < trains_of(table)
+                && ranges.span(train).lo() <= place
+                && place < ranges.span(train).hi()
+            {
+                Ok(())
+            } else {
+                Err(Bad::Split { index })
+            }
+        }
+        Node::Clash { first, second } => {
+            if first >= trains_of(table) || second >= trains_of(table) {
+                Err(Bad::Name { index })
+            } else if clashes(table, ranges, first, second) {
+                Ok(())
+            } else {
+                Err(Bad::Clash { index })
+            }
+        }
+        Node::Overfull { section } => {
+            if section >= sections_of(table) {
+                return Err(Bad::Name { index });
+            }
+            let least = least_count(table, ranges, section);
+            if limit_of(table, section) < least {
+                Ok(())
+            } else {
+                Err(Bad::Overfull {
+                    index,
+                    section,
+                    least,
+                })
+            }
+        }
+        Node::Arrived => match first_away(table, ranges) {
+            Some(train) => Err(Bad::Arrived { index, train }),
+            None => Ok(()),
+        },
+        Node::Move { train } => check_move(table, ranges, train, index),
+    }
+}

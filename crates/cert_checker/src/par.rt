@@ -1,0 +1,95 @@
+// The check of the parts of a tree, side by side.
+ghost use Rattle.std.specs.Prelude.{◌≡◌, ◌≤◌, length, All, IfOk, IfErr, OnOk};
+ghost use Rattle.std.specs.List.{AllZip};
+ghost use Rattle.rail_model.specs.Table.{IsTable};
+ghost use Rattle.rail_model.specs.Certificate.{Accepts};
+ghost use Rattle.cert_checker.specs.Cut.{IsPart, IsChecked, first_fault as first_fault_of};
+ghost use Rattle.cert_checker.specs.Faults.{HasFault};
+ghost use Rattle.cert_checker.specs.Lookup.{IsLookup};
+
+use crate::CheckFault;
+use crate::carried::Carried;
+use crate::lookup::Lookup;
+use crate::parts::{Part, cut};
+use crate::walk::visit_tree;
+use cert_tree::Cert;
+use rail_model::{Node, Table};
+use rayon::prelude::*;
+use std::alloc::{AllocError, Global};
+use std::thread::Threads;
+
+// The check of one part.
+fn check_part(
+    alloc: Global,
+    table: &Table,
+    lookup: &Lookup,
+    nodes: &[Node],
+    part: &Part,
+) -> Result<(), CheckFault>
+    requires lookup { IsLookup table.now lookup.now }
+    requires few { length nodes.now ≤ 1000000 }
+    requires part { IsPart table.now nodes.now part.now }
+    ensures { IsChecked table.now nodes.now part.now result }
+{
+    let ranges = part.ranges.copy(alloc)?;
+    let carried = Carried::new(alloc, table, ranges)?;
+    visit_tree(alloc, table, lookup, carried, nodes, part.first)
+}
+
+// The answers of the parts, in order, from as many threads as there are processors.
+fn check_parts(
+    rt: &(impl Threads + Sync),
+    alloc: Global,
+    table: &Table,
+    lookup: &Lookup,
+    nodes: &[Node],
+    parts: &[Part],
+) -> Result<Vec<Result<(), CheckFault>>, AllocError>
+    requires lookup { IsLookup table.now lookup.now }
+    requires few { length nodes.now ≤ 1000000 }
+    requires parts { All (λ p. IsPart table.now nodes.now p) parts.now }
+    ensures { IfOk result (λ answers. AllZip (λ p r. IsChecked table.now nodes.now p r) parts.now answers.items) }
+{
+    parts
+        .par_iter()
+        .with_min_len(1)
+        .map(
+            |part: &Part| -> Result<(), CheckFault>
+                requires { IsLookup table.now lookup.now × (length nodes.now ≤ 1000000) × IsPart table.now nodes.now part.now }
+                ensures { IsChecked table.entry.now nodes.entry.now part.now result }
+            { check_part(alloc, table, lookup, nodes, part) },
+        )
+        .collect(rt, alloc)
+}
+
+// The first fault.
+fn first_fault(answers: &[Result<(), CheckFault>]) -> Result<(), CheckFault>
+    ensures { result ≡ first_fault_of answers.now }
+{
+    for answer in answers {
+        if let Err(fault) = answer {
+            return Err(*fault);
+        }
+    }
+    Ok(())
+}
+
+/// What `check` answers, from as many threads as there are processors.
+///
+/// The bad node of least index is the answer. Want of memory may come for any certificate.
+pub fn check_par(
+    rt: &(impl Threads + Sync),
+    alloc: Global,
+    table: &Table,
+    cert: &Cert,
+) -> Result<(), CheckFault>
+    ensures accepted { OnOk result (Accepts table.now cert.now) }
+    ensures bad { IfErr result (HasFault table.now cert.now) }
+    ensures formed { IsTable table.now }
+{
+    let nodes = cert.as_slice();
+    let parts = cut(alloc, table, nodes)?;
+    let lookup = Lookup::new(alloc, table)?;
+    let answers = check_parts(rt, alloc, table, &lookup, nodes, &parts)?;
+    first_fault(&answers)
+}

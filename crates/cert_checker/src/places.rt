@@ -1,0 +1,125 @@
+// Tests of a box that leaves make.
+ghost use Rattle.std.specs.Prelude.{◌≡◌, ◌≢◌, ℕ, ◌+◌, ◌<◌, ◌≤◌, Some, length, IsTrue, ◌↔◌};
+ghost use Rattle.rail_model.specs.Table.{IsTable, trains, last, point};
+ghost use Rattle.rail_model.specs.Certificate.{range, IsIn, IsBox, IsClash, MayBlock, MayBeFull, MayBeHeld};
+ghost use Rattle.cert_checker.specs.Places.{StaysAt, Passes, IsAhead};
+
+use crate::ranges::{Ranges, Span};
+use crate::shares::others_count;
+use rail_model::{Table, change_at, connection_of, has_point, limit_of, point_of, share_at};
+
+// Whether a train has one point at all places of a span.
+fn stays_at(table: &Table, train: u32, span: Span, at: u32) -> bool
+    requires train { train < trains table.now }
+    ensures { IsTrue result ↔ StaysAt table.now train span at }
+{
+    for place in span.lo()..=span.hi() {
+        if !has_point(table, train, place, at) {
+            return false;
+        }
+    }
+    true
+}
+
+// Whether a train has the point at some place of a span.
+fn passes(table: &Table, train: u32, span: Span, at: u32) -> bool
+    requires train { train < trains table.now }
+    ensures { IsTrue result ↔ Passes table.now train span at }
+{
+    for place in span.lo()..=span.hi() {
+        if has_point(table, train, place, at) {
+            return true;
+        }
+    }
+    false
+}
+
+// Whether two trains have one point at all places of their ranges.
+pub fn clashes(table: &Table, ranges: &Ranges, first: u32, second: u32) -> bool
+    requires boxed { IsBox table.now ranges.now }
+    requires first { first < trains table.now }
+    requires second { second < trains table.now }
+    ensures { IsTrue result ↔ IsClash table.now ranges.now first second }
+{
+    if first == second {
+        return false;
+    }
+    let one = ranges.span(first);
+    match point_of(table, first, one.lo()) {
+        Some(at) => {
+            stays_at(table, first, one, at) && stays_at(table, second, ranges.span(second), at)
+        }
+        None => false,
+    }
+}
+
+// Whether another train may stand at the point behind a train's place.
+fn is_ahead(table: &Table, ranges: &Ranges, train: u32, other: u32, place: u32) -> bool
+    requires formed { IsTable table.now }
+    requires boxed { IsBox table.now ranges.now }
+    requires train { train < trains table.now }
+    requires other { other < trains table.now }
+    requires place { place ≤ last table.now train }
+    ensures { IsTrue result ↔ IsAhead table.now ranges.now train other place }
+{
+    match point_of(table, train, place + 1) {
+        Some(next) => passes(table, other, ranges.span(other), next),
+        None => false,
+    }
+}
+
+// Whether another train may stand at a train's next point.
+pub fn may_block(table: &Table, ranges: &Ranges, train: u32, other: u32) -> bool
+    requires formed { IsTable table.now }
+    requires boxed { IsBox table.now ranges.now }
+    requires train { train < trains table.now }
+    requires other { other < trains table.now }
+    ensures { IsTrue result ↔ MayBlock table.now ranges.now train other }
+{
+    if other == train {
+        return false;
+    }
+    let span = ranges.span(train);
+    for place in span.lo()..=span.hi() {
+        if is_ahead(table, ranges, train, other, place) {
+            return true;
+        }
+    }
+    false
+}
+
+// Whether a section may have no room for a train's move.
+pub fn may_be_full(table: &Table, ranges: &Ranges, train: u32, section: u32) -> bool
+    requires boxed { IsBox table.now ranges.now }
+    requires train { train < trains table.now }
+    requires unfinished { (range ranges.now train).hi < last table.now train }
+    requires section { section < length table.now.sections }
+    ensures { IsTrue result ↔ MayBeFull table.now ranges.now train section }
+{
+    let span = ranges.span(train);
+    let others = others_count(table, ranges, section, train);
+    let limit = limit_of(table, section) as i32;
+    for place in span.lo()..=span.hi() {
+        if change_at(table, train, section, place + 1) > 0
+            && limit < others + share_at(table, train, section, place + 1)
+        {
+            return true;
+        }
+    }
+    false
+}
+
+// Whether a connection may hold a train.
+pub fn may_be_held(table: &Table, ranges: &Ranges, train: u32, number: u32) -> bool
+    requires size { length ranges.now ≡ trains table.now }
+    requires train { train < trains table.now }
+    requires connection { number < length table.now.connections }
+    ensures { IsTrue result ↔ MayBeHeld table.now ranges.now train number }
+{
+    let connection = connection_of(table, number);
+    let span = ranges.span(train);
+    connection.train() == train
+        && span.lo() <= connection.place()
+        && connection.place() <= span.hi()
+        && ranges.span(connection.other()).lo() < connection.reached()
+}

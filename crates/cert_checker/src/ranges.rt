@@ -1,0 +1,115 @@
+// Boxes: a range of places for each train.
+ghost use Rattle.std.specs.Prelude.{◌≡◌, ◌+◌, ◌<◌, ◌≤◌, List, length, IfOk, slice_set};
+ghost use Rattle.rail_model.specs.Table.{IsTable, trains};
+ghost use Rattle.rail_model.specs.Certificate.{range, full_box as full_box_of, left_half, right_half};
+
+use rail_model::{Table, last_of, trains_of};
+use std::alloc::{AllocError, Global};
+use std::marker::Model;
+
+/// The places from `lo` to `hi`.
+#[derive(Clone, Copy)]
+pub struct Span {
+    lo: u32,
+    hi: u32,
+}
+
+impl Model for Span {
+    ghost use Rattle.rail_model.specs.Certificate.{Range};
+
+    ghost Value = { Range };
+
+    ghost view = { λ s. record { lo = s.lo; hi = s.hi } };
+
+    ghost inverse = { λ r. record { lo = r.lo; hi = r.hi } };
+}
+
+impl Span {
+    pub fn new(lo: u32, hi: u32) -> Self
+        ensures { result ≡ record { lo = lo; hi = hi } }
+    {
+        Span { lo, hi }
+    }
+
+    pub fn lo(self) -> u32
+        ensures { result ≡ self.lo }
+    {
+        self.lo
+    }
+
+    pub fn hi(self) -> u32
+        ensures { result ≡ self.hi }
+    {
+        self.hi
+    }
+}
+
+/// One span per train.
+#[derive(Drop)]
+pub struct Ranges {
+    items: Vec<Span>,
+}
+
+impl Model for Ranges {
+    ghost use Rattle.std.specs.Prelude.{List};
+    ghost use Rattle.rail_model.specs.Certificate.{Range};
+
+    ghost Value = { List Range };
+
+    ghost view = { λ r. r.items.items };
+}
+
+impl Ranges {
+    pub fn span(&self, train: u32) -> Span
+        requires { train < length self.now }
+        ensures { result ≡ range self.now train }
+    {
+        self.items[train as usize]
+    }
+
+    pub fn set(&mut self, train: u32, span: Span)
+        requires { train < length self.old }
+        ensures { self.new ≡ slice_set self.old train span }
+    {
+        self.items[train as usize] = span;
+    }
+
+    pub fn copy(&self, alloc: Global) -> Result<Ranges, AllocError>
+        ensures { IfOk result (λ copy. copy ≡ self.now) }
+    {
+        Ok(Ranges {
+            items: Vec::from_slice(alloc, &self.items)?,
+        })
+    }
+}
+
+/// All places of all trains.
+pub fn full_box(alloc: Global, table: &Table) -> Result<Ranges, AllocError>
+    ensures full { IfOk result (λ ranges. ranges ≡ full_box_of table.now) }
+    ensures formed { IsTable table.now }
+{
+    let mut items = Vec::new(alloc);
+    for train in 0..trains_of(table) {
+        items.push(Span::new(0, last_of(table, train)))?;
+    }
+    Ok(Ranges { items })
+}
+
+/// A box parted at a place of a train.
+pub fn halves(
+    alloc: Global,
+    ranges: Ranges,
+    train: u32,
+    place: u32,
+) -> Result<(Ranges, Ranges), AllocError>
+    requires train { train < length ranges }
+    requires place { place < (range ranges train).hi }
+    ensures { IfOk result (λ parts. (parts.0 ≡ left_half ranges train place) × (parts.1 ≡ right_half ranges train place)) }
+{
+    let span = ranges.span(train);
+    let mut right = ranges.copy(alloc)?;
+    let mut left = ranges;
+    left.set(train, Span::new(span.lo(), place));
+    right.set(train, Span::new(place + 1, span.hi()));
+    Ok((left, right))
+}

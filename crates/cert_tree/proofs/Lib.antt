@@ -1,0 +1,3 @@
+mod Rows
+pub mod Spell
+pub mod Verdicts

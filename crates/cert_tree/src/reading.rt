@@ -1,0 +1,77 @@
+// A list of nodes, read as the tree that it spells.
+ghost use Rattle.std.specs.Prelude.{◌≡◌, ◌<◌, ◌≤◌, IfOk, IfErr};
+ghost use Rattle.rail_model.specs.Certificate.{preorder as nodes_of};
+ghost use Rattle.cert_tree.specs.declared.reading.CertRefused.TheVariants.{Memory};
+ghost use Rattle.cert_tree.specs.Refused.{IsRefused};
+ghost use Rattle.cert_tree.specs.Spelling.{wanted_behind};
+
+use crate::{Cert, MOST_NODES};
+use rail_model::{Node, Nodes};
+use std::alloc::{AllocError, AllocFailed, Global};
+
+/// Why a list of nodes spells no certificate.
+#[derive(Clone, Copy, Debug, PartialEq, Eq)]
+pub enum CertRefused {
+    /// There is no memory for the list.
+    Memory,
+    /// There are so many nodes, more than `MOST_NODES`.
+    TooMany { count: u64 },
+    /// The list ends while so many trees are still wanted.
+    Short { missing: u64 },
+    /// The first so many nodes are a tree, and nodes are left.
+    Over { used: u64 },
+}
+
+impl From<AllocError> for CertRefused {
+    ghost from_gives = { λ _ e. e ≡ Memory };
+
+    fn from(_: AllocError) -> Self {
+        CertRefused::Memory
+    }
+}
+
+impl<T: Drop> From<AllocFailed<T>> for CertRefused {
+    ghost from_gives = { λ _ e. e ≡ Memory };
+
+    fn from(_: AllocFailed<T>) -> Self {
+        CertRefused::Memory
+    }
+}
+
+/// The certificate that the nodes spell, read without recursion.
+///
+/// Too many nodes are refused before all else. Want of memory may come for any list.
+pub fn tree(alloc: Global, nodes: &[Node]) -> Result<Cert, CertRefused>
+    ensures spells { IfOk result (λ cert. nodes_of cert ≡ nodes.now) }
+    ensures refused { IfErr result (IsRefused nodes.now) }
+{
+    if nodes.len() > MOST_NODES {
+        return Err(CertRefused::TooMany {
+            count: nodes.len() as u64,
+        });
+    }
+    let mut wanted: u64 = 1;
+    for (used, &node) in nodes.iter().enumerate() {
+        if wanted == 0 {
+            return Err(CertRefused::Over { used: used as u64 });
+        }
+        wanted = behind(node, wanted);
+    }
+    if wanted > 0 {
+        return Err(CertRefused::Short { missing: wanted });
+    }
+    let nodes: Nodes = Vec::from_slice(alloc, nodes)?.into();
+    Ok(Cert::spelled(nodes))
+}
+
+// How many trees are wanted behind a node.
+fn behind(node: Node, wanted: u64) -> u64
+    requires some { 0 < wanted }
+    requires small { wanted ≤ MOST_NODES }
+    ensures { result ≡ wanted_behind node wanted }
+{
+    match node {
+        Node::Split { .. } => wanted + 1,
+        _ => wanted - 1,
+    }
+}
