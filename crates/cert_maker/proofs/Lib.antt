@@ -1,0 +1,14 @@
+pub mod Accept
+pub mod Boxes
+pub mod Exists
+pub mod First
+pub mod Grown
+pub mod Loop
+pub mod Meaning
+pub mod Rows
+pub mod StuckFound
+pub mod Unique
+pub mod Chain
+pub mod LeafTests
+pub mod Spelled
+pub mod Boxed

@@ -1,0 +1,13 @@
+// What holds of the rule.
+ghost use Rattle.std.specs.Prelude.{◌≡◌, ℕ};
+ghost use Rattle.rail_model.specs.Table.{Table};
+ghost use Rattle.cert_maker.specs.declared.made.Made.{Made as Answer};
+ghost use Rattle.cert_maker.specs.Rule.{Makes};
+ghost use Rattle.cert_maker.specs.Claims.{RuleIsUnique};
+
+/// A table and a budget have just one answer, and a box has one tree of the rule.
+pub fn each_budget_has_one_answer()
+    ensures some { (T : Table) (budget : ℕ) → (m : Answer) × Makes T budget m }
+    ensures one { (T : Table) (budget : ℕ) (m n : Answer) → Makes T budget m → Makes T budget n → m ≡ n }
+    ensures tree { RuleIsUnique }
+{}

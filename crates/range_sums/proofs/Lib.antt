@@ -1,0 +1,9 @@
+pub mod Clash
+pub mod Counts
+pub mod Each
+pub mod From
+pub mod InWay
+pub mod Joins
+pub mod Summed
+pub mod Tight
+pub mod Growing

@@ -1,0 +1,5 @@
+pub mod Each
+pub mod Extremes
+pub mod Places
+pub mod Sums
+pub mod Ways

@@ -1,0 +1,86 @@
+-- What the trains' shares of a section sum to in a box, and where a train's step adds to a section.
+use Rattle.std.specs.Prelude.{◌≡◌, ◌<◌, ◌+◌, ℕ, zero, suc, nat_le, ℤ, pos, ◌≤ℤ◌, int_lt, Bool, ◌&&◌, if◌then◌else◌, List, [], ◌∷◌, ◌++◌, length}
+use Rattle.rail_model.specs.Sums.{total_below}
+use Rattle.rail_model.specs.Table.{Table, trains, last, limit, change, share}
+use Rattle.rail_model.specs.Certificate.{Range, range, IsBox, greatest_share, least_count, most_with}
+use Rattle.range_sums.specs.declared.sums.Sum.{Sum}
+use Rattle.range_sums.specs.declared.extremes.Extremes.{Extremes}
+use Rattle.range_sums.specs.declared.rises.Rise.{Rise}
+use Rattle.range_sums.specs.Each.{IsEach}
+use Rattle.range_sums.specs.Extremes.{TrainShares, IsShares}
+use Rattle.range_sums.specs.declared.ways.Spot.{Spot}
+use Rattle.range_sums.specs.Ways.{AreWays}
+
+abbrev pub no_sum : Sum
+no_sum = record { least = pos 0; greatest = pos 0 }
+
+-- the sum of the greatest shares
+abbrev pub greatest_count : Table → List Range → ℕ → ℤ
+greatest_count T B s = total_below (greatest_share T B s) (trains T)
+
+-- The sums of a section in a box.
+pub record IsSum (T : Table) (B : List Range) (s : ℕ) (sum : Sum) : Type 0 where
+  pub least_is : sum.least ≡ least_count T B s
+  pub greatest_is : sum.greatest ≡ greatest_count T B s
+
+-- No sum is below 0 or above four for each of 32 trains.
+pub record IsSmall (sum : Sum) : Type 0 where
+  pub least_low : pos 0 ≤ℤ sum.least
+  pub least_high : sum.least ≤ℤ pos 128
+  pub greatest_low : pos 0 ≤ℤ sum.greatest
+  pub greatest_high : sum.greatest ≤ℤ pos 128
+
+-- Shares are 0 to 4.
+pub record IsFew (e : Extremes) : Type 0 where
+  pub least_low : pos 0 ≤ℤ e.least
+  pub least_high : e.least ≤ℤ pos 4
+  pub greatest_low : pos 0 ≤ℤ e.greatest
+  pub greatest_high : e.greatest ≤ℤ pos 4
+
+-- A box with the sums of each section.
+pub record Summed : Type 0 where
+  pub ranges : List Range
+  pub sums : List Sum
+
+pub record AreSums (T : Table) (S : Summed) : Type 0 where
+  pub boxed : IsBox T S.ranges
+  pub each_sum : IsEach (IsSum T S.ranges) (length T.sections) no_sum S.sums
+
+-- the places below a from which a step of train i adds to section s, in order
+abbrev pub rises_in : Table → ℕ → ℕ → ℕ → List Rise
+rises_in T i s zero = []
+rises_in T i s (suc a) =
+    rises_in T i s a
+    ++ (if int_lt (pos 0) (change T i s (a + 1)) then record { section = s; place = a; share = share T i s (a + 1) } ∷ [] else [])
+
+-- those of the sections below n, section by section
+abbrev pub rises : Table → ℕ → ℕ → List Rise
+rises T i zero = []
+rises T i (suc s) = rises T i s ++ rises_in T i s (last T i)
+
+-- For each train its rises.
+abbrev pub AreRises : Table → List (List Rise) → Type 0
+AreRises T rows = IsEach (λ i row. row ≡ rises T i (length T.sections)) (trains T) [] rows
+
+-- A rise of train i, with the train's share behind it.
+pub record IsRise (T : Table) (i : ℕ) (r : Rise) : Type 0 where
+  pub section_in : r.section < length T.sections
+  pub place_in : r.place < last T i
+  pub share_is : r.share ≡ share T i r.section (r.place + 1)
+
+-- whether the section may have no room for train i's step from the place of the rise
+abbrev pub is_tight : Table → List Range → ℕ → Rise → Bool
+is_tight T B i r =
+    (nat_le (range B i).lo r.place && nat_le r.place (range B i).hi)
+    && int_lt (pos (limit T r.section)) (most_with T B r.section i (r.place + 1))
+
+-- What is listed once of a table.
+pub record Lists : Type 0 where
+  pub ways : List (List (List Spot))
+  pub shares : List TrainShares
+  pub rises : List (List Rise)
+
+pub record AreLists (T : Table) (L : Lists) : Type 0 where
+  pub are_ways : AreWays T L.ways
+  pub are_shares : IsShares T L.shares
+  pub are_rises : AreRises T L.rises

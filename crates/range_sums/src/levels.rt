@@ -1,0 +1,236 @@
+// The shares of each train, as rows from which the row of any span is joined.
+ghost use Rattle.std.specs.Prelude.{◌≡◌, ℕ, ◌+◌, ◌-◌, ◌*◌, ◌<◌, ◌≤◌, [], length, IfOk, slice_index, slice_index_or};
+ghost use Rattle.rail_model.specs.Table.{IsTable, trains, last, share};
+ghost use Rattle.range_sums.specs.Extremes.{IsExtremes, IsRow, IsLevel, IsLevels, IsPick, IsTrainShares, IsShares, level_at, no_shares, reach};
+
+use crate::extremes::{Extremes, Row, first_row, joined_row, next_row};
+use crate::ranges::Span;
+use rail_model::{Table, last_of, trains_of};
+use std::alloc::{AllocError, Global};
+use std::marker::Model;
+
+/// The rows of all spans of so many places of one train, by the first place.
+#[derive(Drop)]
+pub struct Level {
+    width: u32,
+    rows: Vec<Row>,
+}
+
+impl Model for Level {
+    ghost use Rattle.range_sums.specs.Extremes.{Level as LevelValue};
+
+    ghost Value = { LevelValue };
+
+    ghost view = { λ l. record { width = l.width; rows = l.rows.items } };
+}
+
+impl Level {
+    fn width(&self) -> u32
+        ensures { result ≡ self.now.width }
+    {
+        self.width
+    }
+
+    fn row(&self, place: u32) -> &Row
+        requires { place < length self.now.rows }
+        ensures { result.now ≡ slice_index_or self.now.rows place [] }
+    {
+        &self.rows[place as usize]
+    }
+}
+
+// The rows of single places.
+fn first_level(alloc: Global, table: &Table, train: u32) -> Result<Level, AllocError>
+    requires { train < trains table.now }
+    ensures level { IfOk result (IsLevel table.now train) }
+    ensures width { IfOk result (λ level. level.width ≡ 1) }
+{
+    let mut rows = Vec::new(alloc);
+    rows.push(first_row(alloc, table, train)?)?;
+    for place in 0..last_of(table, train) {
+        let row = next_row(alloc, table, train, place, &rows[place as usize])?;
+        rows.push(row)?;
+    }
+    Ok(Level { width: 1, rows })
+}
+
+// The rows of spans of twice as many places.
+fn next_level(alloc: Global, table: &Table, train: u32, level: &Level) -> Result<Level, AllocError>
+    requires train { train < trains table.now }
+    requires level { IsLevel table.now train level.now }
+    requires fits { 2 * level.now.width ≤ last table.now train + 1 }
+    ensures level { IfOk result (IsLevel table.now train) }
+    ensures width { IfOk result (λ next. next.width ≡ 2 * level.now.width) }
+{
+    let last = last_of(table, train);
+    let width = level.width();
+    let mut rows = Vec::new(alloc);
+    for place in 0..last + 2 - 2 * width {
+        let first = level.row(place);
+        let second = level.row(place + width);
+        rows.push(joined_row(alloc, first, second)?)?;
+    }
+    Ok(Level {
+        width: 2 * width,
+        rows,
+    })
+}
+
+// The last level.
+fn widest(levels: &[Level]) -> &Level
+    requires { 0 < length levels.now }
+    ensures { result.now ≡ level_at levels.now (length levels.now - 1) }
+{
+    &levels[levels.len() - 1]
+}
+
+// All levels of a train, each twice as wide as the one before.
+fn train_levels(alloc: Global, table: &Table, train: u32) -> Result<Vec<Level>, AllocError>
+    requires { train < trains table.now }
+    ensures { IfOk result (λ levels. IsLevels table.now train levels.items) }
+{
+    let places = last_of(table, train) + 1;
+    let mut levels = Vec::new(alloc);
+    levels.push(first_level(alloc, table, train)?)?;
+    'widen: while 2 * widest(&levels).width() <= places {
+        let last = widest(&levels);
+        let level = next_level(alloc, table, train, last)?;
+        levels.push(level)?;
+    }
+    Ok(levels)
+}
+
+// The level from which the rows of spans of `more` + 1 places are joined.
+fn pick(table: &Table, train: u32, levels: &[Level], more: u32) -> u8
+    requires levels { IsLevels table.now train levels.now }
+    requires more { more ≤ last table.now train }
+    requires few { last table.now train ≤ 127 }
+    ensures { IsPick levels.now more result }
+{
+    for level in 0..levels.len() {
+        if more < 2 * levels[level].width() {
+            return level as u8;
+        }
+    }
+    unreachable!()
+}
+
+/// The rows of one train: all levels, and for each number of places more than one the level to take.
+#[derive(Drop)]
+pub struct TrainShares {
+    levels: Vec<Level>,
+    picks: Vec<u8>,
+}
+
+impl Model for TrainShares {
+    ghost use Rattle.range_sums.specs.Extremes.{TrainShares as SharesValue};
+
+    ghost Value = { SharesValue };
+
+    ghost view = { λ s. record { levels = s.levels.items; picks = s.picks.items } };
+}
+
+impl TrainShares {
+    /// The rows of a train.
+    fn new(alloc: Global, table: &Table, train: u32) -> Result<TrainShares, AllocError>
+        requires { train < trains table.now }
+        ensures { IfOk result (IsTrainShares table.now train) }
+    {
+        let last = last_of(table, train);
+        let levels = train_levels(alloc, table, train)?;
+        let mut picks = Vec::new(alloc);
+        for more in 0..last + 1 {
+            picks.push(pick(table, train, &levels, more))?;
+        }
+        Ok(TrainShares { levels, picks })
+    }
+
+    // The level for a span.
+    fn level(&self, span: Span) -> &Level
+        requires some { span.lo ≤ span.hi }
+        requires within { span.hi - span.lo < length self.now.picks }
+        requires there { slice_index self.now.picks (span.hi - span.lo) < length self.now.levels }
+        ensures { result.now ≡ level_at self.now.levels (slice_index self.now.picks (span.hi - span.lo)) }
+    {
+        &self.levels[self.picks[(span.hi() - span.lo()) as usize] as usize]
+    }
+
+    /// The extremes of a section in a span.
+    pub fn extremes(&self, table: &Table, train: u32, span: Span, section: u32) -> Extremes
+        requires shares { IsTrainShares table.now train self.now }
+        requires some { span.lo ≤ span.hi }
+        requires in_range { span.hi ≤ last table.now train }
+        requires section { section < length table.now.sections }
+        ensures { IsExtremes (share table.now train section) span.lo (span.hi - span.lo) result }
+    {
+        let front = self.front(table, train, span);
+        let back = self.back(table, train, span);
+        front.cell(section).joined(back.cell(section))
+    }
+
+    /// The row of a place.
+    pub fn at(&self, table: &Table, train: u32, place: u32) -> &Row
+        requires shares { IsTrainShares table.now train self.now }
+        requires place { place ≤ last table.now train }
+        ensures { IsRow table.now train place 0 result.now }
+    {
+        self.levels[0].row(place)
+    }
+
+    /// The row of the first places of a span.
+    pub fn front(&self, table: &Table, train: u32, span: Span) -> &Row
+        requires shares { IsTrainShares table.now train self.now }
+        requires some { span.lo ≤ span.hi }
+        requires in_range { span.hi ≤ last table.now train }
+        ensures { IsRow table.now train span.lo (reach self.now (span.hi - span.lo)) result.now }
+    {
+        self.level(span).row(span.lo())
+    }
+
+    /// The row of the last places of a span, as many as in front.
+    pub fn back(&self, table: &Table, train: u32, span: Span) -> &Row
+        requires shares { IsTrainShares table.now train self.now }
+        requires some { span.lo ≤ span.hi }
+        requires in_range { span.hi ≤ last table.now train }
+        ensures { IsRow table.now train (span.hi - reach self.now (span.hi - span.lo)) (reach self.now (span.hi - span.lo)) result.now }
+    {
+        let level = self.level(span);
+        level.row(span.hi() - (level.width() - 1))
+    }
+}
+
+/// The rows of all trains.
+#[derive(Drop)]
+pub struct Shares {
+    trains: Vec<TrainShares>,
+}
+
+impl Model for Shares {
+    ghost use Rattle.std.specs.Prelude.{List};
+    ghost use Rattle.range_sums.specs.Extremes.{TrainShares as SharesValue};
+
+    ghost Value = { List SharesValue };
+
+    ghost view = { λ s. s.trains.items };
+}
+
+impl Shares {
+    /// The rows of all trains of a table.
+    pub fn new(alloc: Global, table: &Table) -> Result<Shares, AllocError>
+        ensures { IfOk result (IsShares table.now) }
+    {
+        let mut trains = Vec::new(alloc);
+        for train in 0..trains_of(table) {
+            trains.push(TrainShares::new(alloc, table, train)?)?;
+        }
+        Ok(Shares { trains })
+    }
+
+    /// The rows of one train.
+    pub fn train(&self, train: u32) -> &TrainShares
+        requires { train < length self.now }
+        ensures { result.now ≡ slice_index_or self.now train no_shares }
+    {
+        &self.trains[train as usize]
+    }
+}

@@ -1,0 +1,24 @@
+//! Ranges of places, one a train: where trains may meet in them, and the least and greatest that they fill of a section.
+#![tactic(auto)]
+
+mod extremes;
+mod firsts;
+mod levels;
+mod lists;
+mod places;
+mod ranges;
+mod rises;
+mod shares;
+mod sums;
+mod ways;
+
+pub use extremes::{Extremes, Row};
+pub use firsts::{first_away, first_holder, is_at_end};
+pub use levels::{Shares, TrainShares};
+pub use lists::Lists;
+pub use places::{may_be_held, stays_at};
+pub use ranges::{Ranges, Span, full_box};
+pub use rises::{Rise, Rises, TrainRises, first_without_room, rises_of};
+pub use shares::{greatest_share, least_share};
+pub use sums::{RangeSums, Sum, halves_of, is_overfull};
+pub use ways::{Spot, Spots, TrainWays, Ways, first_in_way, is_blocked, ways_of};

@@ -1,0 +1,59 @@
+// What is listed once of a table.
+ghost use Rattle.std.specs.Prelude.{◌≡◌, IfOk};
+
+use crate::{Rises, Shares, Ways, rises_of, ways_of};
+use rail_model::Table;
+use std::alloc::{AllocError, Global};
+use std::marker::Model;
+
+/// The ways, the shares and the rises of a table.
+#[derive(Drop)]
+pub struct Lists {
+    ways: Ways,
+    shares: Shares,
+    rises: Rises,
+}
+
+impl Model for Lists {
+    ghost use Rattle.range_sums.specs.Sums.{Lists as ListsValue};
+
+    ghost Value = { ListsValue };
+
+    ghost view = { λ l. record { ways = l.ways; shares = l.shares; rises = l.rises } };
+}
+
+impl Lists {
+    ghost use Rattle.range_sums.specs.Sums.{AreLists};
+
+    /// Lists the table.
+    pub fn new(alloc: Global, table: &Table) -> Result<Lists, AllocError>
+        ensures { IfOk result (AreLists table.now) }
+    {
+        let ways = ways_of(alloc, table)?;
+        let shares = Shares::new(alloc, table)?;
+        let rises = rises_of(alloc, table)?;
+        Ok(Lists {
+            ways,
+            shares,
+            rises,
+        })
+    }
+
+    pub fn ways(&self) -> &Ways
+        ensures { result.now ≡ self.now.ways }
+    {
+        &self.ways
+    }
+
+    pub fn shares(&self) -> &Shares
+        ensures { result.now ≡ self.now.shares }
+    {
+        &self.shares
+    }
+
+    pub fn rises(&self) -> &Rises
+        ensures { result.now ≡ self.now.rises }
+    {
+        &self.rises
+    }
+}
