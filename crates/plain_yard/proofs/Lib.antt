@@ -1,0 +1,5 @@
+pub mod Keeping
+pub mod Moving
+pub mod Reaching
+pub mod Rows
+pub mod Turns

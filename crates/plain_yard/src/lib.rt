@@ -1,0 +1,15 @@
+//! Runs the yard on one thread, and finishes any run train after train, without memory, until all have arrived.
+#![tactic(auto)]
+
+mod checked;
+mod laws;
+mod lines;
+mod plain;
+mod rounds;
+
+pub use checked::CheckedTable;
+pub use laws::{begun_keeps, finished_is_whole, replayed_keeps, run_is_whole};
+pub use plain::{PlainYard, begin};
+
+#[cfg(test)]
+mod tests;
