@@ -1,0 +1,5 @@
+pub mod Enrolled
+pub mod Fleet
+pub mod Linked
+pub mod Rows
+pub mod Steps

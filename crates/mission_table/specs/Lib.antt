@@ -1,0 +1,4 @@
+pub mod Doubling
+pub mod Roster
+pub mod Seen
+pub mod Ways

@@ -1,0 +1,16 @@
+//! Each train gets a way of linked points through the layout, or the first thing wrong with the trains and their ways is named.
+#![tactic(auto)]
+
+mod making;
+mod naming;
+mod refused;
+mod register;
+mod roster;
+#[cfg(test)]
+mod tests;
+
+pub use making::missions;
+pub use naming::names;
+pub use refused::{MissionRefused, TrainRefused};
+pub use register::trains;
+pub use roster::Trains;

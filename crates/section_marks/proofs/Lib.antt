@@ -1,0 +1,5 @@
+pub mod Made
+pub mod Rows
+pub mod Sequence
+pub mod Ties
+pub mod TrainShares

@@ -1,0 +1,20 @@
+use Rattle.std.proofs.Common.{◌∙◌, Ok, sym, ap, refl}
+use Rattle.section_marks.specs.Connecting.{connections_refusal}
+use Rattle.section_marks.proofs.Ties.{connected_err, connected_ok, few_connections, are_connections}
+use Rattle.section_marks.proofs.connecting.connections.Goals as goal
+
+pub with_connections-requires-clause-few : goal.with_connections-requires-clause-few
+with_connections-requires-clause-few c =
+    few_connections c.args.table c.args.list.items (sym (c.in-Ok.ensures ∙ ap (connections_refusal c.args.table) c.deref.ensures.value))
+
+pub with_connections-requires-clause-formed : goal.with_connections-requires-clause-formed
+with_connections-requires-clause-formed c =
+    are_connections c.args.table c.args.list.items (sym (c.in-Ok.ensures ∙ ap (connections_refusal c.args.table) c.deref.ensures.value))
+
+pub returns-in-Ok : goal.returns-in-Ok
+returns-in-Ok c =
+    connected_ok c.args.table c.args.list.items (c.in-Ok.ensures ∙ ap (connections_refusal c.args.table) c.deref.ensures.value) ∙ ap Ok (sym c.with_connections.ensures)
+
+pub returns-in-Err : goal.returns-in-Err
+returns-in-Err c =
+    (refl, connected_err c.args.table c.args.list.items c.in-Err.refused (c.in-Err.ensures ∙ ap (connections_refusal c.args.table) c.deref.ensures.value))

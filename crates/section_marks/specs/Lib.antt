@@ -1,0 +1,3 @@
+pub mod Connecting
+pub mod Marking
+pub mod Seen

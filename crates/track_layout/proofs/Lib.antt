@@ -1,0 +1,6 @@
+pub mod Called
+pub mod Doubles
+pub mod Formed
+pub mod Known
+pub mod Order
+pub mod Rows

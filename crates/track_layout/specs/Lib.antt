@@ -1,0 +1,4 @@
+pub mod Doubling
+pub mod Making
+pub mod Numbering
+pub mod Seen
