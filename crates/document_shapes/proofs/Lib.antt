@@ -1,0 +1,9 @@
+pub mod ListLemmas
+pub mod Agreement
+pub mod PartLemmas
+pub mod ReadingLemmas
+pub mod MemberLemmas
+pub mod TurnLemmas
+pub mod ObjectLemmas
+pub mod EachLemmas
+pub mod Versions

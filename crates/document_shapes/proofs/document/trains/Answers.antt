@@ -1,0 +1,10 @@
+use Rattle.std.proofs.Common.{None}
+use Rattle.serde_json.specs.View.{view}
+use Rattle.document_shapes.specs.declared.member.Member.TheVariants as member
+use Rattle.document_shapes.proofs.Agreement.{agrees-list, agrees-text}
+use Rattle.document_shapes.proofs.MemberLemmas.{need-answers}
+use Rattle.document_shapes.proofs.document.trains.Goals as goal
+
+pub returns : goal.returns
+returns c =
+    need-answers (agrees-list agrees-text) None member.Trains (view c.args.value.now) c.needed.result c.needed.ensures.ok c.needed.ensures.err

@@ -1,0 +1,14 @@
+use Rattle.std.proofs.Common.{codes}
+use Rattle.std.proofs.lemmas.Result.{IfOk-weaker}
+use Rattle.serde_json.specs.View.{view}
+use Rattle.document_shapes.proofs.Agreement.{agrees-at, agrees-list, agrees-items, agrees-change}
+use Rattle.document_shapes.proofs.parts.changes_of.Goals as goal
+
+pub returns : goal.returns
+returns c =
+    let agrees = agrees-at (agrees-list (agrees-items agrees-change)) (codes "changes") in
+    let section = view c.args.section.now in
+    record {
+      ok = IfOk-weaker c.member.result _ _ (λ v h. agrees.reads section v h) c.member.ensures.ok;
+      err = λ e. agrees.misfits section (c.member.ensures.err e);
+    }

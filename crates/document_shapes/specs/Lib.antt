@@ -1,0 +1,11 @@
+pub mod Readings
+pub mod Reading
+pub mod Shape
+pub mod Parts
+pub mod Each
+pub mod Members
+pub mod Raw
+pub mod Values
+pub mod SeenSection
+pub mod Seen
+pub mod Written

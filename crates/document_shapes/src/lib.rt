@@ -1,0 +1,18 @@
+//! The JSON of documents: its members are read, each in its shape, or the first that has another shape is named; and members are written.
+#![tactic(auto)]
+
+mod document;
+mod from_value;
+mod member;
+mod members;
+mod parts;
+mod refused;
+mod table;
+mod to_value;
+
+pub use document::{DocMembers, read_document};
+pub use member::Member;
+pub use parts::SectionMembers;
+pub use refused::ShapeRefused;
+pub use table::TableMembers;
+pub use to_value::{ToValue, list_value};

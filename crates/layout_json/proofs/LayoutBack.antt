@@ -1,0 +1,66 @@
+-- A layout gives back the lists that it was made of.
+use Rattle.std.proofs.Common.{◌≡◌, ◌∙◌, ℕ, zero, suc, ◌<◌, List, [], ◌∷◌, length, map, get_or, slice_get, Some, None, true, Ok, bytes_eq, refl, sym, ap, ap₂, arith}
+use Rattle.std.specs.Cmp.Lexicographic.{bytes_decides}
+use Rattle.std.proofs.lemmas.List.Sums.{passes_at_first}
+use Rattle.rail_model.specs.Layout.{Layout, Link, point_names}
+use Rattle.rail_model.specs.Names.{Names, point_name}
+use Rattle.rail_model.proofs.Firsts.{option_or-none, unless-ok}
+use Rattle.rail_model.proofs.Places.{found_within}
+use Rattle.track_layout.specs.Making.{names_of, zones_of, number_in, is_known, too_many, no_zone, bad_name, double_name, zone_range, zone_empty, unknown_point, link_value, layout_value, layout_refusal, layout_from}
+use Rattle.track_layout.specs.declared.refused.What.TheVariants.{Points, Links, Zones}
+use Rattle.track_layout.proofs.Formed.{known_at, names_made}
+
+-- a known name stands at its number
+pub name-at_number : (names : List (List ℕ)) (name : List ℕ) → is_known names name ≡ true → get_or names (number_in names name) [] ≡ name
+name-at_number names name known = sym ((bytes_decides name _).0 (passes_at_first (bytes_eq name) names [] (found_within (bytes_eq name) names known)))
+
+-- the ends of links by name
+abbrev ends : List (List ℕ) → List Link → List (List ℕ × List ℕ)
+ends names links = map (λ l. (get_or names l.first [], get_or names l.second [])) links
+
+ends-link_value : (names : List (List ℕ)) (links : List (List ℕ × List ℕ))
+    → ((k : ℕ) (l : List ℕ × List ℕ) → slice_get links k ≡ Some l → (is_known names l.0 ≡ true) × (is_known names l.1 ≡ true))
+    → ends names (map (link_value names) links) ≡ links
+ends-link_value names [] known = refl
+ends-link_value names (l ∷ ls) known =
+    let here = known 0 l refl in
+    ap₂ (λ (m : List ℕ × List ℕ) (ms : List (List ℕ × List ℕ)). m ∷ ms)
+    (λ i. (name-at_number names l.0 here.0 i, name-at_number names l.1 here.1 i))
+    (ends-link_value names ls (λ k m at. known (suc k) m at))
+
+pairs_made : (points : List (List ℕ × ℕ)) (links : List (List ℕ × List ℕ)) (zones : ℕ) → map (λ q. (q.name, q.zone)) (layout_value points links zones).points ≡ points
+pairs_made [] links zones = refl
+pairs_made (p ∷ ps) links zones = ap (λ rest. p ∷ rest) (pairs_made ps links zones)
+
+-- The lists that a layout was made of.
+pub record IsMadeOf (L : Layout) (points : List (List ℕ × ℕ)) (links : List (List ℕ × List ℕ)) (zones : ℕ) : Type 0 where
+  pub points_are : map (λ q. (q.name, q.zone)) L.points ≡ points
+  pub links_are : ends (point_names L) L.links ≡ links
+  pub zones_are : L.zones ≡ zones
+
+made_of_value : (points : List (List ℕ × ℕ)) (links : List (List ℕ × List ℕ)) (zones : ℕ) → layout_refusal points links zones ≡ None
+    → IsMadeOf (layout_value points links zones) points links zones
+made_of_value points links zones h =
+    let names = names_of points in
+    let a = option_or-none (too_many Points 512 (length points)) _ h in
+    let b = option_or-none (too_many Links 2048 (length links)) _ a.1 in
+    let c = option_or-none (too_many Zones 16 zones) _ b.1 in
+    let d = option_or-none (no_zone zones) _ c.1 in
+    let e = option_or-none (bad_name names) _ d.1 in
+    let f = option_or-none (double_name names) _ e.1 in
+    let g = option_or-none (zone_range (zones_of points) zones) _ f.1 in
+    let i = option_or-none (zone_empty (zones_of points) zones) _ g.1 in
+    let j = option_or-none (unknown_point names links) _ i.1 in
+    record {
+      points_are = pairs_made points links zones;
+      links_are = ap (λ ns. ends ns (map (link_value names) links)) (names_made points links zones)
+          ∙ ends-link_value names links (λ k l at. known_at names links k l j.0 at);
+      zones_are = refl;
+    }
+
+pub layout-made_of : (points : List (List ℕ × ℕ)) (links : List (List ℕ × List ℕ)) (zones : ℕ) (L : Layout) → layout_from points links zones ≡ Ok L
+    → IsMadeOf L points links zones
+unfolding layout_from
+layout-made_of points links zones L h =
+    let made = unless-ok (layout_refusal points links zones) (layout_value points links zones) L h in
+    rw (← made.1) (made_of_value points links zones made.0)

@@ -1,0 +1,12 @@
+mod Rows
+pub mod Timed
+pub mod Refusals
+pub mod TimesLemmas
+pub mod StartLemmas
+pub mod TableLemmas
+pub mod LayoutBack
+pub mod WaysBack
+pub mod TableBack
+pub mod DocBack
+pub mod DocMade
+mod Listed

@@ -1,0 +1,46 @@
+-- Worked rows: documents read, and refused, as the definition computes it.
+use Rattle.std.proofs.Common.{◌≡◌, [], ◌∷◌, Ok, Err, Some, None, negsuc, pos, refl}
+use Rattle.std.specs.Prelude.{codes}
+use Rattle.std.specs.Str.{is_utf8, chars}
+use Rattle.serde_json.proofs.OnLiterals.{serde_json_on_literals}
+use Rattle.rail_model.specs.declared.types.Node.TheVariants.{Split, Arrived, Move}
+use Rattle.track_layout.specs.Making.{layout_from}
+use Rattle.track_layout.specs.declared.refused.LayoutRefused.TheVariants as layout
+use Rattle.track_layout.specs.declared.refused.What.TheVariants.{Points}
+use Rattle.mission_table.specs.Roster.{trains_from}
+use Rattle.mission_table.specs.Ways.{missions_from}
+use Rattle.mission_table.specs.declared.refused.MissionRefused.TheVariants as mission
+use Rattle.mission_table.specs.declared.refused.TrainRefused.TheVariants as train
+use Rattle.section_marks.specs.Marking.{table_from}
+use Rattle.section_marks.specs.Connecting.{connected}
+use Rattle.section_marks.specs.declared.refused.MarkRefused.TheVariants as mark
+use Rattle.legal_state.specs.declared.judges.Illegal.TheVariants as illegal
+use Rattle.document_shapes.specs.Reading.{reading}
+use Rattle.document_shapes.specs.declared.member.Member.TheVariants as member
+use Rattle.document_shapes.specs.declared.refused.ShapeRefused.TheVariants as shape
+use Rattle.layout_json.specs.declared.refused.DocRefused.TheVariants as refused
+use Rattle.layout_json.specs.Doc.{Doc}
+use Rattle.layout_json.specs.Reading.{doc_of}
+
+-- the first path: one train over A, B, C
+abbrev first_path : Doc
+first_path = record {
+  version = 1;
+  layout = record {
+    points = record { name = codes "A"; zone = 0 } ∷ record { name = codes "B"; zone = 0 } ∷ record { name = codes "C"; zone = 0 } ∷ [];
+    links = record { first = 0; second = 1 } ∷ record { first = 1; second = 2 } ∷ [];
+    zones = 1;
+  };
+  trains = codes "T0" ∷ [];
+  tables = record {
+    table = record { missions = record { points = 0 ∷ 1 ∷ 2 ∷ []; exits = Rattle.std.specs.Prelude.false } ∷ []; sections = []; connections = [] };
+    after = 0;
+    times = (1 ∷ 1 ∷ []) ∷ [];
+    nodes = Split 0 1 ∷ Move 0 ∷ Arrived ∷ [];
+  } ∷ [];
+  start = 0 ∷ [];
+}
+
+first_path_read : doc_of (codes "{\"version\":1,\"points\":[[\"A\",0],[\"B\",0],[\"C\",0]],\"links\":[[\"A\",\"B\"],[\"B\",\"C\"]],\"zones\":1,\"trains\":[\"T0\"],\"start\":[0],\"tables\":[{\"missions\":[[\"A\",\"B\",\"C\"]],\"certificate\":[[0,0,1],[4,0],[3]]}]}") ≡ Ok first_path
+unfolding serde_json_on_literals reading is_utf8 chars doc_of layout_from trains_from missions_from table_from connected
+first_path_read = refl

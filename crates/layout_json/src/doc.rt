@@ -1,0 +1,186 @@
+// A document: its parts, and how they are read.
+ghost use Rattle.std.specs.Prelude.{◌≡◌, ◌<◌, length};
+ghost use Rattle.layout_json.specs.Doc.{IsDoc, names_of, times_of, doc_table, table_at, nodes_at};
+ghost use Rattle.layout_json.specs.Keeps.{Keeps, doc_of_parts};
+
+use rail_model::{Layout, Names, Node, State, Table, Times};
+use std::marker::Model;
+
+// A table without its travel times.
+#[derive(Drop)]
+pub struct Untimed {
+    table: Table,
+    after: u32,
+    nodes: Vec<Node>,
+}
+
+impl Model for Untimed {
+    ghost use Rattle.layout_json.specs.Keeps.{Untimed as UntimedValue};
+
+    ghost Value = { UntimedValue };
+
+    ghost view = { λ t. record { table = t.table; after = t.after; nodes = t.nodes.items } };
+}
+
+impl Untimed {
+    pub fn new(table: Table, after: u32, nodes: Vec<Node>) -> Self
+        ensures { result ≡ record { table = table; after = after; nodes = nodes.items } }
+    {
+        Untimed {
+            table,
+            after,
+            nodes,
+        }
+    }
+
+    pub fn table(&self) -> &Table
+        ensures { result.now ≡ self.now.table }
+    {
+        &self.table
+    }
+
+    pub fn after(&self) -> u32
+        ensures { result ≡ self.now.after }
+    {
+        self.after
+    }
+
+    pub fn nodes(&self) -> &[Node]
+        ensures { result.now ≡ self.now.nodes }
+    {
+        &self.nodes
+    }
+}
+
+/// A layout, trains, tables with their travel times and certificates, and a legal start, all of which fit together.
+#[derive(Drop)]
+pub struct Doc {
+    version: u32,
+    layout: Layout,
+    names: Names,
+    tables: Vec<Untimed>,
+    times: Times,
+    start: State,
+}
+
+impl Model for Doc {
+    ghost use Rattle.layout_json.specs.Doc.{Doc as DocValue};
+    ghost use Rattle.layout_json.specs.Keeps.{Keeps, doc_of_parts};
+
+    ghost Value = { DocValue };
+
+    ghost view = { λ d. doc_of_parts d.version d.layout d.names d.tables.items d.times d.start };
+
+    ghost invariant = { λ d. Keeps d.version d.layout d.names d.tables.items d.times d.start };
+}
+
+impl Doc {
+    ghost use Rattle.layout_json.specs.Keeps.{Keeps, doc_of_parts};
+
+    /// The document of these parts.
+    pub(crate) fn new(
+        version: u32,
+        layout: Layout,
+        names: Names,
+        tables: Vec<Untimed>,
+        times: Times,
+        start: State,
+    ) -> Self
+        requires { Keeps version layout names tables.items times start }
+        ensures { result ≡ doc_of_parts version layout names tables.items times start }
+    {
+        Doc {
+            version,
+            layout,
+            names,
+            tables,
+            times,
+            start,
+        }
+    }
+}
+
+/// The version: 1, 2 or 3.
+pub fn version(doc: &Doc) -> u32
+    ensures version { result ≡ doc.now.version }
+    ensures formed { IsDoc doc.now }
+{
+    doc.version
+}
+
+pub fn layout_of(doc: &Doc) -> &Layout
+    ensures layout { result.now ≡ doc.now.layout }
+    ensures formed { IsDoc doc.now }
+{
+    &doc.layout
+}
+
+/// What the points and the trains are called.
+pub fn names_of(doc: &Doc) -> &Names
+    ensures names { result.now ≡ names_of doc.now }
+    ensures formed { IsDoc doc.now }
+{
+    &doc.names
+}
+
+/// The number of tables.
+pub fn tables_of(doc: &Doc) -> u32
+    ensures count { result ≡ length doc.now.tables }
+    ensures formed { IsDoc doc.now }
+{
+    doc.tables.len() as u32
+}
+
+/// The position of each train at the start.
+pub fn start_of(doc: &Doc) -> &State
+    ensures start { result.now ≡ doc.now.start }
+    ensures formed { IsDoc doc.now }
+{
+    &doc.start
+}
+
+/// The travel times under each table.
+pub fn times_of(doc: &Doc) -> &Times
+    ensures times { result.now ≡ times_of doc.now }
+    ensures formed { IsDoc doc.now }
+{
+    &doc.times
+}
+
+// A table without its times.
+fn untimed_of(doc: &Doc, table: u32) -> &Untimed
+    requires { table < length doc.now.tables }
+    ensures table { result.now.table ≡ table_at doc.now table }
+    ensures after { result.now.after ≡ (doc_table doc.now table).after }
+    ensures nodes { result.now.nodes ≡ nodes_at doc.now table }
+    ensures formed { IsDoc doc.now }
+{
+    &doc.tables[table as usize]
+}
+
+/// A table.
+pub fn table_of(doc: &Doc, table: u32) -> &Table
+    requires { table < length doc.now.tables }
+    ensures table { result.now ≡ table_at doc.now table }
+    ensures formed { IsDoc doc.now }
+{
+    untimed_of(doc, table).table()
+}
+
+/// The moves after which a table is due.
+pub fn after_of(doc: &Doc, table: u32) -> u32
+    requires { table < length doc.now.tables }
+    ensures after { result ≡ (doc_table doc.now table).after }
+    ensures formed { IsDoc doc.now }
+{
+    untimed_of(doc, table).after()
+}
+
+/// The nodes of a table's certificate, as they stand in the document.
+pub fn nodes_of(doc: &Doc, table: u32) -> &[Node]
+    requires { table < length doc.now.tables }
+    ensures nodes { result.now ≡ nodes_at doc.now table }
+    ensures formed { IsDoc doc.now }
+{
+    untimed_of(doc, table).nodes()
+}
