@@ -1,0 +1,51 @@
+// The words on a journal.
+ghost use Rattle.std.specs.Prelude.{◌≡◌, ◌++◌, OnOk, string_bytes};
+ghost use Rattle.refusal_lines.specs.Journals.{text_words, ask_words, line_words};
+
+use move_journal::{BadLine, BadText};
+use rail_model::Ask;
+use std::alloc::AllocError;
+
+/// Adds what is wrong with the text of a journal.
+pub fn push_text(out: &mut String, fault: &BadText) -> Result<(), AllocError>
+    ensures { OnOk result (string_bytes out.new ≡ string_bytes out.old ++ text_words fault.now) }
+{
+    match *fault {
+        BadText::Line { line } => write!(out, "71 Line line={line}"),
+        BadText::Number { line } => write!(out, "72 Number line={line}"),
+        BadText::NoEnd => write!(out, "73 NoEnd"),
+        BadText::After => write!(out, "74 After"),
+        BadText::Memory => write!(out, "202 Memory"),
+    }
+}
+
+/// Adds the first line of a journal that isn't right, or what it lacks at its end.
+pub fn push_line(out: &mut String, fault: &BadLine) -> Result<(), AllocError>
+    ensures { OnOk result (string_bytes out.new ≡ string_bytes out.old ++ line_words fault.now) }
+{
+    match *fault {
+        BadLine::Move { line, ask } => {
+            write!(out, "75 Move line={line} ")?;
+            push_ask(out, ask)
+        }
+        BadLine::Table { line } => write!(out, "76 Table line={line}"),
+        BadLine::Unfinished { train } => write!(out, "77 Unfinished train={train}"),
+        BadLine::Counts => write!(out, "78 Counts"),
+        BadLine::Place { line } => write!(out, "79 Place line={line}"),
+        BadLine::Open { table } => write!(out, "80 Open table={table}"),
+        BadLine::Memory => write!(out, "202 Memory"),
+    }
+}
+
+// Adds what a train would be told.
+fn push_ask(out: &mut String, ask: Ask) -> Result<(), AllocError>
+    ensures { OnOk result (string_bytes out.new ≡ string_bytes out.old ++ ask_words ask) }
+{
+    match ask {
+        Ask::Yes => write!(out, "Yes"),
+        Ask::Arrived => write!(out, "Arrived"),
+        Ask::Occupied { by } => write!(out, "Occupied by={by}"),
+        Ask::Full { section, count } => write!(out, "Full section={section} count={count}"),
+        Ask::Waits { connection } => write!(out, "Waits connection={connection}"),
+    }
+}

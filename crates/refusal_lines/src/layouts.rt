@@ -1,0 +1,54 @@
+// The words on layouts and trains.
+ghost use Rattle.std.specs.Prelude.{◌≡◌, ◌++◌, OnOk, string_bytes};
+ghost use Rattle.refusal_lines.specs.Layouts.{what_word, layout_words, trains_words};
+
+use mission_table::TrainRefused;
+use std::alloc::AllocError;
+use track_layout::{LayoutRefused, What};
+
+// What there may be too many of, in a word.
+fn what_word(what: What) -> &'static str
+    ensures { result.now ≡ what_word what }
+{
+    match what {
+        What::Points => "points",
+        What::Links => "links",
+        What::Zones => "zones",
+    }
+}
+
+/// Adds what is wrong with a layout.
+pub fn push_layout(out: &mut String, refused: &LayoutRefused) -> Result<(), AllocError>
+    ensures { OnOk result (string_bytes out.new ≡ string_bytes out.old ++ layout_words refused.now) }
+{
+    match *refused {
+        LayoutRefused::TooMany { what, count } => {
+            let what = what_word(what);
+            write!(out, "1 TooMany what={what} count={count}")
+        }
+        LayoutRefused::DoubleName { first, second } => {
+            write!(out, "2 DoubleName first={first} second={second}")
+        }
+        LayoutRefused::UnknownPoint { link } => write!(out, "3 UnknownPoint link={link}"),
+        LayoutRefused::SelfLink { link } => write!(out, "4 SelfLink link={link}"),
+        LayoutRefused::ZoneRange { point } => write!(out, "5 ZoneRange point={point}"),
+        LayoutRefused::ZoneEmpty { zone } => write!(out, "6 ZoneEmpty zone={zone}"),
+        LayoutRefused::Name { point } => write!(out, "7 Name point={point}"),
+        LayoutRefused::NoZone => write!(out, "8 NoZone"),
+        LayoutRefused::Memory => write!(out, "202 Memory"),
+    }
+}
+
+/// Adds what is wrong with trains.
+pub fn push_trains(out: &mut String, refused: &TrainRefused) -> Result<(), AllocError>
+    ensures { OnOk result (string_bytes out.new ≡ string_bytes out.old ++ trains_words refused.now) }
+{
+    match *refused {
+        TrainRefused::TooMany { count } => write!(out, "11 TooMany count={count}"),
+        TrainRefused::DoubleName { first, second } => {
+            write!(out, "15 DoubleName first={first} second={second}")
+        }
+        TrainRefused::Name { train } => write!(out, "17 Name train={train}"),
+        TrainRefused::Memory => write!(out, "202 Memory"),
+    }
+}
