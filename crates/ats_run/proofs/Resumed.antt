@@ -1,0 +1,96 @@
+-- Runs that go on from a journal.
+use Rattle.std.proofs.Common.{◌≡◌, ◌⊎◌, ℕ, ◌+◌, ◌-◌, List, [], ◌∷◌, ◌++◌, length, refl, sym, ◌∙◌, ap, subst, inl, inr}
+use Rattle.std.proofs.lemmas.List.{append-nil}
+use Rattle.std.specs.Prelude.{Err}
+use Rattle.rail_model.specs.declared.types.Line.{Line}
+use Rattle.rail_model.specs.Table.{trains}
+use Rattle.rail_model.specs.Certificate.{Tree}
+use Rattle.rail_model.specs.Yard.{Offer, Yard, opening, offer}
+use Rattle.rail_model.specs.Journal.{Journal, IsWhole, IsRight, IsRound, IsDone, after_lines, text, lines_text, end_text}
+use Rattle.plain_yard.specs.Keeps.{Keeps}
+use Rattle.plain_yard.specs.Rounds.{Finishes}
+use Rattle.plain_yard.proofs.Keeping.{right_append, round_right, whole}
+use Rattle.plain_yard.proofs.Reaching.{after_append}
+use Rattle.move_journal.specs.declared.faults.BadLine.{BadLine}
+use Rattle.move_journal.specs.declared.faults.BadLine.TheVariants.{Move, Place, Table, Unfinished, Open, Counts, Memory}
+use Rattle.move_journal.specs.Answers.{IsTextOf, IsFrontOf}
+use Rattle.move_journal.specs.Counted.{journal_of}
+use Rattle.move_journal.specs.Replays.{Replays}
+use Rattle.move_journal.proofs.Fronts.{text_goes_on}
+use Rattle.layout_json.specs.Doc.{Doc, IsDoc, offers_of, names_of}
+use Rattle.ats_run.specs.declared.failure.Failure.{Failure}
+use Rattle.ats_run.specs.declared.failure.Failure.TheVariants.{Memory as NoMemory}
+use Rattle.ats_run.specs.Ending.{failure_of_line}
+use Rattle.ats_run.specs.Certificates.{AreAccepted}
+use Rattle.ats_run.specs.Headline.{IsRun}
+use Rattle.ats_run.specs.Journals.{IsFrontFault, IsResumed}
+use Rattle.ats_run.proofs.Runs.{goes_on_well, legal_start}
+
+-- the text of a whole journal is that of a run
+run_of_whole : (D : Doc) (trees : List Tree) (J : Journal) (written : List ℕ) → IsDoc D → AreAccepted D trees → IsWhole (offers_of D) (opening D.start) J
+    → written ≡ text (names_of D) J → IsRun D written
+run_of_whole D trees J written doc accepted whole printed = record {
+  journal = J;
+  trees = trees;
+  accepted = accepted;
+  whole = whole;
+  goes_on_well = goes_on_well D trees J.lines doc accepted whole.right;
+  printed = printed;
+}
+
+pub resumed_whole : (D : Doc) (trees : List Tree) (J : Journal) (given written : List ℕ) → IsDoc D → AreAccepted D trees
+    → IsWhole (offers_of D) (opening D.start) J → IsTextOf (names_of D) given J → written ≡ given → IsResumed D given written
+resumed_whole D trees J given written doc accepted whole text same = record {
+  run = run_of_whole D trees J written doc accepted whole (same ∙ text.text);
+  rest = [];
+  begins = same ∙ sym (append-nil given);
+  continued = inl ((J, text), same);
+}
+
+-- the state and the lines of a front's replay, and what a finish from them gives
+pub resumed_front : (D : Doc) (trees : List Tree) (front : Journal) (given written : List ℕ) (y z : Yard) (lines longer : List Line) → IsDoc D → AreAccepted D trees
+    → IsFrontOf (names_of D) given front → IsRight (offers_of D) (opening D.start) front.lines → y ≡ after_lines (opening D.start) front.lines → lines ≡ front.lines
+    → IsDone (offers_of D) z → Finishes (offers_of D) y (trains (offer (offers_of D) 0).table - 1) lines z longer → written ≡ text (names_of D) (journal_of longer)
+    → IsResumed D given written
+resumed_front D trees front given written y z lines longer doc accepted is_front right reached same done finishes printed =
+    let longer_is : longer ≡ front.lines ++ finishes.added = finishes.adds ∙ ap (λ (ls : List Line). ls ++ finishes.added) same in
+    let added_right = subst (λ (w : Yard). IsRight (offers_of D) w finishes.added) reached (round_right (offers_of D) y _ finishes.added finishes.round) in
+    let run : Keeps (offers_of D) z longer = record {
+      are = doc.tables;
+      start = D.start;
+      legal = legal_start D doc;
+      right = subst (IsRight (offers_of D) (opening D.start)) (sym longer_is)
+          (right_append (offers_of D) (opening D.start) front.lines finishes.added right added_right);
+      reached = finishes.after ∙ ap (λ (w : Yard). after_lines w finishes.added) reached ∙ sym (after_append (opening D.start) front.lines finishes.added)
+          ∙ ap (after_lines (opening D.start)) (sym longer_is);
+    } in
+    record {
+      run = run_of_whole D trees (journal_of longer) written doc accepted (whole (offers_of D) z longer run done) printed;
+      rest = lines_text (names_of D) (length front.lines + 1) finishes.added ++ end_text (journal_of longer).moves (journal_of longer).tables;
+      begins = printed ∙ text_goes_on (names_of D) given front (journal_of longer) finishes.added is_front longer_is;
+      continued = inr (
+        front,
+        is_front,
+        record {
+          added = finishes.added;
+          round = subst (λ (w : Yard). IsRound (offers_of D) w (trains (offer (offers_of D) 0).table - 1) finishes.added) reached finishes.round;
+          printed = printed ∙ ap (λ (ls : List Line). text (names_of D) (journal_of ls)) longer_is;
+        },
+      );
+    }
+
+told : (tables : List Offer) (y : Yard) (J : Journal) (cause : BadLine) → Replays tables y J (Err cause)
+    → (failure_of_line cause ≡ NoMemory) ⊎ IsFrontFault tables y J (failure_of_line cause)
+told tables y J Memory h = inl refl
+told tables y J (Move k ask) h = inr h
+told tables y J (Place k) h = inr h
+told tables y J (Table k) h = inr h
+told tables y J (Unfinished i) h = inr h
+told tables y J (Open t) h = inr h
+told tables y J Counts h = inr h
+
+pub front_fault : (tables given : List Offer) (y z : Yard) (J : Journal) (cause : BadLine) (e : Failure) → given ≡ tables → z ≡ y → Replays given z J (Err cause)
+    → e ≡ failure_of_line cause → (e ≡ NoMemory) ⊎ IsFrontFault tables y J e
+front_fault tables given y z J cause e same there h is =
+    subst (λ (x : Failure). (x ≡ NoMemory) ⊎ IsFrontFault tables y J x) (sym is)
+    (told tables y J cause (subst (λ (x : Yard). Replays tables x J (Err cause)) there (subst (λ (x : List Offer). Replays x z J (Err cause)) same h)))

@@ -1,0 +1,107 @@
+-- Inputs of a document and a journal, and what is said of them.
+use Rattle.std.specs.Prelude.{◌≡◌, ◌⊎◌, ℕ, ◌+◌, ◌-◌, List, ◌++◌, length, take, drop, codes, decimal}
+use Rattle.memchr.specs.Find.{OccursAt}
+use Rattle.rail_model.specs.declared.types.Line.{Line as Step}
+use Rattle.rail_model.specs.Table.{trains}
+use Rattle.rail_model.specs.Move.{IsFirst}
+use Rattle.rail_model.specs.Certificate.{Tree}
+use Rattle.rail_model.specs.Yard.{Offer, Yard, opening, offer}
+use Rattle.rail_model.specs.Names.{Names}
+use Rattle.rail_model.specs.Journal.{Journal, IsWhole, IsRound, after_lines, text}
+use Rattle.move_journal.specs.declared.faults.BadText.{BadText}
+use Rattle.move_journal.specs.declared.faults.BadLine.{BadLine}
+use Rattle.move_journal.specs.Counted.{journal_of}
+use Rattle.move_journal.specs.Answers.{IsTextOf, IsFrontOf, HasFault}
+use Rattle.move_journal.specs.Replays.{HasBadLine, IsNotWhole}
+use Rattle.layout_json.specs.Doc.{Doc, offers_of, names_of}
+use Rattle.ats_run.specs.declared.failure.Failure.{Failure}
+use Rattle.ats_run.specs.declared.failure.Failure.TheVariants.{Line, Text}
+use Rattle.ats_run.specs.Certificates.{AreAccepted}
+use Rattle.ats_run.specs.Headline.{IsRun}
+
+-- the line that parts a document from a journal, with the newline before it
+abbrev pub mark : List ℕ
+mark = codes "\njournal\n"
+
+-- The first place of the mark.
+abbrev pub IsCut : List ℕ → ℕ → Type 0
+IsCut input k = IsFirst (OccursAt input mark) k
+
+abbrev pub HasNoCut : List ℕ → Type 0
+HasNoCut input = (k : ℕ) → OccursAt input mark k → ⊥
+
+-- what comes before the mark, and what follows it
+abbrev pub document_part : List ℕ → ℕ → List ℕ
+document_part input k = take k input
+
+abbrev pub journal_part : List ℕ → ℕ → List ℕ
+journal_part input k = drop (k + length mark) input
+
+-- the line of a journal that is whole
+abbrev pub verified_text : Journal → List ℕ
+verified_text J = codes "ok moves=" ++ decimal J.moves ++ codes " tables=" ++ decimal J.tables ++ codes "\n"
+
+-- The bytes are the text of a whole journal of the document, whose tables accept their certificates; its counts are written.
+pub record IsVerified (D : Doc) (given written : List ℕ) : Type 0 where
+  pub journal : Journal
+  pub trees : List Tree
+  pub accepted : AreAccepted D trees
+  pub text : IsTextOf (names_of D) given journal
+  pub whole : IsWhole (offers_of D) (opening D.start) journal
+  pub printed : written ≡ verified_text journal
+
+-- Why bytes are no journal's text, as the program tells it.
+abbrev pub IsTextFault : Names → List ℕ → Failure → Type 0
+IsTextFault N given (Text cause) = HasFault N given cause
+IsTextFault N given e = ⊥
+
+-- What a journal lacks, as the program tells it.
+abbrev pub IsLineFault : List Offer → Yard → Journal → Failure → Type 0
+IsLineFault tables y J (Line cause) = IsNotWhole tables y J cause
+IsLineFault tables y J e = ⊥
+
+-- The first line of a front that isn't right, as the program tells it.
+abbrev pub IsFrontFault : List Offer → Yard → Journal → Failure → Type 0
+IsFrontFault tables y J (Line cause) = HasBadLine tables y J.lines cause
+IsFrontFault tables y J e = ⊥
+
+-- The bytes are no journal's text, for the first cause.
+pub record IsUnreadable (D : Doc) (given : List ℕ) (cause : BadText) : Type 0 where
+  pub trees : List Tree
+  pub accepted : AreAccepted D trees
+  pub fault : HasFault (names_of D) given cause
+
+-- The bytes are the text of a journal that isn't whole, for the first cause.
+pub record IsUnverified (D : Doc) (given : List ℕ) (cause : BadLine) : Type 0 where
+  pub journal : Journal
+  pub trees : List Tree
+  pub accepted : AreAccepted D trees
+  pub text : IsTextOf (names_of D) given journal
+  pub fault : IsNotWhole (offers_of D) (opening D.start) journal cause
+
+-- The bytes are the text of lines that go on from a front with the round robin.
+pub record GoesOnFrom (D : Doc) (front : Journal) (written : List ℕ) : Type 0 where
+  pub added : List Step
+  pub round : IsRound (offers_of D) (after_lines (opening D.start) front.lines) (trains (offer (offers_of D) 0).table - 1) added
+  pub printed : written ≡ text (names_of D) (journal_of (front.lines ++ added))
+
+-- The given text is whole and was written as it is, or it is a front, from whose state the round robin goes on.
+abbrev pub IsContinued : Doc → List ℕ → List ℕ → Type 0
+IsContinued D given written =
+    (((whole : Journal) × IsTextOf (names_of D) given whole) × (written ≡ given))
+    ⊎ ((front : Journal) × IsFrontOf (names_of D) given front × GoesOnFrom D front written)
+
+-- What `resume` writes: the text of one whole run of the document, that begins with the given text.
+pub record IsResumed (D : Doc) (given written : List ℕ) : Type 0 where
+  pub run : IsRun D written
+  pub rest : List ℕ
+  pub begins : written ≡ given ++ rest
+  pub continued : IsContinued D given written
+
+-- The bytes are a whole journal's text or a front, with a first line that isn't right, or lacking an end that is.
+pub record IsUnresumed (D : Doc) (given : List ℕ) (cause : BadLine) : Type 0 where
+  pub journal : Journal
+  pub trees : List Tree
+  pub accepted : AreAccepted D trees
+  pub fault : (IsTextOf (names_of D) given journal × IsNotWhole (offers_of D) (opening D.start) journal cause)
+      ⊎ (IsFrontOf (names_of D) given journal × HasBadLine (offers_of D) (opening D.start) journal.lines cause)

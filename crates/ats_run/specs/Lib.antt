@@ -1,0 +1,10 @@
+pub mod Causes
+pub mod Certificates
+pub mod Checking
+pub mod Command
+pub mod Complete
+pub mod Ending
+pub mod Headline
+pub mod Journals
+pub mod Orders
+pub mod Report

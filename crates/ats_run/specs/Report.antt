@@ -1,0 +1,34 @@
+-- The line that is told of a refusal.
+use Rattle.std.specs.Prelude.{ℕ, List, codes}
+use Rattle.refusal_lines.specs.Fields.{line, no_memory}
+use Rattle.refusal_lines.specs.Documents.{document_words}
+use Rattle.refusal_lines.specs.Certificates.{tree_words, bad_words}
+use Rattle.refusal_lines.specs.Journals.{text_words, line_words}
+use Rattle.ats_run.specs.declared.failure.Failure.{Failure}
+use Rattle.ats_run.specs.declared.failure.Failure.TheVariants.{Words, Memory, ReadFault, WriteFault, TooLong, Document, Tree, Certificate, NoJournal, Text, Line}
+
+-- the number of a refusal, its name and its fields
+abbrev pub words_of : Failure → List ℕ
+words_of Words = codes "201 Words"
+words_of Memory = no_memory
+words_of ReadFault = codes "207 ReadFault"
+words_of WriteFault = codes "208 WriteFault"
+words_of TooLong = codes "104 TooLong limit=16777216"
+words_of NoJournal = codes "70 NoJournal"
+words_of (Document e) = document_words e
+words_of (Tree t e) = tree_words t e
+words_of (Certificate t bad) = bad_words t bad
+words_of (Text e) = text_words e
+words_of (Line e) = line_words e
+
+abbrev pub line_of : Failure → List ℕ
+line_of e = line (words_of e)
+
+-- The refusal has fields, so that its line is made.
+abbrev pub HasFields : Failure → Type 0
+HasFields (Document e) = Unit {0}
+HasFields (Tree t e) = Unit {0}
+HasFields (Certificate t bad) = Unit {0}
+HasFields (Text e) = Unit {0}
+HasFields (Line e) = Unit {0}
+HasFields e = ⊥

@@ -1,0 +1,95 @@
+// Why a call did not end well.
+ghost use Rattle.std.specs.Prelude.{◌≡◌};
+ghost use Rattle.ats_run.specs.Ending.{failure_of_text, failure_of_line};
+ghost use Rattle.ats_run.specs.declared.failure.Failure.TheVariants.{Memory as NoMemory};
+
+use crate::Status;
+use cert_tree::CertRefused;
+use layout_json::DocRefused;
+use move_journal::{BadLine, BadText};
+use rail_model::Bad;
+use std::alloc::{AllocError, AllocFailed};
+
+/// What one line on the error sink tells.
+#[derive(Clone, Copy, Debug, PartialEq, Eq)]
+pub enum Failure {
+    /// The words ask for no order.
+    Words,
+    /// There was no memory.
+    Memory,
+    /// The source failed before its end.
+    ReadFault,
+    /// The sink failed before it took the whole text.
+    WriteFault,
+    /// The source held more than 16,777,216 bytes.
+    TooLong,
+    /// The bytes are no document.
+    Document(DocRefused),
+    /// The nodes of a table spell no tree.
+    Tree { table: u32, refused: CertRefused },
+    /// A table's certificate has a bad node, the first of which this is.
+    Certificate { table: u32, bad: Bad },
+    /// No line parts a document from a journal.
+    NoJournal,
+    /// The bytes behind that line are no journal's text.
+    Text(BadText),
+    /// The journal isn't right, or isn't whole.
+    Line(BadLine),
+}
+
+impl From<AllocError> for Failure {
+    ghost from_gives = { λ _ e. e ≡ NoMemory };
+
+    fn from(_: AllocError) -> Self {
+        Failure::Memory
+    }
+}
+
+impl<T: Drop> From<AllocFailed<T>> for Failure {
+    ghost from_gives = { λ _ e. e ≡ NoMemory };
+
+    fn from(_: AllocFailed<T>) -> Self {
+        Failure::Memory
+    }
+}
+
+impl From<BadText> for Failure {
+    ghost from_gives = { λ cause e. e ≡ failure_of_text cause };
+
+    fn from(cause: BadText) -> Self {
+        match cause {
+            BadText::Memory => Failure::Memory,
+            cause => Failure::Text(cause),
+        }
+    }
+}
+
+impl From<BadLine> for Failure {
+    ghost from_gives = { λ cause e. e ≡ failure_of_line cause };
+
+    fn from(cause: BadLine) -> Self {
+        match cause {
+            BadLine::Memory => Failure::Memory,
+            cause => Failure::Line(cause),
+        }
+    }
+}
+
+impl Failure {
+    ghost use Rattle.ats_run.specs.Ending.{status_of};
+
+    /// The status of a call that ends so.
+    pub fn status(&self) -> Status
+        ensures { result ≡ status_of self.now }
+    {
+        match self {
+            Failure::Words => Status::Words,
+            Failure::Memory => Status::Memory,
+            Failure::ReadFault => Status::ReadFault,
+            Failure::WriteFault => Status::WriteFault,
+            Failure::TooLong | Failure::Document(_) | Failure::Tree { .. } => Status::Refused,
+            Failure::Certificate { .. } => Status::BadCertificate,
+            Failure::NoJournal | Failure::Text(_) | Failure::Line(_) => Status::BadJournal,
+        }
+    }
+}

@@ -1,0 +1,18 @@
+//! The whole program as one call: words and a document come in; a journal goes out, or one line that names what is wrong.
+#![tactic(auto)]
+
+mod answer;
+mod asked;
+mod checked;
+mod checking;
+mod failure;
+mod journals;
+mod lines;
+mod resuming;
+mod running;
+mod status;
+mod top;
+
+pub use failure::Failure;
+pub use status::{Status, code};
+pub use top::ats;
