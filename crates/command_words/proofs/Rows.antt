@@ -85,7 +85,20 @@ other_words : map asked (codes "run --round 3" ∷ codes "ru" ∷ codes "RUN" �
 unfolding clap_on_literals leaf words number_of
 other_words = refl
 
--- Words of no subcommand are refused, with options or without.
-no_subcommands : map asked (codes "sim" ∷ codes "derive --most 2" ∷ codes "repair" ∷ codes "gen --seed 7 --trains 2" ∷ codes "drill" ∷ []) ≡ None ∷ None ∷ None ∷ None ∷ None ∷ []
+-- So have those that make sections, and the trials.
+more_defaults : map asked (codes "derive" ∷ codes "repair" ∷ codes "sim" ∷ codes "gen" ∷ codes "drill" ∷ []) ≡ Some (order.Derive 2 1000000) ∷ Some (order.Repair 1000000 1000) ∷ Some order.Simulate ∷ Some (order.Generate 0 2) ∷ Some (order.Drill 0 2 0) ∷ []
 unfolding clap_on_literals leaf words number_of
-no_subcommands = refl
+more_defaults = refl
+
+drill_of_seven : asked (codes "drill --trains 32 --seed=7") ≡ Some (order.Drill 7 32 0)
+unfolding clap_on_literals leaf words number_of
+drill_of_seven = refl
+
+-- Each of their options has an end to its range.
+more_out_of_ranges : map asked (codes "derive --most 1" ∷ codes "derive --most 9" ∷ codes "repair --rounds 10001" ∷ codes "gen --seed 4294967296" ∷ codes "gen --trains 33" ∷ codes "drill --workers 1" ∷ []) ≡ None ∷ None ∷ None ∷ None ∷ None ∷ None ∷ []
+unfolding clap_on_literals leaf words number_of
+more_out_of_ranges = refl
+
+more_not_its_own : map asked (codes "derive --rounds 3" ∷ codes "repair --most 2" ∷ codes "sim --seed 1" ∷ codes "gen --workers 0" ∷ codes "drill --rounds 3" ∷ []) ≡ None ∷ None ∷ None ∷ None ∷ None ∷ []
+unfolding clap_on_literals leaf words number_of
+more_not_its_own = refl

@@ -31,6 +31,22 @@ rounds = option (codes "rounds") 0 1000000 1000
 abbrev pub budget : NumberOption
 budget = option (codes "budget") 1 1000000 1000000
 
+-- how many trains a ring has at most
+abbrev pub most : NumberOption
+most = option (codes "most") 2 8 2
+
+-- how many rounds a repair makes at most
+abbrev pub repair_rounds : NumberOption
+repair_rounds = option (codes "rounds") 0 10000 1000
+
+-- what the draws of a made document begin with
+abbrev pub seed : NumberOption
+seed = option (codes "seed") 0 4294967295 0
+
+-- how many trains a made document has
+abbrev pub trains : NumberOption
+trains = option (codes "trains") 0 32 2
+
 -- The option takes this number.
 abbrev pub Takes : NumberOption → ℕ → Type 0
 Takes o n = (o.least ≤ n) × (n ≤ o.greatest)

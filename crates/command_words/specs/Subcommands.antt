@@ -1,7 +1,7 @@
 -- The subcommands: the options of each, and what it asks for.
 use Rattle.std.specs.Prelude.{List, [], ◌∷◌, codes, Option, Some, option_and_then}
 use Rattle.clap.specs.Words.{Row, Text}
-use Rattle.command_words.specs.Options.{NumberOption, Takes, number, workers, rounds, budget}
+use Rattle.command_words.specs.Options.{NumberOption, Takes, number, workers, rounds, budget, most, repair_rounds, seed, trains}
 use Rattle.command_words.specs.declared.orders.Order.{Order}
 use Rattle.command_words.specs.declared.orders.Order.TheVariants as order
 
@@ -60,9 +60,62 @@ make = record {
     Some (order.Make b);
 }
 
+-- makes the sections of a document from rings of trains, and its certificates
+abbrev pub derive : Subcommand
+derive = record {
+  name = codes "derive";
+  options = most ∷ budget ∷ [];
+  order = λ given. do
+    m ← number most given
+    b ← number budget given
+    Some (order.Derive m b);
+}
+
+-- makes the sections of a document from states that are stuck, and its certificates
+abbrev pub repair : Subcommand
+repair = record {
+  name = codes "repair";
+  options = budget ∷ repair_rounds ∷ [];
+  order = λ given. do
+    b ← number budget given
+    r ← number repair_rounds given
+    Some (order.Repair b r);
+}
+
+-- runs the trains of a document by the times that they take
+abbrev pub simulate : Subcommand
+simulate = record { name = codes "sim"; options = []; order = λ given. Some order.Simulate }
+
+-- makes a document from a seed
+abbrev pub generate : Subcommand
+generate = record {
+  name = codes "gen";
+  options = seed ∷ trains ∷ [];
+  order = λ given. do
+    s ← number seed given
+    n ← number trains given
+    Some (order.Generate s n);
+}
+
+-- makes a document from a seed, and runs its trains
+abbrev pub drill : Subcommand
+drill = record {
+  name = codes "drill";
+  options = seed ∷ trains ∷ workers ∷ [];
+  order = λ given. do
+    s ← number seed given
+    n ← number trains given
+    w ← number workers given
+    Some (order.Drill s n w);
+}
+
 -- Each number of the order is one that its option takes.
 abbrev pub HasItsNumbers : Order → Type 0
 HasItsNumbers (order.Run w r) = Takes workers w × Takes rounds r
 HasItsNumbers (order.Resume w r) = Takes workers w × Takes rounds r
 HasItsNumbers (order.Make b) = Takes budget b
+HasItsNumbers (order.Derive m b) = Takes most m × Takes budget b
+HasItsNumbers (order.Repair b r) = Takes budget b × Takes repair_rounds r
+HasItsNumbers (order.Generate s n) = Takes seed s × Takes trains n
+HasItsNumbers (order.Drill s n w) = Takes seed s × Takes trains n × Takes workers w
 HasItsNumbers _ = Unit {0}

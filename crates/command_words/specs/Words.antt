@@ -20,9 +20,17 @@ checks = sub.check ∷ sub.verify ∷ []
 abbrev pub makers : List Subcommand
 makers = sub.migrate ∷ sub.make ∷ []
 
+-- what makes sections
+abbrev pub section_makers : List Subcommand
+section_makers = sub.derive ∷ sub.repair ∷ []
+
+-- what tries a run, on a document or on a made one
+abbrev pub trials : List Subcommand
+trials = sub.simulate ∷ sub.generate ∷ sub.drill ∷ []
+
 -- all of them
 abbrev pub subcommands : List Subcommand
-subcommands = runs ++ checks ++ makers
+subcommands = runs ++ checks ++ makers ++ section_makers ++ trials
 
 -- a long option with one value
 abbrev pub rule : NumberOption → Rule

@@ -30,6 +30,34 @@ pub(crate) fn budget(matches: &ArgMatches<'_>) -> Option<u32>
     number(matches, "budget", 1, 1_000_000, 1_000_000)
 }
 
+pub(crate) fn most(matches: &ArgMatches<'_>) -> Option<u32>
+    ensures exact { result ≡ spec.number spec.most (rows_of (found_of matches.now)) }
+    ensures within { IfSome result (spec.Takes spec.most) }
+{
+    number(matches, "most", 2, 8, 2)
+}
+
+pub(crate) fn repair_rounds(matches: &ArgMatches<'_>) -> Option<u32>
+    ensures exact { result ≡ spec.number spec.repair_rounds (rows_of (found_of matches.now)) }
+    ensures within { IfSome result (spec.Takes spec.repair_rounds) }
+{
+    number(matches, "rounds", 0, 10_000, 1000)
+}
+
+pub(crate) fn seed(matches: &ArgMatches<'_>) -> Option<u32>
+    ensures exact { result ≡ spec.number spec.seed (rows_of (found_of matches.now)) }
+    ensures within { IfSome result (spec.Takes spec.seed) }
+{
+    number(matches, "seed", 0, 4_294_967_295, 0)
+}
+
+pub(crate) fn trains(matches: &ArgMatches<'_>) -> Option<u32>
+    ensures exact { result ≡ spec.number spec.trains (rows_of (found_of matches.now)) }
+    ensures within { IfSome result (spec.Takes spec.trains) }
+{
+    number(matches, "trains", 0, 32, 2)
+}
+
 // The number of the option, or its default where it isn't given.
 fn number(
     matches: &ArgMatches<'_>,

@@ -4,9 +4,15 @@
 #[derive(Clone, Copy, Debug, PartialEq, Eq)]
 pub enum Order {
     /// Run the trains of a document by so many workers, which make so many rounds at most.
-    Run { workers: u32, rounds: u32 },
+    Run {
+        workers: u32,
+        rounds: u32,
+    },
     /// Run the trains of a document on from the beginning of a journal.
-    Resume { workers: u32, rounds: u32 },
+    Resume {
+        workers: u32,
+        rounds: u32,
+    },
     /// Check the certificates of a document.
     Check,
     /// Check a journal of a document.
@@ -14,7 +20,33 @@ pub enum Order {
     /// Bring a document of version 1 to version 2.
     Migrate,
     /// Make the certificates of a document, of so many nodes at most.
-    Make { budget: u32 },
+    Make {
+        budget: u32,
+    },
+    /// Make the sections of a document from the rings of so many trains at most, and its certificates.
+    Derive {
+        most: u32,
+        budget: u32,
+    },
+    /// Make the sections of a document from the states that are stuck, in so many rounds at most, and its
+    /// certificates.
+    Repair {
+        budget: u32,
+        rounds: u32,
+    },
+    /// Run the trains of a document by the times that they take.
+    Simulate,
+    /// Make a document of so many trains from a seed.
+    Generate {
+        seed: u32,
+        trains: u32,
+    },
+    /// Make a document of so many trains from a seed, and run its trains by so many workers.
+    Drill {
+        seed: u32,
+        trains: u32,
+        workers: u32,
+    },
 }
 
 /// Why there is no order for the words.

@@ -4,7 +4,7 @@ ghost use Rattle.clap.specs.Words.{found_of, rows_of, subcommand_rows_of};
 ghost use Rattle.command_words.specs.Subcommands as sub;
 ghost use Rattle.command_words.specs.Words as spec;
 
-use crate::options::{budget, rounds, workers};
+use crate::options::{budget, most, repair_rounds, rounds, seed, trains, workers};
 use crate::orders::{Order, WordsRefused};
 use crate::table::command;
 use clap::ArgMatches;
@@ -52,6 +52,11 @@ fn order_called(name: &str, matches: &ArgMatches<'_>) -> Option<Order>
         "verify" => Some(Order::Verify),
         "migrate" => Some(Order::Migrate),
         "make" => make(matches),
+        "derive" => derive(matches),
+        "repair" => repair(matches),
+        "sim" => Some(Order::Simulate),
+        "gen" => generate(matches),
+        "drill" => drill(matches),
         _ => None,
     }
 }
@@ -80,4 +85,45 @@ fn make(matches: &ArgMatches<'_>) -> Option<Order>
 {
     let budget = budget(matches)?;
     Some(Order::Make { budget })
+}
+
+fn derive(matches: &ArgMatches<'_>) -> Option<Order>
+    ensures exact { result ≡ sub.derive.order (rows_of (found_of matches.now)) }
+    ensures within { IfSome result sub.HasItsNumbers }
+{
+    let most = most(matches)?;
+    let budget = budget(matches)?;
+    Some(Order::Derive { most, budget })
+}
+
+fn repair(matches: &ArgMatches<'_>) -> Option<Order>
+    ensures exact { result ≡ sub.repair.order (rows_of (found_of matches.now)) }
+    ensures within { IfSome result sub.HasItsNumbers }
+{
+    let budget = budget(matches)?;
+    let rounds = repair_rounds(matches)?;
+    Some(Order::Repair { budget, rounds })
+}
+
+fn generate(matches: &ArgMatches<'_>) -> Option<Order>
+    ensures exact { result ≡ sub.generate.order (rows_of (found_of matches.now)) }
+    ensures within { IfSome result sub.HasItsNumbers }
+{
+    let seed = seed(matches)?;
+    let trains = trains(matches)?;
+    Some(Order::Generate { seed, trains })
+}
+
+fn drill(matches: &ArgMatches<'_>) -> Option<Order>
+    ensures exact { result ≡ sub.drill.order (rows_of (found_of matches.now)) }
+    ensures within { IfSome result sub.HasItsNumbers }
+{
+    let seed = seed(matches)?;
+    let trains = trains(matches)?;
+    let workers = workers(matches)?;
+    Some(Order::Drill {
+        seed,
+        trains,
+        workers,
+    })
 }

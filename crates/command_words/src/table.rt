@@ -15,7 +15,9 @@ pub(crate) fn command<'a>(alloc: Global) -> Result<Command<'a>, AllocError>
     let command = start(alloc);
     let command = with_runs(alloc, command)?;
     let command = with_checks(alloc, command)?;
-    with_makers(alloc, command)
+    let command = with_makers(alloc, command)?;
+    let command = with_section_makers(alloc, command)?;
+    with_trials(alloc, command)
 }
 
 // The command before any subcommand.
@@ -53,6 +55,23 @@ fn with_makers<'a>(alloc: Global, command: Command<'a>) -> Result<Command<'a>, A
     with_subcommand(command, make(alloc)?)
 }
 
+fn with_section_makers<'a>(alloc: Global, command: Command<'a>) -> Result<Command<'a>, AllocError>
+    requires { IsLocal command }
+    ensures { IfOk result (Is (spec.with_all spec.section_makers (app_of command.entry))) }
+{
+    let command = with_subcommand(command, derive(alloc)?)?;
+    with_subcommand(command, repair(alloc)?)
+}
+
+fn with_trials<'a>(alloc: Global, command: Command<'a>) -> Result<Command<'a>, AllocError>
+    requires { IsLocal command }
+    ensures { IfOk result (Is (spec.with_all spec.trials (app_of command.entry))) }
+{
+    let command = with_subcommand(command, simulate(alloc))?;
+    let command = with_subcommand(command, generate(alloc)?)?;
+    with_subcommand(command, drill(alloc)?)
+}
+
 #[tactic(auto, unfolding(crate::specs::Words::leaf))]
 fn run<'a>(alloc: Global) -> Result<Command<'a>, AllocError>
     ensures { IfOk result (Is (spec.leaf sub.run)) }
@@ -77,6 +96,39 @@ fn make<'a>(alloc: Global) -> Result<Command<'a>, AllocError>
 }
 
 #[tactic(auto, unfolding(crate::specs::Words::leaf))]
+fn derive<'a>(alloc: Global) -> Result<Command<'a>, AllocError>
+    ensures { IfOk result (Is (spec.leaf sub.derive)) }
+{
+    let command = with_option(alloc, Command::new(alloc, "derive"), "most")?;
+    with_option(alloc, command, "budget")
+}
+
+#[tactic(auto, unfolding(crate::specs::Words::leaf))]
+fn repair<'a>(alloc: Global) -> Result<Command<'a>, AllocError>
+    ensures { IfOk result (Is (spec.leaf sub.repair)) }
+{
+    let command = with_option(alloc, Command::new(alloc, "repair"), "budget")?;
+    with_option(alloc, command, "rounds")
+}
+
+#[tactic(auto, unfolding(crate::specs::Words::leaf))]
+fn generate<'a>(alloc: Global) -> Result<Command<'a>, AllocError>
+    ensures { IfOk result (Is (spec.leaf sub.generate)) }
+{
+    let command = with_option(alloc, Command::new(alloc, "gen"), "seed")?;
+    with_option(alloc, command, "trains")
+}
+
+#[tactic(auto, unfolding(crate::specs::Words::leaf))]
+fn drill<'a>(alloc: Global) -> Result<Command<'a>, AllocError>
+    ensures { IfOk result (Is (spec.leaf sub.drill)) }
+{
+    let command = with_option(alloc, Command::new(alloc, "drill"), "seed")?;
+    let command = with_option(alloc, command, "trains")?;
+    with_option(alloc, command, "workers")
+}
+
+#[tactic(auto, unfolding(crate::specs::Words::leaf))]
 fn check<'a>(alloc: Global) -> Command<'a>
     ensures { Is (spec.leaf sub.check) result }
 {
@@ -95,6 +147,13 @@ fn migrate<'a>(alloc: Global) -> Command<'a>
     ensures { Is (spec.leaf sub.migrate) result }
 {
     Command::new(alloc, "migrate")
+}
+
+#[tactic(auto, unfolding(crate::specs::Words::leaf))]
+fn simulate<'a>(alloc: Global) -> Command<'a>
+    ensures { Is (spec.leaf sub.simulate) result }
+{
+    Command::new(alloc, "sim")
 }
 
 // The command with one more subcommand.

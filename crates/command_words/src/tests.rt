@@ -3,7 +3,7 @@ use std::alloc::{AllocError, Global};
 use std::test::*;
 
 // Command lines that ask for something, one space between two words.
-const TAKEN: [(&str, Order); 13] = [
+const TAKEN: [(&str, Order); 21] = [
     (
         "run",
         Order::Run {
@@ -65,10 +65,52 @@ const TAKEN: [(&str, Order); 13] = [
     ("migrate", Order::Migrate),
     ("make", Order::Make { budget: 1_000_000 }),
     ("make --budget 1", Order::Make { budget: 1 }),
+    (
+        "derive",
+        Order::Derive {
+            most: 2,
+            budget: 1_000_000,
+        },
+    ),
+    (
+        "derive --budget 9 --most=8",
+        Order::Derive { most: 8, budget: 9 },
+    ),
+    (
+        "repair",
+        Order::Repair {
+            budget: 1_000_000,
+            rounds: 1000,
+        },
+    ),
+    (
+        "repair --rounds 10000 --budget 1",
+        Order::Repair {
+            budget: 1,
+            rounds: 10_000,
+        },
+    ),
+    ("sim", Order::Simulate),
+    ("gen", Order::Generate { seed: 0, trains: 2 }),
+    (
+        "gen --trains 32 --seed 4294967295",
+        Order::Generate {
+            seed: 4_294_967_295,
+            trains: 32,
+        },
+    ),
+    (
+        "drill --seed 7 --trains=0 --workers 0",
+        Order::Drill {
+            seed: 7,
+            trains: 0,
+            workers: 0,
+        },
+    ),
 ];
 
 // Command lines that are refused.
-const REFUSED: [&str; 52] = [
+const REFUSED: [&str; 60] = [
     "",
     "help",
     "--help",
@@ -116,11 +158,19 @@ const REFUSED: [&str; 52] = [
     "resume --budget 3",
     "ru",
     "RUN",
-    "sim",
-    "derive --most 2",
-    "repair",
-    "gen --seed 7 --trains 2",
-    "drill",
+    "derive --most 1",
+    "derive --most 9",
+    "derive --budget 0",
+    "derive --rounds 3",
+    "repair --rounds 10001",
+    "repair --most 2",
+    "sim --seed 1",
+    "gen --seed 4294967296",
+    "gen --trains 33",
+    "gen --workers 0",
+    "drill --workers 1",
+    "drill --rounds 3",
+    "weave",
 ];
 
 fn asked(alloc: Global, line: &str) -> Result<Result<Order, WordsRefused>, AllocError> {

@@ -1,1 +1,2 @@
+mod Commas
 mod Rows

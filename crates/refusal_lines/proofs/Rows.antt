@@ -1,5 +1,5 @@
 -- Worked rows: a line for a refusal of each kind.
-use Rattle.std.proofs.Common.{◌≡◌, pos, negsuc, Some, None, refl, lit<}
+use Rattle.std.proofs.Common.{◌≡◌, [], ◌∷◌, pos, negsuc, Some, None, refl, lit<}
 use Rattle.std.specs.Prelude.{codes}
 use Rattle.std.proofs.lemmas.Fmt.{decimal_digit}
 use Rattle.track_layout.specs.declared.refused.LayoutRefused.TheVariants as layout
@@ -23,6 +23,7 @@ use Rattle.refusal_lines.specs.Starts.{start_words}
 use Rattle.refusal_lines.specs.Certificates.{tree_words, bad_words}
 use Rattle.refusal_lines.specs.Journals.{text_words, line_words}
 use Rattle.refusal_lines.specs.Documents.{document_words}
+use Rattle.refusal_lines.specs.Makers.{many_words, spent_words, stuck_words, rounds_words, connected_words}
 
 double_name : line_of (layout_words (layout.DoubleName 0 1)) ≡ codes "ats: 2 DoubleName first=0 second=1\n"
 double_name = rw (decimal_digit 0 (lit< tt), decimal_digit 1 (lit< tt)) refl
@@ -68,3 +69,23 @@ no_missions = rw (decimal_digit 1 (lit< tt)) refl
 
 times_length : document_words (document.TimesLength 0 0 1) ≡ codes "113 TimesLength table=0 train=0 count=1"
 times_length = rw (decimal_digit 0 (lit< tt), decimal_digit 1 (lit< tt)) refl
+
+spent : spent_words 0 5 ≡ codes "205 Spent table=0 nodes=5"
+spent = rw (decimal_digit 0 (lit< tt), decimal_digit 5 (lit< tt)) refl
+
+-- the corridor's two trains meet in it
+corridor_stuck : line_of (stuck_words 0 (1 ∷ 1 ∷ [])) ≡ codes "ats: 206 Stuck table=0 at=1,1\n"
+corridor_stuck = rw (decimal_digit 0 (lit< tt), decimal_digit 1 (lit< tt)) refl
+
+-- of one train nothing stands behind the position
+one_train_stuck : stuck_words 1 (3 ∷ []) ≡ codes "206 Stuck table=1 at=3"
+one_train_stuck = rw (decimal_digit 1 (lit< tt), decimal_digit 3 (lit< tt)) refl
+
+rounds : rounds_words 0 2 (1 ∷ 1 ∷ []) ≡ codes "209 Rounds table=0 rounds=2 at=1,1"
+rounds = rw (decimal_digit 0 (lit< tt), decimal_digit 1 (lit< tt), decimal_digit 2 (lit< tt)) refl
+
+many : many_words 0 9 ≡ codes "121 Many table=0 count=9"
+many = rw (decimal_digit 0 (lit< tt), decimal_digit 9 (lit< tt)) refl
+
+connected : connected_words 0 ≡ codes "210 Connected table=0"
+connected = rw (decimal_digit 0 (lit< tt)) refl

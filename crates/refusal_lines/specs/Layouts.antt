@@ -1,22 +1,15 @@
 -- What is told of a layout and of trains that are refused.
 use Rattle.std.specs.Prelude.{ℕ, List, ◌++◌, codes, decimal}
-use Rattle.track_layout.specs.declared.refused.What.{What}
-use Rattle.track_layout.specs.declared.refused.What.TheVariants as what
+use Rattle.track_layout.specs.Counted.{name_of}
 use Rattle.track_layout.specs.declared.refused.LayoutRefused.{LayoutRefused}
 use Rattle.track_layout.specs.declared.refused.LayoutRefused.TheVariants as layout
 use Rattle.mission_table.specs.declared.refused.TrainRefused.{TrainRefused}
 use Rattle.mission_table.specs.declared.refused.TrainRefused.TheVariants as trains
 use Rattle.refusal_lines.specs.Fields.{no_memory}
 
--- what there may be too many of
-abbrev pub what_word : What → List ℕ
-what_word what.Points = codes "points"
-what_word what.Links = codes "links"
-what_word what.Zones = codes "zones"
-
 -- The refusals of layouts.
 abbrev pub layout_words : LayoutRefused → List ℕ
-layout_words (layout.TooMany w n) = codes "1 TooMany what=" ++ what_word w ++ codes " count=" ++ decimal n
+layout_words (layout.TooMany w n) = codes "1 TooMany what=" ++ name_of w ++ codes " count=" ++ decimal n
 layout_words (layout.DoubleName p q) = codes "2 DoubleName first=" ++ decimal p ++ codes " second=" ++ decimal q
 layout_words (layout.UnknownPoint k) = codes "3 UnknownPoint link=" ++ decimal k
 layout_words (layout.SelfLink k) = codes "4 SelfLink link=" ++ decimal k

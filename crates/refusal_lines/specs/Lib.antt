@@ -6,3 +6,4 @@ pub mod Starts
 pub mod Certificates
 pub mod Journals
 pub mod Documents
+pub mod Makers

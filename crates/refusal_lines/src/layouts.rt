@@ -1,21 +1,10 @@
 // The words on layouts and trains.
 ghost use Rattle.std.specs.Prelude.{◌≡◌, ◌++◌, OnOk, string_bytes};
-ghost use Rattle.refusal_lines.specs.Layouts.{what_word, layout_words, trains_words};
+ghost use Rattle.refusal_lines.specs.Layouts.{layout_words, trains_words};
 
 use mission_table::TrainRefused;
 use std::alloc::AllocError;
-use track_layout::{LayoutRefused, What};
-
-// What there may be too many of, in a word.
-fn what_word(what: What) -> &'static str
-    ensures { result.now ≡ what_word what }
-{
-    match what {
-        What::Points => "points",
-        What::Links => "links",
-        What::Zones => "zones",
-    }
-}
+use track_layout::LayoutRefused;
 
 /// Adds what is wrong with a layout.
 pub fn push_layout(out: &mut String, refused: &LayoutRefused) -> Result<(), AllocError>
@@ -23,7 +12,7 @@ pub fn push_layout(out: &mut String, refused: &LayoutRefused) -> Result<(), Allo
 {
     match *refused {
         LayoutRefused::TooMany { what, count } => {
-            let what = what_word(what);
+            let what = what.name();
             write!(out, "1 TooMany what={what} count={count}")
         }
         LayoutRefused::DoubleName { first, second } => {

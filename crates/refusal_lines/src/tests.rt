@@ -5,7 +5,7 @@ use document_shapes::{Member, ShapeRefused};
 use layout_json::DocRefused;
 use legal_state::Illegal;
 use move_journal::{BadLine, BadText};
-use rail_model::{Ask, Bad};
+use rail_model::{Ask, Bad, State};
 use section_marks::MarkRefused;
 use std::test::*;
 
@@ -71,5 +71,22 @@ fn others(rt: HostRuntime) -> Result<(), Fail> {
         line.as_str(),
         "ats: 75 Move line=2 Full section=0 count=1\n"
     );
+    Ok(())
+}
+
+#[test]
+fn tables_that_are_not_made(rt: HostRuntime) -> Result<(), Fail> {
+    let alloc = rt.alloc();
+    let met = State::from(Vec::from_slice(alloc, &[1, 1])?);
+    let line = stuck_line(alloc, 0, &met)?;
+    assert_eq!(rt; line.as_str(), "ats: 206 Stuck table=0 at=1,1\n");
+    let line = rounds_line(alloc, 0, 2, &met)?;
+    assert_eq!(rt; line.as_str(), "ats: 209 Rounds table=0 rounds=2 at=1,1\n");
+    let line = spent_line(alloc, 0, 5)?;
+    assert_eq!(rt; line.as_str(), "ats: 205 Spent table=0 nodes=5\n");
+    let line = many_line(alloc, 0, 65)?;
+    assert_eq!(rt; line.as_str(), "ats: 121 Many table=0 count=65\n");
+    let line = connected_line(alloc, 0)?;
+    assert_eq!(rt; line.as_str(), "ats: 210 Connected table=0\n");
     Ok(())
 }

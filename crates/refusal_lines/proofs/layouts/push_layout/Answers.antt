@@ -4,7 +4,7 @@ use Rattle.refusal_lines.proofs.layouts.push_layout.Goals as goal
 
 pub returns-in-TooMany : goal.returns-in-TooMany
 returns-in-TooMany c =
-    rw (c.in-TooMany.is, sym c.what_word-what.ensures, append_assoc c.what_word-what.result.now (codes " count=") (decimal c.in-TooMany.count))
+    rw (c.in-TooMany.is, sym c.name-what.ensures, append_assoc c.name-what.result.now (codes " count=") (decimal c.in-TooMany.count))
     c.write.ensures.bytes
 
 pub returns-in-Name : goal.returns-in-Name
