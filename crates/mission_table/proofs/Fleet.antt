@@ -106,7 +106,7 @@ missions_made L trains lists exits h k =
 few_points : (most n : ℕ) → (n == 0 || nat_lt most n) ≡ false → (1 ≤ n) × (n ≤ most)
 few_points most n test = (grind (arith, nat_tests), grind (arith, nat_tests))
 
-is_mission : (L : Layout) (i : ℕ) (names : List (List ℕ)) (exits : Bool) → mission_refusal L i names exits ≡ None → IsMission (mission_value L names exits)
+pub is_mission : (L : Layout) (i : ℕ) (names : List (List ℕ)) (exits : Bool) → mission_refusal L i names exits ≡ None → IsMission (mission_value L names exits)
 is_mission L i names exits h =
     by L names exits (then_some-none _ _ (option_or-none (bad_length i (length names) exits) _ h).0)
   where
@@ -120,12 +120,12 @@ is_mission L i names exits h =
         let few = few_points 128 (length names) test in
         record { some_point = omega arith; few_places = omega arith }
 
-length-zip : {X Y Z : Type 0} (g : X × Y → Z) (xs : List X) (ys : List Y) → length ys ≡ length xs → length (map g (zip xs ys)) ≡ length xs
+pub length-zip : {X Y Z : Type 0} (g : X × Y → Z) (xs : List X) (ys : List Y) → length ys ≡ length xs → length (map g (zip xs ys)) ≡ length xs
 length-zip g [] ys h = refl
 length-zip g (x ∷ xs) [] h = absurd (omega arith)
 length-zip g (x ∷ xs) (y ∷ ys) h = let later : length (map g (zip xs ys)) ≡ length xs = length-zip g xs ys (omega arith) in omega arith
 
-zip_at : {X Y Z : Type 0} (g : X × Y → Z) (xs : List X) (ys : List Y) (i : ℕ) (d : X) (e : Y) (z : Z) → length ys ≡ length xs → i < length xs
+pub zip_at : {X Y Z : Type 0} (g : X × Y → Z) (xs : List X) (ys : List Y) (i : ℕ) (d : X) (e : Y) (z : Z) → length ys ≡ length xs → i < length xs
     → get_or (map g (zip xs ys)) i z ≡ g (get_or xs i d, get_or ys i e)
 zip_at g [] ys i d e z h lt = absurd (omega arith)
 zip_at g (x ∷ xs) [] i d e z h lt = absurd (omega arith)

@@ -3,3 +3,4 @@ pub mod Fleet
 pub mod Linked
 pub mod Rows
 pub mod Steps
+pub mod Taken

@@ -1,12 +1,15 @@
 -- Worked rows: the first path, the leaving trains, and each refusal once.
-use Rattle.std.proofs.Common.{◌≡◌, ℕ, Bool, true, false, List, [], ◌∷◌, length, Some, None, Ok, Err, refl, sym, ap}
+use Rattle.std.proofs.Common.{◌≡◌, ℕ, true, false, List, [], ◌∷◌, length, Some, None, Ok, Err, refl, sym, ap, ◌∙◌}
 use Rattle.std.specs.Prelude.{codes}
 use Rattle.rail_model.specs.Layout.{Layout}
+use Rattle.rail_model.specs.Table.{Mission}
 use Rattle.mission_table.specs.declared.refused.TrainRefused.TheVariants.{TooMany, Name, DoubleName}
 use Rattle.mission_table.specs.declared.refused.MissionRefused.TheVariants.{Lists, Exits, Length, UnknownPoint, NotLinked}
+use Rattle.mission_table.specs.Missions.{AreMissionsOf}
 use Rattle.mission_table.specs.Roster.{too_many, trains_from}
 use Rattle.mission_table.specs.Ways.{bad_length, missions_from}
 use Rattle.mission_table.proofs.Enrolled.{refused_count}
+use Rattle.mission_table.proofs.Taken.{missions_taken}
 
 two_trains : trains_from (codes "T0" ∷ codes "T1" ∷ []) ≡ Ok (codes "T0" ∷ codes "T1" ∷ [])
 unfolding trains_from
@@ -38,9 +41,15 @@ layout = record {
 abbrev way : List (List ℕ)
 way = codes "A" ∷ codes "B" ∷ codes "C" ∷ []
 
-first_path : missions_from layout 1 (way ∷ []) (false ∷ []) ≡ Ok (record { points = 0 ∷ 1 ∷ 2 ∷ []; exits = false } ∷ [])
+abbrev path : List Mission
+path = record { points = 0 ∷ 1 ∷ 2 ∷ []; exits = false } ∷ []
+
+first_path : missions_from layout 1 (way ∷ []) (false ∷ []) ≡ Ok path
 unfolding missions_from
 first_path = refl
+
+first_path_is_linked : AreMissionsOf layout path
+first_path_is_linked = ((missions_taken layout 1 (way ∷ []) (false ∷ []) path).0 first_path).3
 
 -- two trains that leave the layout behind B
 leaving : missions_from layout 2 ((codes "A" ∷ codes "B" ∷ []) ∷ (codes "C" ∷ codes "B" ∷ []) ∷ []) (true ∷ true ∷ [])
@@ -86,6 +95,11 @@ cut = record layout { links = record { first = 0; second = 1 } ∷ [] }
 not_linked : missions_from cut 1 (way ∷ []) (false ∷ []) ≡ Err (NotLinked 0 2)
 unfolding missions_from
 not_linked = refl
+
+cut_path_is_none : AreMissionsOf cut path → ⊥
+cut_path_is_none are =
+    let taken = (missions_taken cut 1 (way ∷ []) (false ∷ []) path).1 (refl, refl, refl, are) in
+    absurd (let both : Err (NotLinked 0 2) ≡ Ok path = sym not_linked ∙ taken in cc)
 
 -- the first train's places come before the second train's length
 train_by_train : missions_from cut 2 (way ∷ [] ∷ []) (false ∷ false ∷ []) ≡ Err (NotLinked 0 2)

@@ -31,7 +31,7 @@ most_128 : (marks : Marks) → most_limit marks ≤ 128
 most_128 One = omega arith
 most_128 Four = omega arith
 
-up_to : (most n : ℕ) → nat_lt most n ≡ false → n ≤ most
+pub up_to : (most n : ℕ) → nat_lt most n ≡ false → n ≤ most
 up_to most n test = grind (arith, nat_tests)
 
 -- there are as many lists as trains
@@ -51,7 +51,7 @@ one_each missions s changes h =
     ]
 
 -- the shares of a train at its places
-kept : (marks : Marks) (missions : List Mission) (s : ℕ) (changes : List (List ℤ)) (i k : ℕ) → share_refusal marks missions s changes ≡ None → i < length missions
+pub kept : (marks : Marks) (missions : List Mission) (s : ℕ) (changes : List (List ℤ)) (i k : ℕ) → share_refusal marks missions s changes ≡ None → i < length missions
     → k < places missions i → (pos 0 ≤ℤ share_at (changes_of changes i) k) × (share_at (changes_of changes i) k ≤ℤ pos (most_share marks))
 kept marks missions s changes i k h lt there =
     let train = first_below-none (length missions) (λ i. train_refusal marks s i (places missions i) (changes_of changes i)) h i lt in

@@ -1,11 +1,14 @@
 -- Worked rows: the corridor, long trains, a waiting train, and each refusal once.
-use Rattle.std.proofs.Common.{◌≡◌, ℕ, ℤ, pos, negsuc, Bool, false, List, [], ◌∷◌, length, Some, Ok, Err, refl, sym, ap}
-use Rattle.rail_model.specs.Table.{Mission, Section, Table}
-use Rattle.rail_model.specs.Turns.{first_of}
+use Rattle.std.proofs.Common.{◌≡◌, ◌<◌, ℕ, zero, suc, length, ℤ, pos, negsuc, false, List, [], ◌∷◌, Some, Ok, Err, refl, arith}
+use Rattle.std.specs.Prelude.{slice_index_or}
+use Rattle.std.proofs.lemmas.Int.{ints}
+use Rattle.rail_model.specs.Table.{Mission, Section, Table, AreMissions, IsMission}
 use Rattle.section_marks.specs.declared.marks.Marks.TheVariants.{One, Four}
 use Rattle.section_marks.specs.declared.refused.MarkRefused.TheVariants.{TooMany, Limit, Count, Step, Share, Connections, ConnectionTrain, ConnectionPlace}
+use Rattle.section_marks.specs.Keeping.{KeepsTo}
 use Rattle.section_marks.specs.Marking.{too_many, bad_limit, table_from}
 use Rattle.section_marks.specs.Connecting.{too_many as too_many_connections, connected}
+use Rattle.section_marks.proofs.SectionsTaken.{sections_taken}
 
 -- the first path A B C
 abbrev path : List Mission
@@ -26,14 +29,35 @@ corridor_marked : table_from One corridor single ≡ Ok (record { missions = cor
 unfolding table_from
 corridor_marked = refl
 
--- a long train weighs 3 where 4 is allowed
-long_train : table_from Four path (one 4 (pos 0 ∷ pos 3 ∷ negsuc 2 ∷ [])) ≡ Ok (record { missions = path; sections = one 4 (pos 0 ∷ pos 3 ∷ negsuc 2 ∷ []); connections = [] })
+-- a train that weighs 3 in a section
+abbrev long : List Section
+long = one 4 (pos 0 ∷ pos 3 ∷ negsuc 2 ∷ [])
+
+abbrev long_table : Table
+long_table = record { missions = path; sections = long; connections = [] }
+
+-- it is taken where 4 is allowed
+long_train : table_from Four path long ≡ Ok long_table
 unfolding table_from
 long_train = refl
 
 too_long : table_from One path (one 1 (pos 0 ∷ pos 3 ∷ negsuc 2 ∷ [])) ≡ Err (Step 0 0 1 (pos 3))
 unfolding table_from
 too_long = refl
+
+path_formed : AreMissions path
+path_formed = record { few = omega arith; each = at }
+  where
+    at : (i : ℕ) → i < length path → IsMission (slice_index_or path i (record { points = []; exits = false }))
+    at zero lt = record { some_point = omega arith; few_places = omega arith }
+    at (suc i) lt = absurd (omega arith)
+
+-- so its table keeps to 4, and it doesn't keep to 1
+long_keeps : KeepsTo Four long_table
+long_keeps = ((sections_taken Four path long long_table path_formed).0 long_train).2
+
+long_is_too_long : KeepsTo One long_table → ⊥
+long_is_too_long keeps = let low = keeps.shares 0 0 1 (omega arith) (omega arith) (omega arith) in omega (arith, ints)
 
 many : too_many 65 ≡ Some (TooMany 65)
 many = refl

@@ -1,3 +1,4 @@
 pub mod Connecting
+pub mod Keeping
 pub mod Marking
 pub mod Seen

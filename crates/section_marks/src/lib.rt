@@ -2,6 +2,7 @@
 #![tactic(auto)]
 
 mod connecting;
+mod laws;
 mod making;
 mod marks;
 mod refused;
@@ -10,6 +11,9 @@ mod shares;
 mod tests;
 
 pub use connecting::connections;
+pub use laws::{
+    exactly_connections_of_the_table_are_taken, exactly_sections_of_the_missions_are_taken,
+};
 pub use making::sections;
 pub use marks::Marks;
 pub use refused::MarkRefused;

@@ -35,7 +35,7 @@ pub names_made : (points : List (List ℕ × ℕ)) (links : List (List ℕ × Li
 names_made [] links zones = refl
 names_made (p ∷ ps) links zones = ap (λ ns. p.0 ∷ ns) (names_made ps links zones)
 
-zone_made : (points : List (List ℕ × ℕ)) (links : List (List ℕ × List ℕ)) (zones q : ℕ) → zone (layout_value points links zones) q ≡ get_or (zones_of points) q 0
+pub zone_made : (points : List (List ℕ × ℕ)) (links : List (List ℕ × List ℕ)) (zones q : ℕ) → zone (layout_value points links zones) q ≡ get_or (zones_of points) q 0
 zone_made [] links zones q = refl
 zone_made (p ∷ ps) links zones zero = refl
 zone_made (p ∷ ps) links zones (suc q) = zone_made ps links zones q

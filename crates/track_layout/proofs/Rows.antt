@@ -1,5 +1,5 @@
 -- Worked rows: the first path's layout, and each refusal once.
-use Rattle.std.proofs.Common.{◌≡◌, ℕ, List, [], ◌∷◌, length, Some, Ok, Err, refl, sym, ap}
+use Rattle.std.proofs.Common.{◌≡◌, ℕ, List, [], ◌∷◌, length, Ok, Err, refl, sym, ap}
 use Rattle.std.specs.Prelude.{codes}
 use Rattle.rail_model.specs.Turns.{first_of}
 use Rattle.track_layout.specs.declared.refused.What.TheVariants.{Points, Links, Zones}

@@ -1,3 +1,4 @@
+pub mod Counted
 pub mod Doubling
 pub mod Making
 pub mod Numbering

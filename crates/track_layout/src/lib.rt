@@ -1,6 +1,7 @@
 //! A layout is made of points, links and zones that fit together, or the first thing wrong with them is named.
 #![tactic(auto)]
 
+mod laws;
 mod lookup;
 mod making;
 mod numbers;
@@ -8,6 +9,7 @@ mod refused;
 #[cfg(test)]
 mod tests;
 
+pub use laws::exactly_layouts_are_taken;
 pub use lookup::number_of;
 pub use making::layout;
 pub use numbers::{NotNumbered, Numbers};

@@ -1,5 +1,6 @@
 // What is wrong with a layout.
-ghost use Rattle.std.specs.Prelude.{◌≡◌};
+ghost use Rattle.std.specs.Prelude.{◌≡◌, Some};
+ghost use Rattle.track_layout.specs.Counted.{name_of};
 
 use crate::NotNumbered;
 use std::alloc::{AllocError, AllocFailed};
@@ -14,13 +15,24 @@ pub enum What {
     Zones,
 }
 
-impl fmt::Display for What {
-    fn fmt<W: fmt::Write>(&self, f: &mut fmt::Formatter<W>) -> fmt::Result {
-        f.write_str(match self {
+impl What {
+    /// What there may be too many of, in a word.
+    pub fn name(self) -> &'static str
+        ensures { result.now ≡ name_of self }
+    {
+        match self {
             What::Points => "points",
             What::Links => "links",
             What::Zones => "zones",
-        })
+        }
+    }
+}
+
+impl fmt::Display for What {
+    ghost output = { λ what. Some (name_of what) };
+
+    fn fmt<W: fmt::Write>(&self, f: &mut fmt::Formatter<W>) -> fmt::Result {
+        fmt::Display::fmt(self.name(), f)
     }
 }
 
