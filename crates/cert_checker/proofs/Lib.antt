@@ -1,16 +1,7 @@
-pub mod Carrying
-pub mod Clash
-pub mod Counts
 pub mod Cutting
-pub mod Each
 pub mod Ends
-pub mod From
-pub mod Growing
-pub mod Joins
-pub mod Outlooks
-pub mod Room
+pub mod Rows
 pub mod Stack
 pub mod Steps
-pub mod Surely
 pub mod Visiting
 pub mod Whole

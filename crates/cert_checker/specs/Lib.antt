@@ -1,10 +1,5 @@
-pub mod Carried
 pub mod Cut
-pub mod Each
-pub mod Extremes
 pub mod Faults
-pub mod Lookup
 pub mod Open
 pub mod Places
-pub mod Sightings
 pub mod Walked

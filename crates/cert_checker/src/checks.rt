@@ -5,11 +5,10 @@ ghost use Rattle.rail_model.specs.Table.{IsTable};
 ghost use Rattle.cert_checker.specs.Faults.{HasFault};
 
 use crate::CheckFault;
-use crate::carried::Carried;
-use crate::lookup::Lookup;
 use crate::walk::visit_tree;
 use cert_tree::Cert;
 use rail_model::Table;
+use range_sums::{Lists, RangeSums};
 use std::alloc::Global;
 
 /// Whether each node of the certificate is good in its box; else the first that isn't.
@@ -20,7 +19,7 @@ pub fn check(alloc: Global, table: &Table, cert: &Cert) -> Result<(), CheckFault
     ensures bad { IfErr result (HasFault table.now cert.now) }
     ensures formed { IsTable table.now }
 {
-    let carried = Carried::full(alloc, table)?;
-    let lookup = Lookup::new(alloc, table)?;
-    visit_tree(alloc, table, &lookup, carried, cert.as_slice(), 0)
+    let sums = RangeSums::full(alloc, table)?;
+    let lists = Lists::new(alloc, table)?;
+    visit_tree(alloc, table, &lists, sums, cert.as_slice(), 0)
 }

@@ -3,38 +3,14 @@ ghost use Rattle.std.specs.Prelude.{◌≡◌, ℕ, ◌+◌, ◌<◌, ◌≤◌,
 ghost use Rattle.rail_model.specs.declared.types.Node.TheVariants.{Move as MoveNode};
 ghost use Rattle.rail_model.specs.Table.{IsTable, trains, last};
 ghost use Rattle.rail_model.specs.Move.{IsFirstOrNone};
-ghost use Rattle.rail_model.specs.Certificate.{range, IsBox, IsAtEnd, MayBlock, MayBeFull, MayBeHeld};
-ghost use Rattle.cert_checker.specs.Places.{IsAway};
+ghost use Rattle.rail_model.specs.Certificate.{range, IsBox, MayBlock, MayBeFull, MayBeHeld};
+ghost use Rattle.range_sums.specs.Places.{IsAway};
 ghost use Rattle.cert_checker.specs.Faults.{Judges};
 
-use crate::places::{clashes, may_be_full, may_be_held, may_block};
-use crate::ranges::Ranges;
+use crate::places::{clashes, may_be_full, may_block};
 use crate::shares::least_count;
-use rail_model::{Bad, Node, Table, connections_of, last_of, limit_of, sections_of, trains_of};
-
-// Whether a train is at its last place alone.
-fn is_at_end(table: &Table, ranges: &Ranges, train: u32) -> bool
-    requires size { length ranges.now ≡ trains table.now }
-    requires train { train < trains table.now }
-    ensures { IsTrue result ↔ IsAtEnd table.now ranges.now train }
-{
-    let last = last_of(table, train);
-    let span = ranges.span(train);
-    span.lo() == last && span.hi() == last
-}
-
-// The first train that isn't at its last place alone.
-pub fn first_away(table: &Table, ranges: &Ranges) -> Option<u32>
-    requires { length ranges.now ≡ trains table.now }
-    ensures { IsFirstOrNone (IsAway table.now ranges.now) result }
-{
-    for train in 0..trains_of(table) {
-        if !is_at_end(table, ranges, train) {
-            return Some(train);
-        }
-    }
-    None
-}
+use rail_model::{Bad, Node, Table, last_of, limit_of, sections_of, trains_of};
+use range_sums::{Ranges, first_away, first_holder};
 
 // The first train that may block a train's move.
 fn first_blocker(table: &Table, ranges: &Ranges, train: u32) -> Option<u32>
@@ -60,20 +36,6 @@ fn first_full(table: &Table, ranges: &Ranges, train: u32) -> Option<u32>
     for section in 0..sections_of(table) {
         if may_be_full(table, ranges, train, section) {
             return Some(section);
-        }
-    }
-    None
-}
-
-// The first connection that may hold a train.
-pub fn first_holder(table: &Table, ranges: &Ranges, train: u32) -> Option<u32>
-    requires size { length ranges.now ≡ trains table.now }
-    requires train { train < trains table.now }
-    ensures { IsFirstOrNone (MayBeHeld table.now ranges.now train) result }
-{
-    for number in 0..connections_of(table) {
-        if may_be_held(table, ranges, train, number) {
-            return Some(number);
         }
     }
     None

@@ -2,21 +2,16 @@
 #![tactic(auto)]
 
 mod accepted;
-mod carried;
 mod checks;
-mod extremes;
 mod faults;
 mod good;
+mod halves;
 mod leaves;
-mod levels;
-mod lookup;
 mod par;
 mod parts;
 mod places;
 mod plain;
-mod ranges;
 mod shares;
-mod sightings;
 mod walk;
 
 pub use accepted::{Accepted, accept, accept_par};

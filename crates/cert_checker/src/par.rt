@@ -5,15 +5,14 @@ ghost use Rattle.rail_model.specs.Table.{IsTable};
 ghost use Rattle.rail_model.specs.Certificate.{Accepts};
 ghost use Rattle.cert_checker.specs.Cut.{IsPart, IsChecked, first_fault as first_fault_of};
 ghost use Rattle.cert_checker.specs.Faults.{HasFault};
-ghost use Rattle.cert_checker.specs.Lookup.{IsLookup};
+ghost use Rattle.range_sums.specs.Sums.{AreLists};
 
 use crate::CheckFault;
-use crate::carried::Carried;
-use crate::lookup::Lookup;
 use crate::parts::{Part, cut};
 use crate::walk::visit_tree;
 use cert_tree::Cert;
 use rail_model::{Node, Table};
+use range_sums::{Lists, RangeSums};
 use rayon::prelude::*;
 use std::alloc::{AllocError, Global};
 use std::thread::Threads;
@@ -22,18 +21,18 @@ use std::thread::Threads;
 fn check_part(
     alloc: Global,
     table: &Table,
-    lookup: &Lookup,
+    lists: &Lists,
     nodes: &[Node],
     part: &Part,
 ) -> Result<(), CheckFault>
-    requires lookup { IsLookup table.now lookup.now }
+    requires lists { AreLists table.now lists.now }
     requires few { length nodes.now ≤ 1000000 }
     requires part { IsPart table.now nodes.now part.now }
     ensures { IsChecked table.now nodes.now part.now result }
 {
     let ranges = part.ranges.copy(alloc)?;
-    let carried = Carried::new(alloc, table, ranges)?;
-    visit_tree(alloc, table, lookup, carried, nodes, part.first)
+    let sums = RangeSums::new(alloc, table, ranges)?;
+    visit_tree(alloc, table, lists, sums, nodes, part.first)
 }
 
 // The answers of the parts, in order, from as many threads as there are processors.
@@ -41,11 +40,11 @@ fn check_parts(
     rt: &(impl Threads + Sync),
     alloc: Global,
     table: &Table,
-    lookup: &Lookup,
+    lists: &Lists,
     nodes: &[Node],
     parts: &[Part],
 ) -> Result<Vec<Result<(), CheckFault>>, AllocError>
-    requires lookup { IsLookup table.now lookup.now }
+    requires lists { AreLists table.now lists.now }
     requires few { length nodes.now ≤ 1000000 }
     requires parts { All (λ p. IsPart table.now nodes.now p) parts.now }
     ensures { IfOk result (λ answers. AllZip (λ p r. IsChecked table.now nodes.now p r) parts.now answers.items) }
@@ -55,9 +54,9 @@ fn check_parts(
         .with_min_len(1)
         .map(
             |part: &Part| -> Result<(), CheckFault>
-                requires { IsLookup table.now lookup.now × (length nodes.now ≤ 1000000) × IsPart table.now nodes.now part.now }
+                requires { AreLists table.now lists.now × (length nodes.now ≤ 1000000) × IsPart table.now nodes.now part.now }
                 ensures { IsChecked table.entry.now nodes.entry.now part.now result }
-            { check_part(alloc, table, lookup, nodes, part) },
+            { check_part(alloc, table, lists, nodes, part) },
         )
         .collect(rt, alloc)
 }
@@ -89,7 +88,7 @@ pub fn check_par(
 {
     let nodes = cert.as_slice();
     let parts = cut(alloc, table, nodes)?;
-    let lookup = Lookup::new(alloc, table)?;
-    let answers = check_parts(rt, alloc, table, &lookup, nodes, &parts)?;
+    let lists = Lists::new(alloc, table)?;
+    let answers = check_parts(rt, alloc, table, &lists, nodes, &parts)?;
     first_fault(&answers)
 }

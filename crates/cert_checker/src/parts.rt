@@ -5,8 +5,9 @@ ghost use Rattle.rail_model.specs.Certificate.{IsBox, full_box as full_box_of, p
 ghost use Rattle.cert_checker.specs.Cut.{Visited, wanted_behind, IsEnd, IsPart, IsCut, Divides, IsDivided};
 ghost use Rattle.cert_checker.specs.Walked.{walked};
 
-use crate::ranges::{Ranges, full_box, halves};
+use crate::halves::halves;
 use rail_model::{Node, Table, trains_of};
+use range_sums::{Ranges, full_box};
 use std::alloc::{AllocError, Global};
 
 /// With so many parts a tree is not cut further.

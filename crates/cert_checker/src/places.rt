@@ -1,25 +1,13 @@
 // Tests of a box that leaves make.
 ghost use Rattle.std.specs.Prelude.{◌≡◌, ◌≢◌, ℕ, ◌+◌, ◌<◌, ◌≤◌, Some, length, IsTrue, ◌↔◌};
 ghost use Rattle.rail_model.specs.Table.{IsTable, trains, last, point};
-ghost use Rattle.rail_model.specs.Certificate.{range, IsIn, IsBox, IsClash, MayBlock, MayBeFull, MayBeHeld};
-ghost use Rattle.cert_checker.specs.Places.{StaysAt, Passes, IsAhead};
+ghost use Rattle.rail_model.specs.Certificate.{range, IsIn, IsBox, IsClash, MayBlock, MayBeFull};
+ghost use Rattle.range_sums.specs.Places.{IsAhead};
+ghost use Rattle.cert_checker.specs.Places.{Passes};
 
-use crate::ranges::{Ranges, Span};
 use crate::shares::others_count;
-use rail_model::{Table, change_at, connection_of, has_point, limit_of, point_of, share_at};
-
-// Whether a train has one point at all places of a span.
-fn stays_at(table: &Table, train: u32, span: Span, at: u32) -> bool
-    requires train { train < trains table.now }
-    ensures { IsTrue result ↔ StaysAt table.now train span at }
-{
-    for place in span.lo()..=span.hi() {
-        if !has_point(table, train, place, at) {
-            return false;
-        }
-    }
-    true
-}
+use rail_model::{Table, change_at, has_point, limit_of, point_of, share_at};
+use range_sums::{Ranges, Span, stays_at};
 
 // Whether a train has the point at some place of a span.
 fn passes(table: &Table, train: u32, span: Span, at: u32) -> bool
@@ -107,19 +95,4 @@ pub fn may_be_full(table: &Table, ranges: &Ranges, train: u32, section: u32) -> 
         }
     }
     false
-}
-
-// Whether a connection may hold a train.
-pub fn may_be_held(table: &Table, ranges: &Ranges, train: u32, number: u32) -> bool
-    requires size { length ranges.now ≡ trains table.now }
-    requires train { train < trains table.now }
-    requires connection { number < length table.now.connections }
-    ensures { IsTrue result ↔ MayBeHeld table.now ranges.now train number }
-{
-    let connection = connection_of(table, number);
-    let span = ranges.span(train);
-    connection.train() == train
-        && span.lo() <= connection.place()
-        && connection.place() <= span.hi()
-        && ranges.span(connection.other()).lo() < connection.reached()
 }

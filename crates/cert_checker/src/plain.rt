@@ -6,10 +6,11 @@ ghost use Rattle.cert_checker.specs.Faults.{HasFault};
 ghost use Rattle.cert_checker.specs.Open.{opened};
 
 use crate::CheckFault;
+use crate::halves::halves;
 use crate::leaves::check_node;
-use crate::ranges::{Ranges, full_box, halves};
 use cert_tree::Cert;
 use rail_model::{Node, Table};
+use range_sums::{Ranges, full_box};
 use std::alloc::{AllocError, AllocFailed, Global};
 
 // The boxes that are open behind a node, the last to be visited next.

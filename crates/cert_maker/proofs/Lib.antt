@@ -4,6 +4,7 @@ pub mod Exists
 pub mod First
 pub mod Grown
 pub mod Loop
+pub mod Marks
 pub mod Meaning
 pub mod Rows
 pub mod StuckFound

@@ -1,5 +1,6 @@
 // Boxes: a range of places for each train.
 ghost use Rattle.std.specs.Prelude.{◌≡◌, ◌<◌, List, length, IfOk, map, slice_set};
+ghost use Rattle.rail_model.specs.Table.{IsTable};
 ghost use Rattle.rail_model.specs.Certificate.{range, full_box as full_box_of};
 
 use rail_model::{State, Table, last_of, trains_of};
@@ -92,7 +93,8 @@ impl Ranges {
 
 /// All places of all trains.
 pub fn full_box(alloc: Global, table: &Table) -> Result<Ranges, AllocError>
-    ensures { IfOk result (λ ranges. ranges ≡ full_box_of table.now) }
+    ensures full { IfOk result (λ ranges. ranges ≡ full_box_of table.now) }
+    ensures formed { IsTable table.now }
 {
     let mut items = Vec::new(alloc);
     for train in 0..trains_of(table) {

@@ -95,8 +95,8 @@ fn move_sums(
 
 impl RangeSums {
     ghost use Rattle.std.specs.Prelude.{◌≡◌, ◌<◌, ◌≤◌, length, IfOk, slice_set, slice_index_or};
-    ghost use Rattle.rail_model.specs.Table.{trains, last};
-    ghost use Rattle.rail_model.specs.Certificate.{full_box as full_box_of};
+    ghost use Rattle.rail_model.specs.Table.{IsTable, trains, last};
+    ghost use Rattle.rail_model.specs.Certificate.{IsBox, full_box as full_box_of};
     ghost use Rattle.range_sums.specs.Extremes.{IsShares};
     ghost use Rattle.range_sums.specs.Sums.{no_sum, AreSums};
 
@@ -104,8 +104,18 @@ impl RangeSums {
     pub fn full(alloc: Global, table: &Table) -> Result<RangeSums, AllocError>
         ensures ranges { IfOk result (λ s. s.ranges ≡ full_box_of table.now) }
         ensures sums { IfOk result (AreSums table.now) }
+        ensures formed { IsTable table.now }
     {
         let ranges = full_box(alloc, table)?;
+        RangeSums::new(alloc, table, ranges)
+    }
+
+    /// A box with its sums.
+    pub fn new(alloc: Global, table: &Table, ranges: Ranges) -> Result<RangeSums, AllocError>
+        requires { IsBox table.now ranges }
+        ensures ranges { IfOk result (λ s. s.ranges ≡ ranges) }
+        ensures sums { IfOk result (AreSums table.now) }
+    {
         let sums = all_sums(alloc, table, &ranges)?;
         Ok(RangeSums { ranges, sums })
     }

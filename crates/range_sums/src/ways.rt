@@ -1,6 +1,6 @@
 // The spots at which other trains may stand in a train's way, listed once for a table.
-ghost use Rattle.std.specs.Prelude.{◌≡◌, ℕ, ◌+◌, ◌<◌, ◌≤◌, ◌++◌, ◌==◌, ◌^◌, ◌∷◌, if◌then◌else◌, [], find, length, All, IfOk, OnOk, IsTrue, ◌↔◌, option_map, slice_index_or};
-ghost use Rattle.rail_model.specs.Table.{trains, last};
+ghost use Rattle.std.specs.Prelude.{MatchOption, Some, ◌≡◌, ℕ, ◌+◌, ◌<◌, ◌≤◌, ◌++◌, ◌==◌, ◌^◌, ◌∷◌, if◌then◌else◌, [], find, length, All, IfOk, OnOk, IsTrue, ◌↔◌, option_map, slice_index_or};
+ghost use Rattle.rail_model.specs.Table.{trains, last, point};
 ghost use Rattle.rail_model.specs.Move.{IsFirstOrNone};
 ghost use Rattle.rail_model.specs.Certificate.{IsBox, MayBlock};
 ghost use Rattle.range_sums.specs.Each.{IsEach};
@@ -173,17 +173,28 @@ fn is_covered(ranges: &Ranges, spot: Spot) -> bool
     span.lo() <= spot.place && spot.place <= span.hi()
 }
 
-// The train of the first spot that is in the range of its train.
-fn first_covered(spots: &[Spot], ranges: &Ranges) -> Option<u32>
+// The first spot that is in the range of its train.
+fn first_covered(spots: &[Spot], ranges: &Ranges) -> Option<Spot>
     requires { All (λ s. s.train < length ranges.now) spots.now }
-    ensures { result ≡ option_map (λ s. s.train) (find (is_covered_of ranges.now) spots.now) }
+    ensures { result ≡ find (is_covered_of ranges.now) spots.now }
 {
     for &spot in spots {
         if is_covered(ranges, spot) {
-            return Some(spot.train);
+            return Some(spot);
         }
     }
     None
+}
+
+// The first spot at which another train may stand at the point behind a place of a train.
+fn first_spot(ways: &Ways, table: &Table, ranges: &Ranges, train: u32, place: u32) -> Option<Spot>
+    requires ways { AreWays table.now ways.now }
+    requires boxed { IsBox table.now ranges.now }
+    requires train { train < trains table.now }
+    requires place { place ≤ last table.now train }
+    ensures { IsFirstOrNone (IsInWay table.now ranges.now train place) (option_map (λ s. s.train) result) }
+{
+    first_covered(ways.ahead(train, place), ranges)
 }
 
 /// The first other train that may stand at the point behind a place of a train.
@@ -200,21 +211,74 @@ pub fn first_in_way(
     requires place { place ≤ last table.now train }
     ensures { IsFirstOrNone (IsInWay table.now ranges.now train place) result }
 {
-    first_covered(ways.ahead(train, place), ranges)
+    match first_spot(ways, table, ranges, train, place) {
+        Some(spot) => Some(spot.train),
+        None => None,
+    }
 }
 
-/// Whether another train may stand at the point behind some place of a train's range.
-pub fn is_blocked(ways: &Ways, table: &Table, ranges: &Ranges, train: u32) -> bool
+/// A place of a train, and a spot at the point behind it at which another train may stand in some box.
+#[derive(Clone, Copy)]
+pub struct Block {
+    pub place: u32,
+    pub spot: Spot,
+}
+
+impl Block {
+    /// What is no block of the train in any box, since a train doesn't block itself.
+    pub fn of_none(train: u32) -> Block
+        ensures { result ≡ record { place = 0; spot = record { train = train; place = 0 } } }
+    {
+        Block {
+            place: 0,
+            spot: Spot { train, place: 0 },
+        }
+    }
+}
+
+/// The first block of a train from its first place on.
+pub fn first_block(ways: &Ways, table: &Table, ranges: &Ranges, train: u32) -> Option<Block>
     requires ways { AreWays table.now ways.now }
     requires boxed { IsBox table.now ranges.now }
     requires train { train < trains table.now }
-    ensures { IsTrue result ↔ ((j : ℕ) × MayBlock table.now ranges.now train j) }
+    ensures { MatchOption result ((j : ℕ) → MayBlock table.now ranges.now train j → ⊥) (λ _. (j : ℕ) × MayBlock table.now ranges.now train j) }
 {
     let span = ranges.span(train);
     for place in span.lo()..=span.hi() {
-        if let Some(_) = first_in_way(ways, table, ranges, train, place) {
-            return true;
+        if let Some(spot) = first_spot(ways, table, ranges, train, place) {
+            return Some(Block { place, spot });
         }
     }
-    false
+    None
+}
+
+// Whether a spot has the point behind a place of a train.
+fn is_ahead(table: &Table, train: u32, place: u32, spot: Spot) -> bool
+    requires train { train < trains table.now }
+    requires place { place < 2 ^ 31 }
+    requires spot { spot.train < trains table.now }
+    ensures { IsTrue result ↔ ((q : ℕ) × (point table.now train (place + 1) ≡ Some q) × (point table.now spot.train spot.place ≡ Some q)) }
+{
+    match point_of(table, train, place + 1) {
+        Some(at) => has_point(table, spot.train, spot.place, at),
+        None => false,
+    }
+}
+
+/// Whether a block that was found in some box is one in this box too.
+pub fn is_block(table: &Table, ranges: &Ranges, train: u32, block: Block) -> bool
+    requires boxed { IsBox table.now ranges.now }
+    requires train { train < trains table.now }
+    ensures { IsTrue result → ((j : ℕ) × MayBlock table.now ranges.now train j) }
+{
+    let spot = block.spot;
+    let own = Spot {
+        train,
+        place: block.place,
+    };
+    spot.train != train
+        && spot.train < trains_of(table)
+        && is_covered(ranges, own)
+        && is_covered(ranges, spot)
+        && is_ahead(table, train, block.place, spot)
 }

@@ -8,10 +8,10 @@ pub returns : goal.returns
 returns c =
     let T = c.args.table.now in
     let cert = c.args.cert.now in
-    let same : walked (c.in_ok-carried.carried.ranges ∷ []) (drop 0 c.as_slice.result.now) ≡ visits (full_box T) cert =
-    (λ k. walked (c.in_ok-carried.ensures.full k ∷ []) (drop 0 (c.as_slice.ensures.nodes k))) ∙ walk_whole cert (full_box T) in
+    let same : walked (c.in_ok-sums.sums.ranges ∷ []) (drop 0 c.as_slice.result.now) ≡ visits (full_box T) cert =
+    (λ k. walked (c.in_ok-sums.ensures.ranges k ∷ []) (drop 0 (c.as_slice.ensures.nodes k))) ∙ walk_whole cert (full_box T) in
     record {
       accepted = on_ok T cert _ c.visit_tree.result same c.visit_tree.ensures.good;
       bad = on_err T cert _ c.visit_tree.result same c.visit_tree.ensures.bad;
-      formed = c.in_ok-carried.ensures.formed;
+      formed = c.in_ok-sums.ensures.formed;
     }

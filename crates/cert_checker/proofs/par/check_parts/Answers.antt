@@ -26,7 +26,7 @@ collect-requires g c κs =
                 frees,
                 rw c.map.ensures.f (λ k d lt x e. (
                   (
-                    c.requires.lookup,
+                    c.requires.lists,
                     c.requires.few,
                     subst (IsPart T nodes) (sym (e ∙ ap (λ (ps : List Part). get_or ps k d) slice)) (c.requires.parts k d (subst (λ (ps : List Part). k < length ps) slice lt)),
                   ),

@@ -1,14 +1,14 @@
 use Rattle.std.proofs.Common.{◌≡◌, reverse, vec_len}
 use Rattle.std.specs.Prelude.{All}
-use Rattle.cert_checker.specs.Carried.{IsCarried}
+use Rattle.range_sums.specs.Sums.{AreSums}
 use Rattle.cert_checker.specs.Walked.{IsStep, waiting}
 use Rattle.cert_checker.proofs.walk.advance.Given as goal
 
 abbrev pub invariant-loop-step : goal.invariant-loop-step
 invariant-loop-step l = record {
-  carried : IsCarried l.table l.carried.ranges l.carried.sums.items;
+  sums : AreSums l.table l.sums;
   steps : All (λ step. IsStep l.table step) l.steps.items;
-  boxes : waiting l.initial.carried.ranges (reverse l.initial.steps.items) ≡ waiting l.carried.ranges (reverse l.steps.items);
+  boxes : waiting l.initial.sums.ranges (reverse l.initial.steps.items) ≡ waiting l.sums.ranges (reverse l.steps.items);
 }
 
 abbrev pub decreases-loop-step : goal.decreases-loop-step

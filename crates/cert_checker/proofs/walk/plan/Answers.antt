@@ -11,7 +11,7 @@ use Rattle.cert_checker.proofs.walk.plan.Goals as goal
 
 pub returns-in_ok-push-3-clause-boxes : goal.returns-in_ok-push-3-clause-boxes
 returns-in_ok-push-3-clause-boxes c =
-    let B = c.args.carried.now.ranges in
+    let B = c.args.sums.now.ranges in
     let old = c.args.steps.now.items in
     let pushed = c.in_ok-push-3.ensures.items
     ∙ ap (λ (steps : List Step). steps ++ c.step_left.result ∷ []) (c.in_ok-push-2.ensures.items ∙ ap (λ (steps : List Step). steps ++ c.step_right.result ∷ []) c.in_ok-push.ensures.items) in
@@ -22,11 +22,11 @@ returns-in_ok-push-3-clause-boxes c =
 pub returns-in_ok-push-3-clause-steps : goal.returns-in_ok-push-3-clause-steps
 returns-in_ok-push-3-clause-steps c =
     let T = c.args.table.now in
-    let B = c.args.carried.now.ranges in
+    let B = c.args.sums.now.ranges in
     let i = c.in-Split.train in
     let m = c.in-Split.place in
     let good : IsSplit T B i m = subst (IsGood T B) c.in-Split.is c.requires.good in
-    let ends = c.requires.carried.boxed.in_range i good.0 in
+    let ends = c.requires.sums.boxed.in_range i good.0 in
     let pushed = c.in_ok-push-3.ensures.items
     ∙ ap (λ (steps : List Step). steps ++ c.step_left.result ∷ []) (c.in_ok-push-2.ensures.items ∙ ap (λ (steps : List Step). steps ++ c.step_right.result ∷ []) c.in_ok-push.ensures.items) in
     let back : IsStep T c.step_back.result = subst (IsStep T) (sym c.step_back.ensures) (record { train = good.0; some = omega (arith, good); in_range = ends }) in

@@ -1,6 +1,0 @@
-use Rattle.cert_checker.specs.Each.{IsEach}
-use Rattle.cert_checker.specs.Extremes.{IsTrainShares, no_shares}
-use Rattle.cert_checker.proofs.levels.Shares.new.Given as goal
-
-abbrev pub invariant-loop-train : goal.invariant-loop-train
-invariant-loop-train l = IsEach (λ i S. IsTrainShares l.table i S) l.train no_shares l.trains.items

@@ -1,6 +1,0 @@
-use Rattle.cert_checker.specs.Each.{IsEach}
-use Rattle.cert_checker.specs.Extremes.{IsPick}
-use Rattle.cert_checker.proofs.levels.TrainShares.new.Given as goal
-
-abbrev pub invariant-loop-more : goal.invariant-loop-more
-invariant-loop-more l = IsEach (λ more picked. IsPick l.levels.items more picked) l.more 0 l.picks.items
