@@ -1,5 +1,6 @@
 -- What a step for each item makes of a list.
-use Rattle.std.proofs.Common.{◌≡◌, ℕ, zero, suc, ◌+◌, ◌<◌, List, [], ◌∷◌, length, get_or, map, All, Result, Ok, Err, refl, sym, ap, ap₂, subst, ◌∙◌, arith}
+use Rattle.std.proofs.Common.{◌≡◌, ℕ, zero, suc, ◌+◌, ◌<◌, List, [], ◌∷◌, length, get_or, map, All, Result, Ok, Err, refl, sym, ap, subst, ◌∙◌, arith}
+use Rattle.std.specs.List.{AllZip}
 use Rattle.std.proofs.lemmas.List.Elements.{All-head, All-tail}
 use Rattle.rail_model.specs.Turns.{in_turn}
 use Rattle.document_shapes.specs.Each.{each_from}
@@ -61,3 +62,18 @@ module _ {A B E : Type 0} (step : ℕ → A → Result B E) where
       let one = again t x p.head (All-head Q x xs q) p.first in
       let more = each-again Q back again (t + 1) xs p.tail (All-tail Q x xs q) p.rest in
       subst (λ zs. each_from step t (map back zs) ≡ Ok zs) p.whole (rw (one, more) refl)
+
+-- steps that give their own items again, where items and steps are changed
+pub each-changed : {A B E : Type 0} (step step' : ℕ → A → Result B E) (R : B → B → Type 0) (back again : B → A)
+    → ((t : ℕ) (y z : B) → R y z → step t (back y) ≡ Ok y → step' t (again z) ≡ Ok z)
+    → (t : ℕ) (ys zs : List B) → AllZip R ys zs → each_from step t (map back ys) ≡ Ok ys → each_from step' t (map again zs) ≡ Ok zs
+each-changed step step' R back again one t [] [] r h = refl
+each-changed step step' R back again one t [] (z ∷ zs) r h = absurd r
+each-changed step step' R back again one t (y ∷ ys) [] r h = absurd r
+each-changed step step' R back again one t (y ∷ ys) (z ∷ zs) r h =
+    let p = parts step t (back y) (map back ys) (y ∷ ys) h in
+    let head : p.head ≡ y = let w = p.whole in cc in
+    let tail : p.tail ≡ ys = let w = p.whole in cc in
+    let first = one t y z r.0 (p.first ∙ ap Ok head) in
+    let rest = each-changed step step' R back again one (t + 1) ys zs r.1 (p.rest ∙ ap Ok tail) in
+    rw (first, rest) refl

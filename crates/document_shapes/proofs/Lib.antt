@@ -7,3 +7,14 @@ pub mod TurnLemmas
 pub mod ObjectLemmas
 pub mod EachLemmas
 pub mod Versions
+pub mod PlainLemmas
+pub mod BackLemmas
+pub mod Trailing
+pub mod ListWritten
+pub mod PartsBack
+pub mod SeenLemmas
+pub mod MemberOrder
+pub mod TableWritten
+pub mod TableValue
+pub mod DocWritten
+pub mod TextBack

@@ -1,5 +1,5 @@
 -- What is read has just the members of its version.
-use Rattle.std.proofs.Common.{◌≡◌, ℕ, ◌+◌, ◌<◌, ◌≤◌, List, All, Bool, Option, Some, None, true, false, Result, Ok, Err, inl, inr, refl, sym, ap, ◌∙◌, subst, arith, get_or}
+use Rattle.std.proofs.Common.{◌≡◌, ℕ, ◌<◌, ◌≤◌, List, Bool, Option, Some, None, false, Result, Ok, Err, inl, inr, sym, ap, ◌∙◌, subst, arith}
 use Rattle.std.proofs.lemmas.Bool.Decides.{nat_tests, leb_tells}
 use Rattle.std.specs.Prelude.{nat_le, ok_or}
 use Rattle.serde_json.specs.Data.{Data}

@@ -9,3 +9,4 @@ pub mod Values
 pub mod SeenSection
 pub mod Seen
 pub mod Written
+pub mod ReadsBack

@@ -1,6 +1,6 @@
 -- The text of a document: compact, its members in the byte order of their names, and a newline.
-use Rattle.std.specs.Prelude.{ℕ, ℤ, Bool, List, [], ◌∷◌, ◌++◌, codes, map, Option, Some, None, option_map}
-use Rattle.serde_json.specs.Data.{Data, boolean, number, string, array, object, unsigned, Items, no_items, item, Members, no_members, member}
+use Rattle.std.specs.Prelude.{ℕ, ℤ, List, [], ◌∷◌, ◌++◌, codes, map, Option, Some, None, option_map}
+use Rattle.serde_json.specs.Data.{Data, boolean, number, string, array, object, unsigned, no_items, item, Members, no_members, member, put}
 use Rattle.serde_json.specs.Find.{of_integer}
 use Rattle.serde_json.specs.View.{items_of}
 use Rattle.serde_json.specs.Written.{compact_text}
@@ -31,9 +31,12 @@ node_data (Overfull s) = list_data whole_data (2 ∷ s ∷ [])
 node_data Arrived = list_data whole_data (3 ∷ [])
 node_data (Move i) = list_data whole_data (4 ∷ i ∷ [])
 
+-- a section's members, in the byte order of their names
+abbrev pub section_of : Data → ℕ → Data
+section_of changes limit = object (member (codes "changes") changes (member (codes "limit") (whole_data limit) no_members))
+
 abbrev pub section_data : Section → Data
-section_data s =
-    object (member (codes "changes") (list_data (list_data change_data) s.changes) (member (codes "limit") (whole_data s.limit) no_members))
+section_data s = section_of (list_data (list_data change_data) s.changes) s.limit
 
 abbrev pub connection_data : Connection → Data
 connection_data k = list_data whole_data (k.train ∷ k.place ∷ k.other ∷ k.reached ∷ [])
@@ -42,6 +45,11 @@ connection_data k = list_data whole_data (k.train ∷ k.place ∷ k.other ∷ k.
 abbrev pub given_member : List ℕ → Option Data → Members → Members
 given_member name None later = later
 given_member name (Some d) later = member name d later
+
+-- a member put among others, where there is one
+abbrev pub given_put : List ℕ → Option Data → Members → Members
+given_put name None others = others
+given_put name (Some d) others = put name d others
 
 -- a table's members, in the byte order of their names
 abbrev pub table_data : TableMembers → Data

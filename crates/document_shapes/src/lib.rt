@@ -8,7 +8,10 @@ mod members;
 mod parts;
 mod refused;
 mod table;
+#[cfg(test)]
+mod tests;
 mod to_value;
+mod writing;
 
 pub use document::{DocMembers, read_document};
 pub use member::Member;
@@ -16,3 +19,4 @@ pub use parts::SectionMembers;
 pub use refused::ShapeRefused;
 pub use table::TableMembers;
 pub use to_value::{ToValue, list_value};
+pub use writing::write_document;

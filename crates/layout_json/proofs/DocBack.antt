@@ -1,5 +1,5 @@
 -- What a document keeps, from how its members were taken.
-use Rattle.std.proofs.Common.{◌≡◌, ◌∙◌, ℕ, ◌+◌, ◌<◌, ◌≤◌, Bool, true, false, List, [], ◌∷◌, length, map, get_or, slice_get, All, Some, None, Result, Ok, refl, sym, ap, subst, arith, zero-add}
+use Rattle.std.proofs.Common.{◌≡◌, ◌∙◌, ℕ, ◌<◌, ◌≤◌, false, List, [], length, get_or, All, None, Result, Ok, refl, sym, ap, subst, arith, zero-add}
 use Rattle.std.proofs.lemmas.Bool.Decides.{nat_tests}
 use Rattle.std.proofs.lemmas.Grind.{common_steps}
 use Rattle.std.proofs.lemmas.List.{length-map}
@@ -7,10 +7,9 @@ use Rattle.std.proofs.Math.ListN.{get_or-map}
 use Rattle.rail_model.specs.Layout.{Layout, IsLayout, point_names}
 use Rattle.rail_model.specs.Names.{Names, IsNames}
 use Rattle.rail_model.specs.State.{Legal}
-use Rattle.rail_model.specs.Table.{Table, IsTable, trains, last, mission}
-use Rattle.rail_model.specs.Times.{AreTimes}
-use Rattle.rail_model.specs.Turns.{in_turn, unless, first_below}
-use Rattle.rail_model.proofs.Firsts.{option_or-none, first_below-none, then_some-none, unless-ok}
+use Rattle.rail_model.specs.Table.{IsTable, trains}
+use Rattle.rail_model.specs.Turns.{in_turn, unless}
+use Rattle.rail_model.proofs.Firsts.{then_some-none, unless-ok}
 use Rattle.rail_model.specs.Yard.{Offer, offer}
 use Rattle.table_exchange.specs.Tables.{AreTables}
 use Rattle.track_layout.specs.Making.{layout_from}
@@ -21,9 +20,9 @@ use Rattle.document_shapes.proofs.EachLemmas.{each-length, each-good, each-again
 use Rattle.layout_json.specs.Doc.{Doc, DocTable, IsDoc, doc_table, table_at, offers_of, names_of, PointsWithin}
 use Rattle.layout_json.specs.Keeps.{Keeps, IsTaken, Untimed, timed, doc_of_parts}
 use Rattle.layout_json.specs.Members.{members_in, table_members_in}
-use Rattle.layout_json.specs.Reading.{doc_from, tables_refusal, first_table}
+use Rattle.layout_json.specs.Reading.{tables_refusal, first_table}
 use Rattle.layout_json.specs.Start.{start_refusal}
-use Rattle.layout_json.specs.Tables.{refused_as, doc_table_of, exits_or_none, times_refusal, other_lists, bad_length, bad_time, bad_times}
+use Rattle.layout_json.specs.Tables.{refused_as, doc_table_of, exits_or_none}
 use Rattle.layout_json.specs.declared.refused.DocRefused.{DocRefused}
 use Rattle.layout_json.specs.declared.refused.DocRefused.TheVariants as refused
 use Rattle.layout_json.proofs.TimesLemmas.{are_times}
@@ -158,4 +157,4 @@ module _ (m : DocMembers) (L : Layout) (N : Names) (ts : List Untimed) (xs : Lis
 
   -- the document keeps what it has to keep
   pub doc-keeps : Keeps m.version L N ts xs m.start
-  doc-keeps = record { named = c.named; each_timed = c.each_timed; is = doc_is; taken = doc_taken }
+  doc-keeps = record { first = c.read.first; last = c.read.last; named = c.named; each_timed = c.each_timed; is = doc_is; taken = doc_taken }

@@ -1,5 +1,5 @@
 -- The document of members, step by step.
-use Rattle.std.proofs.Common.{◌≡◌, ◌∙◌, ◌⊎◌, ℕ, ◌<◌, List, [], ◌∷◌, length, get_or, All, None, Result, Ok, Err, refl, sym, ap, subst, arith, inl, inr, Option, Some}
+use Rattle.std.proofs.Common.{◌≡◌, ◌∙◌, ◌⊎◌, ℕ, ◌<◌, List, length, get_or, All, None, Result, Ok, Err, refl, sym, ap, subst, arith, inl, inr, Option, Some}
 use Rattle.std.proofs.lemmas.Bool.Decides.{nat_tests}
 use Rattle.std.proofs.lemmas.List.{length-map}
 use Rattle.rail_model.specs.Layout.{Layout, IsLayout, point_names}
@@ -25,7 +25,7 @@ use Rattle.layout_json.proofs.TableBack.{refused_as-ok}
 use Rattle.layout_json.proofs.Timed.{length-timed, timed-at}
 
 -- the names of a layout's points beside those of trains
-names-are : (L : Layout) (trains : List (List ℕ)) → IsLayout L → AreTrains trains → IsNames (record { points = point_names L; trains = trains })
+pub names-are : (L : Layout) (trains : List (List ℕ)) → IsLayout L → AreTrains trains → IsNames (record { points = point_names L; trains = trains })
 names-are L trains layout are = record {
   few_points = rw length-map layout.few_points;
   few_trains = are.few;

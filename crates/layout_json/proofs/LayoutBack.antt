@@ -1,9 +1,8 @@
 -- A layout gives back the lists that it was made of.
-use Rattle.std.proofs.Common.{◌≡◌, ◌∙◌, ℕ, zero, suc, ◌<◌, List, [], ◌∷◌, length, map, get_or, slice_get, Some, None, true, Ok, bytes_eq, refl, sym, ap, ap₂, arith}
+use Rattle.std.proofs.Common.{◌≡◌, ◌∙◌, ℕ, suc, List, [], ◌∷◌, length, map, get_or, slice_get, Some, None, true, Ok, bytes_eq, refl, sym, ap, ap₂}
 use Rattle.std.specs.Cmp.Lexicographic.{bytes_decides}
 use Rattle.std.proofs.lemmas.List.Sums.{passes_at_first}
 use Rattle.rail_model.specs.Layout.{Layout, Link, point_names}
-use Rattle.rail_model.specs.Names.{Names, point_name}
 use Rattle.rail_model.proofs.Firsts.{option_or-none, unless-ok}
 use Rattle.rail_model.proofs.Places.{found_within}
 use Rattle.track_layout.specs.Making.{names_of, zones_of, number_in, is_known, too_many, no_zone, bad_name, double_name, zone_range, zone_empty, unknown_point, link_value, layout_value, layout_refusal, layout_from}

@@ -10,3 +10,10 @@ pub mod TableBack
 pub mod DocBack
 pub mod DocMade
 mod Listed
+pub mod NamedLemmas
+pub mod WrittenBack
+pub mod Taken
+pub mod Marked
+pub mod Remade
+pub mod MigratedLemmas
+pub mod FormedDoc

@@ -1,8 +1,8 @@
 -- The first cause why a start is not legal, as the test computes it.
-use Rattle.std.proofs.Common.{◌≡◌, ◌≢◌, ◌⊎◌, ◌∙◌, ℕ, suc, ◌+◌, ◌<◌, ◌≤◌, List, [], ◌∷◌, length, Bool, true, false, Option, Some, None, refl, sym, ap, ap₂, subst, inl, inr, arith, ℤ, pos, nat_lt}
+use Rattle.std.proofs.Common.{◌≡◌, ◌≢◌, ◌∙◌, ℕ, suc, ◌<◌, ◌≤◌, List, length, Bool, true, false, Option, Some, None, refl, sym, ap, ap₂, inl, inr, arith, pos, nat_lt}
 use Rattle.std.proofs.lemmas.Bool.Decides.{nat_tests, eqb_tells, leb_tells}
 use Rattle.std.proofs.lemmas.Int.{ints}
-use Rattle.std.specs.Prelude.{int_lt, nat_abs, ◌<ℤ◌, ◌≤ℤ◌, option_and_then, option_map, not, ◌==◌}
+use Rattle.std.specs.Prelude.{int_lt, nat_abs, option_and_then, option_map, not, ◌==◌}
 use Rattle.std.specs.Bool.{then_some}
 use Rattle.std.proofs.lemmas.Bool.{cases_lt}
 use Rattle.rail_model.proofs.Agree.{Decides-int_lt}
@@ -10,7 +10,7 @@ use Rattle.rail_model.specs.Checks.{same_point}
 use Rattle.rail_model.specs.Table.{Table, trains, last, point, limit, place, count}
 use Rattle.rail_model.specs.State.{Legal, StandsAt}
 use Rattle.rail_model.specs.Move.{IsFirst, IsOver}
-use Rattle.rail_model.specs.Turns.{first_of, first_below}
+use Rattle.rail_model.specs.Turns.{first_below}
 use Rattle.rail_model.proofs.Firsts.{first_below-all, first_below-found, option_or-both, option_or-first, option_or-second}
 use Rattle.legal_state.specs.Causes.{IsOut, IsInRange, IsPair, HasPair}
 use Rattle.legal_state.specs.Illegal.{IsIllegal}

@@ -1,14 +1,14 @@
 -- A table of a document gives back the members that it was made of.
-use Rattle.std.proofs.Common.{◌≡◌, ◌∙◌, ℕ, ◌<◌, ◌≤◌, Bool, true, false, List, [], ◌∷◌, length, map, Option, Some, None, Result, Ok, Err, refl, sym, ap, ap₂, subst, inl, inr, arith, replicate, get_or}
-use Rattle.std.specs.Prelude.{nat_le, unwrap_or}
+use Rattle.std.proofs.Common.{◌≡◌, ◌∙◌, ℕ, ◌<◌, Bool, List, [], map, Option, None, Result, Ok, Err, refl, sym, ap, ap₂, subst, inl, inr, get_or}
+use Rattle.std.specs.Prelude.{unwrap_or}
 use Rattle.std.proofs.lemmas.Bool.Decides.{leb_tells}
 use Rattle.rail_model.specs.Layout.{Layout, point_names}
-use Rattle.rail_model.specs.Names.{Names, point_name}
+use Rattle.rail_model.specs.Names.{Names}
 use Rattle.rail_model.specs.declared.types.Node.{Node}
 use Rattle.rail_model.specs.Table.{Table, Mission, Section, Connection}
 use Rattle.rail_model.specs.Turns.{in_turn, unless}
 use Rattle.rail_model.proofs.Firsts.{unless-ok}
-use Rattle.mission_table.specs.Ways.{missions_from, missions_refusal, missions_value}
+use Rattle.mission_table.specs.Ways.{missions_from}
 use Rattle.section_marks.specs.Marking.{table_from, sections_refusal}
 use Rattle.section_marks.specs.Connecting.{connected, connections_refusal}
 use Rattle.document_shapes.specs.Raw.{TableMembers, IsOfVersion}
@@ -18,7 +18,7 @@ use Rattle.layout_json.specs.Members.{from_version, way_names, table_members_in}
 use Rattle.layout_json.specs.Tables.{refused_as, marks_of, exits_or_none, times_or_one, after_refusal, times_refusal, table_of, doc_table_of}
 use Rattle.layout_json.specs.declared.refused.DocRefused.{DocRefused}
 use Rattle.layout_json.specs.declared.refused.DocRefused.TheVariants as refused
-use Rattle.layout_json.proofs.WaysBack.{AreMadeOf, missions-made_of}
+use Rattle.layout_json.proofs.WaysBack.{missions-made_of}
 
 pub refused_as-ok : {A E : Type 0} (f : E → DocRefused) (r : Result A E) (a : A) → refused_as f r ≡ Ok a → r ≡ Ok a
 refused_as-ok f (Ok x) a h = let same : x ≡ a = cc in ap Ok same

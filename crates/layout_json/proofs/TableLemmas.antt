@@ -1,5 +1,5 @@
 -- One more table.
-use Rattle.std.proofs.Common.{◌≡◌, ◌∙◌, ℕ, ◌+◌, List, [], ◌∷◌, ◌++◌, length, Result, Ok, sym, subst, arith, length-append}
+use Rattle.std.proofs.Common.{◌≡◌, ℕ, ◌+◌, List, [], ◌∷◌, ◌++◌, length, Result, Ok, sym, subst, length-append}
 use Rattle.document_shapes.specs.Raw.{TableMembers}
 use Rattle.document_shapes.proofs.TurnLemmas.{TakenTo, taken_more}
 use Rattle.layout_json.specs.Doc.{DocTable}

@@ -1,18 +1,14 @@
 -- Missions give back the lists that they were made of.
 use Rattle.std.proofs.Common.{◌≡◌, ◌∙◌, ℕ, zero, suc, ◌<◌, Bool, true, false, not, List, [], ◌∷◌, length, map, get_or, slice_get, Option, Some, None, option_map, Ok, bytes_eq, refl, sym, ap, ap₂, subst, arith}
-use Rattle.std.specs.Prelude.{zip}
 use Rattle.std.proofs.lemmas.Bool.Decides.{nat_tests}
 use Rattle.std.proofs.lemmas.List.{length-map}
 use Rattle.std.proofs.lemmas.Option.{slice_get-map, slice_get_within, get_or_from_slice_get}
 use Rattle.rail_model.specs.Layout.{Layout, point_names}
-use Rattle.rail_model.specs.Names.{point_name}
-use Rattle.rail_model.specs.Table.{Table, Mission, trains, point}
-use Rattle.rail_model.specs.Turns.{first_below}
+use Rattle.rail_model.specs.Table.{Mission}
 use Rattle.rail_model.proofs.Firsts.{option_or-none, first_below-none, then_some-none, unless-ok}
 use Rattle.rail_model.proofs.Places.{found_within}
 use Rattle.track_layout.specs.Making.{number_in, is_known}
-use Rattle.mission_table.specs.Ways.{name_at, way_value, mission_value, missions_value, missions_refusal, missions_from, mission_refusal, way_refusal, step_refusal, point_before, unknown_point, bad_length, other_lists, other_exits, ways_refusal}
-use Rattle.layout_json.specs.Doc.{PointsWithin}
+use Rattle.mission_table.specs.Ways.{name_at, way_value, missions_value, missions_refusal, missions_from, mission_refusal, way_refusal, step_refusal, point_before, unknown_point, bad_length, other_lists, other_exits, ways_refusal}
 use Rattle.layout_json.proofs.LayoutBack.{name-at_number}
 
 map_some : {A B : Type 0} (f : A → B) (o : Option A) (y : B) → option_map f o ≡ Some y → (x : A) × (o ≡ Some x) × (f x ≡ y)

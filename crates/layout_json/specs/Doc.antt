@@ -1,5 +1,5 @@
 -- A document: a layout, trains, tables with their times and certificates, and a start.
-use Rattle.std.specs.Prelude.{◌≡◌, ℕ, ◌<◌, ◌≤◌, List, [], length, map, Some, slice_get, slice_index_or}
+use Rattle.std.specs.Prelude.{◌≡◌, ℕ, ◌<◌, List, [], length, map, Some, slice_index_or}
 use Rattle.rail_model.specs.declared.types.Node.{Node}
 use Rattle.rail_model.specs.Layout.{Layout, IsLayout, point_names}
 use Rattle.rail_model.specs.Names.{Names, IsNames}

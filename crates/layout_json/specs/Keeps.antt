@@ -1,9 +1,10 @@
 -- What a document keeps inside.
-use Rattle.std.specs.Prelude.{◌≡◌, ℕ, List, [], ◌∷◌, length, Ok}
+use Rattle.std.specs.Prelude.{◌≡◌, ℕ, ◌≤◌, List, [], ◌∷◌, length, Ok}
 use Rattle.rail_model.specs.declared.types.Node.{Node}
-use Rattle.rail_model.specs.Layout.{Layout, point_names}
+use Rattle.rail_model.specs.Layout.{Layout}
 use Rattle.rail_model.specs.Names.{Names}
 use Rattle.rail_model.specs.Table.{Table}
+use Rattle.document_shapes.specs.Raw.{DocMembers}
 use Rattle.layout_json.specs.Doc.{Doc, DocTable, IsDoc, names_of}
 use Rattle.layout_json.specs.Members.{members_in}
 use Rattle.layout_json.specs.Reading.{doc_from}
@@ -32,8 +33,17 @@ doc_of_parts version L N tables times start =
 abbrev pub IsTaken : Doc → Type 0
 IsTaken D = doc_from (members_in D) ≡ Ok D
 
+-- The members are those of a document that is taken.
+pub record AreMembersOf (D : Doc) (m : DocMembers) : Type 0 where
+  pub are : m ≡ members_in D
+  pub first : 1 ≤ D.version
+  pub last : D.version ≤ 3
+  pub taken : IsTaken D
+
 -- The parts of a document that is taken.
 pub record Keeps (version : ℕ) (L : Layout) (N : Names) (tables : List Untimed) (times : List (List (List ℕ))) (start : List ℕ) : Type 0 where
+  pub first : 1 ≤ version
+  pub last : version ≤ 3
   pub named : N ≡ names_of (doc_of_parts version L N tables times start)
   pub each_timed : length tables ≡ length times
   pub is : IsDoc (doc_of_parts version L N tables times start)

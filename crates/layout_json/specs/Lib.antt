@@ -5,3 +5,6 @@ pub mod Reading
 pub mod Members
 pub mod Keeps
 pub mod Trees
+pub mod Written
+pub mod Replaced
+pub mod Migrated

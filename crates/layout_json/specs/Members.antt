@@ -1,7 +1,7 @@
 -- A document's members, as they are written: names for numbers, and every member that its version has.
 use Rattle.std.specs.Prelude.{ℕ, List, map, nat_le, if◌then◌else◌, Option, Some, None}
 use Rattle.rail_model.specs.Names.{Names, point_name}
-use Rattle.rail_model.specs.Table.{Table, Mission}
+use Rattle.rail_model.specs.Table.{Mission}
 use Rattle.document_shapes.specs.Raw.{TableMembers, DocMembers}
 use Rattle.layout_json.specs.Doc.{Doc, DocTable, names_of}
 
@@ -34,3 +34,11 @@ members_in D = record {
   start = D.start;
   tables = map (table_members_in D.version (names_of D)) D.tables;
 }
+
+-- the members with another version and other tables
+abbrev pub with_tables : ℕ → List TableMembers → DocMembers → DocMembers
+with_tables version tables m = record m { version = version; tables = tables }
+
+-- the document in another version
+abbrev pub in_version : ℕ → Doc → Doc
+in_version version D = record D { version = version }

@@ -1,5 +1,5 @@
 -- The document that bytes are, or the first thing that is wrong with them.
-use Rattle.std.specs.Prelude.{ℕ, ◌||◌, ◌==◌, List, [], length, nat_lt, slice_index_or, Option, Result, Ok}
+use Rattle.std.specs.Prelude.{ℕ, ◌||◌, ◌==◌, List, [], length, nat_lt, slice_index_or, Option, Result}
 use Rattle.std.specs.Bool.{then_some}
 use Rattle.rail_model.specs.Turns.{unless, in_turn}
 use Rattle.track_layout.specs.Making.{layout_from}

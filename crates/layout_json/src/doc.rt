@@ -1,7 +1,7 @@
 // A document: its parts, and how they are read.
-ghost use Rattle.std.specs.Prelude.{◌≡◌, ◌<◌, length};
+ghost use Rattle.std.specs.Prelude.{◌≡◌, ◌<◌, ◌≤◌, length};
 ghost use Rattle.layout_json.specs.Doc.{IsDoc, names_of, times_of, doc_table, table_at, nodes_at};
-ghost use Rattle.layout_json.specs.Keeps.{Keeps, doc_of_parts};
+ghost use Rattle.layout_json.specs.Keeps.{Keeps, IsTaken, doc_of_parts};
 
 use rail_model::{Layout, Names, Node, State, Table, Times};
 use std::marker::Model;
@@ -103,6 +103,9 @@ impl Doc {
 /// The version: 1, 2 or 3.
 pub fn version(doc: &Doc) -> u32
     ensures version { result ≡ doc.now.version }
+    ensures first { 1 ≤ result }
+    ensures last { result ≤ 3 }
+    ensures taken { IsTaken doc.now }
     ensures formed { IsDoc doc.now }
 {
     doc.version

@@ -3,14 +3,21 @@
 
 mod checks;
 mod doc;
+mod laws;
+mod members;
 mod reading;
 mod refused;
+mod remaking;
 mod spelling;
 mod tables;
+mod writing;
 
 pub use doc::{
     Doc, after_of, layout_of, names_of, nodes_of, start_of, table_of, tables_of, times_of, version,
 };
+pub use laws::{light_sections_are_taken, read_documents_are_formed};
 pub use reading::document;
 pub use refused::DocRefused;
+pub use remaking::{certified, migrate, replaced};
 pub use spelling::{TreeRefused, certificates};
+pub use writing::write;

@@ -80,8 +80,8 @@ fn legal_start(table: &Table, positions: Vec<u32>) -> Result<State, DocRefused>
     Ok(start)
 }
 
-// The document of these members.
-fn checked(alloc: Global, members: DocMembers) -> Result<Doc, DocRefused>
+/// The document of these members.
+pub fn checked(alloc: Global, members: DocMembers) -> Result<Doc, DocRefused>
     requires { IsRead (seen_document members) }
     ensures { Answers DocRefused.Memory (λ d. d) result (doc_from (seen_document members)) }
 {

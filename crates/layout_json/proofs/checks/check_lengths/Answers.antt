@@ -1,4 +1,4 @@
-use Rattle.std.proofs.Common.{◌∙◌, sym, get_or, length, [], arith}
+use Rattle.std.proofs.Common.{sym, arith}
 use Rattle.rail_model.specs.Table.{trains}
 use Rattle.rail_model.specs.Turns.{first_below}
 use Rattle.rail_model.proofs.Firsts.{first_below-found}

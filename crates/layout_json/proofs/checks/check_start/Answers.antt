@@ -1,4 +1,4 @@
-use Rattle.std.proofs.Common.{◌≡◌, sym, ap, ◌∙◌, length, arith}
+use Rattle.std.proofs.Common.{◌≡◌, sym, length, arith}
 use Rattle.rail_model.specs.Table.{trains}
 use Rattle.layout_json.proofs.StartLemmas.{illegality-none, illegality-some, start-none, start-some}
 use Rattle.layout_json.proofs.checks.check_start.Goals as goal

@@ -1,4 +1,4 @@
-use Rattle.std.proofs.Common.{sym, ◌∙◌, ap}
+use Rattle.std.proofs.Common.{sym}
 use Rattle.rail_model.proofs.Firsts.{first_below-none}
 use Rattle.layout_json.specs.Tables.{bad_length}
 use Rattle.layout_json.proofs.TimesLemmas.{length-good}

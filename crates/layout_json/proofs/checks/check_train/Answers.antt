@@ -1,6 +1,4 @@
-use Rattle.std.proofs.Common.{◌∙◌, sym, get_or, length, [], arith}
-use Rattle.rail_model.specs.Table.{trains}
-use Rattle.rail_model.specs.Turns.{first_below}
+use Rattle.std.proofs.Common.{sym, get_or, length, arith}
 use Rattle.rail_model.proofs.Firsts.{first_below-found}
 use Rattle.layout_json.specs.Tables.{bad_time, bad_times}
 use Rattle.layout_json.proofs.Refusals.{refused-by}

@@ -1,7 +1,6 @@
-use Rattle.std.proofs.Common.{◌≡◌, ◌≤◌, length, sym, ◌∙◌, ap, arith, Fits}
+use Rattle.std.proofs.Common.{◌≡◌, length, sym, ◌∙◌, ap, arith}
 use Rattle.std.specs.Prelude.{vec_len}
 use Rattle.std.proofs.lemmas.List.{length-map}
-use Rattle.layout_json.specs.Doc.{offers_of}
 use Rattle.layout_json.proofs.Timed.{length-timed}
 use Rattle.layout_json.proofs.doc.tables_of.Goals as goal
 

@@ -1,4 +1,4 @@
-use Rattle.std.proofs.Common.{◌≡◌, ◌<◌, length, sym, ◌∙◌, ap, arith}
+use Rattle.std.proofs.Common.{◌≡◌, ◌<◌, length, ap, arith}
 use Rattle.std.specs.Prelude.{vec_len}
 use Rattle.layout_json.specs.Doc.{doc_table}
 use Rattle.layout_json.proofs.Timed.{IsUntimed, length-timed, timed-at}

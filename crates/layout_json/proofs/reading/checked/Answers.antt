@@ -1,4 +1,4 @@
-use Rattle.std.proofs.Common.{◌≡◌, ◌∙◌, ◌<◌, ◌⊎◌, ℕ, List, length, map, get_or, sym, ap, subst, inl, inr, arith, Ok, Err}
+use Rattle.std.proofs.Common.{◌≡◌, ◌∙◌, ◌⊎◌, ℕ, List, length, map, sym, ap, subst, arith, Ok, Err}
 use Rattle.std.specs.Prelude.{vec_len}
 use Rattle.rail_model.specs.Layout.{IsLayout}
 use Rattle.rail_model.specs.Turns.{unless}
@@ -9,7 +9,7 @@ use Rattle.layout_json.specs.Keeps.{Keeps, timed, doc_of_parts}
 use Rattle.layout_json.specs.Reading.{doc_from}
 use Rattle.layout_json.specs.Start.{start_refusal}
 use Rattle.layout_json.specs.declared.refused.DocRefused.TheVariants.{Memory}
-use Rattle.layout_json.proofs.DocMade.{IsTabled, is-tabled, some-table, doc-refused, doc-made}
+use Rattle.layout_json.proofs.DocMade.{is-tabled, some-table, doc-refused, doc-made}
 use Rattle.layout_json.proofs.reading.checked.Goals as goal
 
 pub index-requires : goal.index-requires

@@ -1,4 +1,4 @@
-use Rattle.std.proofs.Common.{◌≡◌, ◌++◌, All, length, map}
+use Rattle.std.proofs.Common.{◌≡◌, All, length, map}
 use Rattle.std.specs.Vec.Iter.{into_iter_items}
 use Rattle.rail_model.specs.Table.{IsTable}
 use Rattle.document_shapes.proofs.TurnLemmas.{TakenTo}

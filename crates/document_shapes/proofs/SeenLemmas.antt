@@ -1,0 +1,31 @@
+-- What stands for lists of values, as definitions see them.
+use Rattle.std.proofs.Common.{◌≡◌, ℕ, List, [], ◌∷◌, map, Option, Some, None, option_map, refl, sym, ap, ap₂, ◌∙◌}
+use Rattle.std.specs.Prelude.{MatchOption, ⊤}
+use Rattle.serde_json.specs.Data.{Data, array, item}
+use Rattle.serde_json.specs.View.{items_of}
+use Rattle.document_shapes.specs.ReadsBack.{IsPlain, ReadsBack}
+use Rattle.document_shapes.specs.Shape.{Shape}
+use Rattle.document_shapes.specs.Written.{list_data}
+
+module _ {X A : Type 0} (put : X → Data) (look : A → Data) (see : X → A) (same : (x : X) → put x ≡ look (see x)) where
+  items-seen : (xs : List X) → items_of (map put xs) ≡ items_of (map look (map see xs))
+  items-seen [] = refl
+  items-seen (x ∷ xs) = ap₂ item (same x) (items-seen xs)
+
+  pub list-seen : (xs : List X) → list_data put xs ≡ list_data look (map see xs)
+  list-seen xs = ap array (items-seen xs)
+
+  pub given-seen : (o : Option X) → option_map put o ≡ option_map look (option_map see o)
+  given-seen None = refl
+  given-seen (Some x) = ap Some (same x)
+
+  -- what reads back, reads as it is seen
+  pub given-reads : (levels : ℕ) (R : Data → X → Type 0) (shape : Shape A) → ((d : Data) (x : X) → R d x → shape d ≡ Some (see x)) → (o : Option X)
+      → MatchOption o ⊤ (ReadsBack put levels R) → MatchOption (option_map see o) ⊤ (λ a. shape (look a) ≡ Some a)
+  given-reads levels R shape agrees None h = tt
+  given-reads levels R shape agrees (Some x) h = ap shape (sym (same x)) ∙ agrees (put x) x h.back
+
+pub given-plain : {X : Type 0} (put : X → Data) (levels : ℕ) (R : Data → X → Type 0) (o : Option X) → MatchOption o ⊤ (ReadsBack put levels R)
+    → MatchOption (option_map put o) ⊤ (IsPlain levels)
+given-plain put levels R None h = tt
+given-plain put levels R (Some x) h = h.plain

@@ -1,0 +1,229 @@
+-- Documents with other certificates, and with other sections, are taken.
+use Rattle.std.specs.Prelude.{◌==◌, ◌||◌, nat_lt, if◌then◌else◌}
+use Rattle.std.proofs.lemmas.Bool.Decides.{nat_tests}
+use Rattle.std.proofs.lemmas.Int.{ints}
+use Rattle.std.proofs.Common.{◌≡◌, ◌∙◌, true, false, ℕ, zero, suc, ◌+◌, ◌<◌, ◌≤◌, List, [], ◌∷◌, ◌++◌, length, map, take, get_or, All, None, Ok, refl, sym, ap, ap₂, subst, arith}
+use Rattle.std.specs.List.{AllZip}
+use Rattle.std.proofs.lemmas.Grind.{common_steps}
+use Rattle.std.proofs.lemmas.List.{length-map, take_more, map-append}
+use Rattle.rail_model.specs.Certificate.{Tree, preorder, arrived}
+use Rattle.rail_model.specs.Table.{Table, IsTable, Section}
+use Rattle.rail_model.specs.Turns.{unless}
+use Rattle.rail_model.proofs.Firsts.{unless-ok, then_some-none}
+use Rattle.section_marks.specs.Marking.{table_from}
+use Rattle.section_marks.specs.Connecting.{connected, connections_refusal}
+use Rattle.section_marks.specs.declared.marks.Marks.{Marks}
+use Rattle.section_marks.specs.declared.marks.Marks.TheVariants.{One, Four}
+use Rattle.document_shapes.specs.Each.{each_from}
+use Rattle.document_shapes.specs.Raw.{DocMembers, TableMembers as RawTable}
+use Rattle.document_shapes.specs.Seen.{seen_table}
+use Rattle.document_shapes.specs.declared.table.TableMembers.{TableMembers}
+use Rattle.document_shapes.proofs.EachLemmas.{each-changed}
+use Rattle.layout_json.specs.Doc.{Doc, DocTable, PointsWithin, names_of}
+use Rattle.layout_json.specs.Keeps.{IsTaken, AreMembersOf}
+use Rattle.layout_json.specs.Members.{members_in, table_members_in, with_tables}
+use Rattle.layout_json.specs.Reading.{tables_refusal, first_table}
+use Rattle.layout_json.specs.Replaced.{each_with, exchanged, recertified, replaced, certified, new_table, IsLight, IsRemarked}
+use Rattle.layout_json.specs.Start.{start_refusal}
+use Rattle.layout_json.specs.Tables.{doc_table_of, marks_of}
+use Rattle.layout_json.specs.Written.{AreNamed}
+use Rattle.layout_json.proofs.DocMade.{IsTabled}
+use Rattle.layout_json.proofs.NamedLemmas.{of_version, ways-named, points-counted}
+use Rattle.layout_json.proofs.StartLemmas.{illegality-none, start-none}
+use Rattle.layout_json.proofs.TableBack.{IsTableOf, IsDocTableOf, doc_table-made, doc_table-again}
+use Rattle.layout_json.proofs.Taken.{Makes, makes, made-of, taken-within}
+use Rattle.layout_json.proofs.Marked.{IsMarkedBy, sections-none}
+
+-- ---- each table with something else
+
+module _ {X : Type 0} (f : DocTable → X → DocTable) where
+  pub length-each_with : (ts : List DocTable) (xs : List X) → length xs ≡ length ts → length (each_with f ts xs) ≡ length ts
+  length-each_with [] xs h = refl
+  length-each_with (t ∷ ts) [] h = absurd (omega (arith, h))
+  length-each_with (t ∷ ts) (x ∷ xs) h = ap suc (length-each_with ts xs (omega (arith, h)))
+
+  pub each_with-at : (ts : List DocTable) (xs : List X) (k : ℕ) (e d : DocTable) (x : X) → length xs ≡ length ts → k < length ts
+      → get_or (each_with f ts xs) k e ≡ f (get_or ts k d) (get_or xs k x)
+  each_with-at [] xs k e d x h lt = absurd (omega (arith, lt))
+  each_with-at (t ∷ ts) [] k e d x h lt = absurd (omega (arith, h))
+  each_with-at (t ∷ ts) (y ∷ xs) zero e d x h lt = refl
+  each_with-at (t ∷ ts) (y ∷ xs) (suc k) e d x h lt = each_with-at ts xs k e d x (omega (arith, h)) (omega (arith, lt))
+
+  -- what holds of each table and what it gets
+  pub zipped : (R : DocTable → DocTable → Type 0) (ts : List DocTable) (xs : List X) (d : DocTable) (x : X) → length xs ≡ length ts
+      → ((k : ℕ) → k < length ts → R (get_or ts k d) (f (get_or ts k d) (get_or xs k x))) → AllZip R ts (each_with f ts xs)
+  zipped R [] xs d x h r = tt
+  zipped R (t ∷ ts) [] d x h r = absurd (omega (arith, h))
+  zipped R (t ∷ ts) (y ∷ xs) d x h r = (r 0 (omega arith), zipped R ts xs d x (omega (arith, h)) (λ k lt. r (suc k) (omega (arith, lt))))
+
+-- one more table's members
+pub table-more : (version : ℕ) (D : Doc) (zs : List DocTable) (old new : List TableMembers) (m : TableMembers) (i : ℕ) (z : DocTable) → i < length zs → get_or zs i z ≡ z
+    → seen_table m ≡ table_members_in version (names_of D) z → new ≡ old ++ m ∷ []
+    → map seen_table old ≡ map (table_members_in version (names_of D)) (take i zs)
+    → map seen_table new ≡ map (table_members_in version (names_of D)) (take (i + 1) zs)
+table-more version D zs old new m i z lt at is added h =
+    let put = table_members_in version (names_of D) in
+    ap (map seen_table) added ∙ map-append seen_table old (m ∷ []) ∙ ap₂ (λ ms n. ms ++ n ∷ []) h (is ∙ ap put (sym at))
+    ∙ sym (ap (map put) (take_more zs i z lt) ∙ map-append put (take i zs) (get_or zs i z ∷ []))
+
+abbrev pub no_table : DocTable
+no_table = record { table = record { missions = []; sections = []; connections = [] }; after = 0; times = []; nodes = [] }
+
+-- the document's members, with those of other tables
+pub members-of : (D : Doc) (zs : List DocTable) (m : DocMembers) (version : ℕ) (ts : List RawTable) → 1 ≤ D.version → D.version ≤ 3 → IsTaken (record D { tables = zs })
+    → m ≡ with_tables version ts (members_in D) → version ≡ D.version → ts ≡ map (table_members_in D.version (names_of D)) zs → AreMembersOf (record D { tables = zs }) m
+members-of D zs m version ts first last taken is same tables = record {
+  are = is ∙ λ i. with_tables (same i) (tables i) (members_in D);
+  first = first;
+  last = last;
+  taken = taken;
+}
+
+-- ---- other certificates
+
+first_recertified : (ts : List DocTable) (cs : List Tree) → length cs ≡ length ts → (first_table (each_with recertified ts cs)).table ≡ (first_table ts).table
+first_recertified [] cs h = refl
+first_recertified (t ∷ ts) [] h = absurd (omega (arith, h))
+first_recertified (t ∷ ts) (c ∷ cs) h = refl
+
+module _ (D : Doc) (taken : IsTaken D) where
+  abbrev n : ℕ
+  n = length D.trains
+
+  made : Makes (members_in D) D
+  made = makes (members_in D) D taken
+
+  -- a document whose tables are made anew
+  again : (zs : List DocTable) → length zs ≡ length D.tables
+      → each_from (doc_table_of D.version D.layout n) 0 (map (table_members_in D.version (names_of D)) zs) ≡ Ok zs
+      → start_refusal (first_table zs).table D.start ≡ None → IsTaken (record D { tables = zs })
+  again zs same tables start =
+      let E : Doc = record D { tables = zs } in
+      let tabled : IsTabled (members_in E) D.layout D.trains zs =
+      record {
+        layout = made.tabled.layout;
+        trains_are = made.tabled.trains_are;
+        counted = ap tables_refusal (length-map zs (table_members_in D.version (names_of D)) ∙ same ∙ sym (length-map D.tables (table_members_in D.version (names_of D)))) ∙ made.tabled.counted;
+        made = tables;
+      } in
+      made-of (members_in E) E (record { tabled = tabled; start = start; version_is = refl; start_is = refl })
+
+  certified_step : (t : ℕ) (y z : DocTable) → (c : Tree) × (z ≡ recertified y c) → doc_table_of D.version D.layout n t (table_members_in D.version (names_of D) y) ≡ Ok y
+      → doc_table_of D.version D.layout n t (table_members_in D.version (names_of D) z) ≡ Ok z
+  certified_step t y z r h =
+      let m = table_members_in D.version (names_of D) y in
+      let was = doc_table-made D.version D.layout n t m y h in
+      let is : IsDocTableOf D.version D.layout n t m (recertified y r.0) = record { due = was.due; table = was.table; times = was.times } in
+      subst (λ w. doc_table_of D.version D.layout n t (table_members_in D.version (names_of D) w) ≡ Ok w) (sym r.1)
+      (doc_table-again D.version D.layout n t (names_of D) refl m (of_version D.version (names_of D) y) (recertified y r.0) is)
+
+  -- with other certificates nothing is refused
+  pub certified-is-taken : (certs : List Tree) → length certs ≡ length D.tables → IsTaken (certified D certs)
+  certified-is-taken certs same =
+      let zs = each_with recertified D.tables certs in
+      again zs (length-each_with recertified D.tables certs same)
+      (each-changed (doc_table_of D.version D.layout n) (doc_table_of D.version D.layout n) (λ y z. (c : Tree) × (z ≡ recertified y c))
+      (table_members_in D.version (names_of D)) (table_members_in D.version (names_of D)) certified_step 0 D.tables zs
+      (zipped recertified (λ y z. (c : Tree) × (z ≡ recertified y c)) D.tables certs no_table arrived same (λ k lt. (get_or certs k arrived, refl)))
+      made.tabled.made)
+      (ap (λ T. start_refusal T D.start) (first_recertified D.tables certs same) ∙ made.start)
+
+-- ---- other tables
+
+abbrev no_part : Table × Tree
+no_part = (record { missions = []; sections = []; connections = [] }, arrived)
+
+get_or_any : {X : Type 0} (xs : List X) (k : ℕ) (d e : X) → k < length xs → get_or xs k d ≡ get_or xs k e
+get_or_any xs k d e lt = grind (arith, common_steps)
+
+-- the ways of tables that are taken have names
+pub parts-named : (D : Doc) (parts : List (Table × Tree)) → length parts ≡ length D.tables → IsTaken (replaced D parts) → All (λ p. All (AreNamed (names_of D)) p.0.missions) parts
+parts-named D parts same taken k p lt =
+    let within : k < length D.tables = omega (arith, lt, same) in
+    let size = length-each_with exchanged D.tables parts same in
+    let at = ap (λ (t : DocTable). t.table) (each_with-at exchanged D.tables parts k no_table no_table p same within) in
+    let points = taken-within (replaced D parts) taken k no_table (omega (arith, size, within)) in
+    ways-named (names_of D) (length D.layout.points) (get_or parts k p).0 (points-counted D) (subst (λ T. PointsWithin (length D.layout.points) T) at points)
+
+-- ---- other sections
+
+light-marked : (version : ℕ) (T : Table) → IsLight T → IsMarkedBy (marks_of version) T
+light-marked version T h = elim (version == 1) as (λ b. IsMarkedBy (if b then One else Four) T) [
+  | true ↦ record { limits = h.limits; shares = h.shares }
+  | false ↦ record {
+    limits = λ s lt. let low = h.limits s lt in omega (arith, low);
+    shares = λ s i k lt train within. let low = h.shares s i k lt train within in grind (arith, ints, low);
+  }
+]
+
+-- a table with light sections in place of its own
+light_sections : (marks : Marks) (T : Table) → IsTable T → IsMarkedBy marks T → table_from marks T.missions T.sections ≡ Ok (record { missions = T.missions; sections = T.sections; connections = [] })
+unfolding table_from
+light_sections marks T formed light = ap (λ r. unless r (record { missions = T.missions; sections = T.sections; connections = [] })) (sections-none marks T formed light)
+
+-- connections look at no section
+still_connected : (T : Table) (S : List Section) → connected (record { missions = T.missions; sections = T.sections; connections = [] }) T.connections ≡ Ok T
+    → connected (record { missions = T.missions; sections = S; connections = [] }) T.connections ≡ Ok (record T { sections = S })
+unfolding connected
+still_connected T S h =
+    let none = unless-ok (connections_refusal (record { missions = T.missions; sections = T.sections; connections = [] }) T.connections) T T h in
+    ap (λ r. unless r (record T { sections = S })) none.0
+
+-- Another table with the same missions and connections, and light sections.
+abbrev IsLightOf : DocTable → Table → Type 0
+IsLightOf y T = IsTable T × IsLight T × (T.missions ≡ y.table.missions) × (T.connections ≡ y.table.connections)
+
+first_exchanged : (ts : List DocTable) (ps : List (Table × Tree)) → length ps ≡ length ts → 0 < length ts → (first_table (each_with exchanged ts ps)).table ≡ new_table ps 0
+first_exchanged [] ps h some = absurd (omega (arith, some))
+first_exchanged (t ∷ ts) [] h some = absurd (omega (arith, h))
+first_exchanged (t ∷ ts) (p ∷ ps) h some = refl
+
+module _ (D : Doc) (taken : IsTaken D) where
+  remarked_step : (t : ℕ) (y z : DocTable) → (p : Table × Tree) × (z ≡ exchanged y p) × IsLightOf y p.0
+      → doc_table_of D.version D.layout (length D.trains) t (table_members_in D.version (names_of D) y) ≡ Ok y
+      → doc_table_of D.version D.layout (length D.trains) t (table_members_in D.version (names_of D) z) ≡ Ok z
+  remarked_step t y z r h =
+      let T : Table = r.0.0 in
+      let m = table_members_in D.version (names_of D) y in
+      let was = doc_table-made D.version D.layout (length D.trains) t m y h in
+      let other : Table = record y.table { sections = T.sections } in
+      let same : T ≡ other = λ i. record { missions = r.2.2 i; sections = T.sections; connections = r.2.3 i } in
+      let formed : IsTable other = subst IsTable same r.2.0 in
+      let light : IsLight other = subst IsLight same r.2.1 in
+      let table : IsTableOf D.version D.layout (length D.trains) t m other =
+      record {
+        missions = was.table.missions;
+        sections = light_sections (marks_of D.version) other formed (light-marked D.version other light);
+        connections = still_connected y.table T.sections was.table.connections;
+        connections_are = was.table.connections_are;
+      } in
+      let w : DocTable = record y { table = other; nodes = preorder r.0.1 } in
+      let is : IsDocTableOf D.version D.layout (length D.trains) t m w = record { due = was.due; table = table; times = was.times } in
+      let made = doc_table-again D.version D.layout (length D.trains) t (names_of D) refl m (of_version D.version (names_of D) y) w is in
+      subst (λ v. doc_table_of D.version D.layout (length D.trains) t (table_members_in D.version (names_of D) v) ≡ Ok v)
+      (sym (r.1 ∙ ap (λ (U : Table). record y { table = U; nodes = preorder r.0.1 }) same)) made
+
+  some_table : 0 < length D.tables
+  some_table =
+      let counted = made D taken in
+      let test = then_some-none _ _ counted.tabled.counted in
+      let size = length-map D.tables (table_members_in D.version (names_of D)) in
+      some_of (length (members_in D).tables) (length D.tables) test size
+    where
+      some_of : (a b : ℕ) → ((a == 0) || nat_lt 16 a) ≡ false → a ≡ b → 0 < b
+      some_of a b test same = grind (arith, nat_tests)
+
+  -- with other sections nothing is refused, where they are light
+  pub remarked-is-taken : (parts : List (Table × Tree)) → IsRemarked D parts → IsTaken (replaced D parts)
+  remarked-is-taken parts h =
+      let zs = each_with exchanged D.tables parts in
+      let R = λ (y z : DocTable). (p : Table × Tree) × (z ≡ exchanged y p) × IsLightOf y p.0 in
+      let start : start_refusal (new_table parts 0) D.start ≡ None =
+      start-none (new_table parts 0) D.start h.start.one_each (illegality-none (new_table parts 0) D.start h.start) in
+      again D taken zs (length-each_with exchanged D.tables parts h.one_each)
+      (each-changed (doc_table_of D.version D.layout (length D.trains)) (doc_table_of D.version D.layout (length D.trains)) R
+      (table_members_in D.version (names_of D)) (table_members_in D.version (names_of D)) remarked_step 0 D.tables zs
+      (zipped exchanged R D.tables parts no_table no_part h.one_each
+      (λ k lt. (get_or parts k no_part, refl, (h.formed k lt, h.light k lt, h.missions k lt, h.connections k lt))))
+      (made D taken).tabled.made)
+      (ap (λ T. start_refusal T D.start) (first_exchanged D.tables parts h.one_each some_table) ∙ start)
