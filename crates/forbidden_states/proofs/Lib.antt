@@ -1,0 +1,7 @@
+pub mod Changes
+pub mod Listed
+pub mod Members
+pub mod Over
+pub mod Rows
+pub mod Shares
+pub mod Tables

@@ -1,0 +1,13 @@
+pub mod Adding
+pub mod AllPlaced
+pub mod Answering
+pub mod Begun
+pub mod Excluded
+pub mod Growing
+pub mod OwnRing
+pub mod PointBounds
+pub mod Pruned
+pub mod RingLists
+pub mod RingTests
+pub mod Rows
+pub mod StepLists

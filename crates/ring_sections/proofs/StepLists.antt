@@ -1,0 +1,91 @@
+-- The pairs and the steps of trains, and the levels that steps keep.
+use Rattle.std.proofs.Common.{◌≡◌, ℕ, zero, suc, ◌+◌, ◌-◌, ◌<◌, List, [], ◌∷◌, length, Some, slice_get, refl, arith, inl, inr, subst}
+use Rattle.std.specs.Prelude.{All, slice_index, slice_index_or}
+use Rattle.std.specs.List.{range_with_len}
+use Rattle.std.proofs.lemmas.List.FromFn.{get_or-map-range_with_len}
+use Rattle.rail_model.specs.Table.{Mission, mission, last}
+use Rattle.rail_model.specs.Checks.{below}
+use Rattle.rail_model.proofs.Found.{Among, Among-range, Among-flat_map, Among-map}
+use Rattle.forbidden_states.specs.Forbid.{unmarked}
+use Rattle.forbidden_states.proofs.Members.{among-map, filter-among, flat-among}
+use Rattle.ring_sections.specs.declared.levels.Step.{Step}
+use Rattle.ring_sections.specs.Ring.{Pair, point_at, next_point, train_pairs, pairs}
+use Rattle.ring_sections.specs.Search.{IsPair, ArePointsBelow, stands_at, standing_at, standing}
+use Rattle.ring_sections.specs.Levels.{step_at, train_steps, steps, IsStepBelow, IsSettled, AreLevels}
+use Rattle.ring_sections.proofs.RingLists.{among-index, at-among}
+
+pub all-among : {X : Type 0} (P : X → Type 0) (xs : List X) → ((x : X) → Among xs x → P x) → All P xs
+all-among P xs h k d l = h (slice_index_or xs k d) (at-among xs k d l)
+
+range-below : (n a i : ℕ) → Among (range_with_len a n) i → i < a + n
+range-below zero a i h = absurd h
+range-below (suc n) a i h = elim h [ inl e ↦ omega (arith, e) | inr later ↦ omega (arith, range-below n (a + 1) i later) ]
+
+in-below : (n i : ℕ) → Among (below n) i → i < n
+in-below n i h = omega (arith, range-below n 0 i h)
+
+pub valid-pair : (M : List Mission) (w : Pair) → Among (pairs M) w → IsPair M w
+valid-pair M w a =
+    let u = flat-among (λ i. train_pairs i (mission (unmarked M) i)) (below (length M)) w a in
+    let v = among-map (λ k. (u.0, k)) (below (last (unmarked M) u.0)) w u.2 in
+    subst (IsPair M) v.2 (in-below (length M) u.0 u.1, in-below (last (unmarked M) u.0) v.0 v.1)
+
+pub valid-pairs : (M : List Mission) → All (IsPair M) (pairs M)
+valid-pairs M = all-among (IsPair M) (pairs M) (valid-pair M)
+
+get-at : (xs : List ℕ) (k : ℕ) → k < length xs → slice_get xs k ≡ Some (slice_index xs k)
+get-at [] k l = absurd (omega arith)
+get-at (x ∷ xs) zero l = refl
+get-at (x ∷ xs) (suc k) l = get-at xs k (omega arith)
+
+get-is : (xs : List ℕ) (k a : ℕ) → slice_get xs k ≡ Some a → slice_index xs k ≡ a
+get-is [] k a h = cc
+get-is (x ∷ xs) zero a h = let e : x ≡ a = cc in e
+get-is (x ∷ xs) (suc k) a h = get-is xs k a h
+
+get-short : (xs : List ℕ) (k a : ℕ) → slice_get xs k ≡ Some a → k < length xs
+get-short [] k a h = cc
+get-short (x ∷ xs) zero a h = omega arith
+get-short (x ∷ xs) (suc k) a h = omega (arith, get-short xs k a h)
+
+step-below : (M : List Mission) (n : ℕ) → ArePointsBelow M n → (s : Step) → Among (steps M) s → IsStepBelow n s
+step-below M n points s a =
+    let u = flat-among (λ i. train_steps i (mission (unmarked M) i)) (below (length M)) s a in
+    let ps : List ℕ = (mission (unmarked M) u.0).points in
+    let v = among-map (step_at u.0 (mission (unmarked M) u.0)) (below (length ps - 1)) s u.2 in
+    let l : v.0 < length ps - 1 = in-below (length ps - 1) v.0 v.1 in
+    subst (IsStepBelow n) v.2 (
+      points u.0 v.0 (slice_index ps v.0) (get-at ps v.0 (omega arith)),
+      points u.0 (v.0 + 1) (slice_index ps (v.0 + 1)) (get-at ps (v.0 + 1) (omega arith)),
+    )
+
+pub steps-below : (M : List Mission) (n : ℕ) → ArePointsBelow M n → All (IsStepBelow n) (steps M)
+steps-below M n points = all-among (IsStepBelow n) (steps M) (step-below M n points)
+
+-- a pair with two points has a step
+has-step : (M : List Mission) (w : Pair) (a b : ℕ) → w.0 < length M → point_at M w ≡ Some a → next_point M w ≡ Some b → Among (steps M) (record { train = w.0; from = a; to = b })
+has-step M w a b l at next =
+    let m : Mission = mission (unmarked M) w.0 in
+    let short : w.1 + 1 < length m.points = get-short m.points (w.1 + 1) b next in
+    let same : step_at w.0 m w.1 ≡ record { train = w.0; from = a; to = b } = λ i. record { train = w.0; from = get-is m.points w.1 a at i; to = get-is m.points (w.1 + 1) b next i } in
+    Among-flat_map (λ i. train_steps i (mission (unmarked M) i)) (below (length M)) w.0 (record { train = w.0; from = a; to = b })
+    (Among-range (length M) 0 w.0 (omega arith) (omega arith))
+    (subst (Among (train_steps w.0 m)) same (Among-map (step_at w.0 m) (below (length m.points - 1)) w.1 (Among-range (length m.points - 1) 0 w.1 (omega arith) (omega arith))))
+
+-- Settled levels, with 0 at the point of the first pair, are levels.
+pub settled-levels : (M : List Mission) (first : Pair) (levels : List ℕ) → ((q : ℕ) → point_at M first ≡ Some q → slice_index levels q ≡ 0) →
+    All (IsSettled first.0 levels) (steps M) → AreLevels M first levels
+settled-levels M first levels goal settled = record {
+  goal = goal;
+  steps = λ w a b above l at next.
+      let s : Step = record { train = w.0; from = a; to = b } in
+      let k = among-index (steps M) s s (has-step M w a b l at next) in
+      subst (IsSettled first.0 levels) k.2 (settled k.0 s k.1) above;
+}
+
+-- what stands at a point
+pub standing-at : (M : List Mission) (n q : ℕ) → q < n → slice_index_or (standing M n) q [] ≡ standing_at M q
+standing-at M n q l = get_or-map-range_with_len (standing_at M) 0 n q q [] l (omega arith)
+
+pub stander-valid : (M : List Mission) (q k : ℕ) (d : Pair) → k < length (standing_at M q) → IsPair M (slice_index_or (standing_at M q) k d)
+stander-valid M q k d l = valid-pair M _ ((filter-among (stands_at M q) (pairs M) _ (at-among (standing_at M q) k d l)).0)

@@ -1,0 +1,12 @@
+use Rattle.std.proofs.Common.{ap}
+use Rattle.rail_model.specs.Table.{Mission, mission}
+use Rattle.forbidden_states.specs.Forbid.{unmarked}
+use Rattle.ring_sections.specs.Levels.{train_steps}
+use Rattle.ring_sections.proofs.Growing.{next_flat}
+use Rattle.ring_sections.proofs.levels.steps_of.Goals as goal
+
+pub loop-train-preserved : goal.loop-train-preserved
+loop-train-preserved c =
+    next_flat (λ i. train_steps i (mission (unmarked c.args.missions.now) i)) c.loop-train.train c.loop-train.steps.items c.add_steps.new.steps.items
+    (train_steps c.loop-train.train c.mission.result.now) c.loop-train.invariant c.in_ok-add_steps.ensures
+    (ap (λ (m : Mission). train_steps c.loop-train.train m) c.mission.ensures)

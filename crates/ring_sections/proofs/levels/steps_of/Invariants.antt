@@ -1,0 +1,10 @@
+use Rattle.std.proofs.Common.{◌≡◌}
+use Rattle.std.specs.Prelude.{flat_map}
+use Rattle.rail_model.specs.Table.{mission}
+use Rattle.rail_model.specs.Checks.{below}
+use Rattle.forbidden_states.specs.Forbid.{unmarked}
+use Rattle.ring_sections.specs.Levels.{train_steps}
+use Rattle.ring_sections.proofs.levels.steps_of.Given as goal
+
+abbrev pub invariant-loop-train : goal.invariant-loop-train
+invariant-loop-train l = l.steps.items ≡ flat_map (λ i. train_steps i (mission (unmarked l.missions) i)) (below l.train)

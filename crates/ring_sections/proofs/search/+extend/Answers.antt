@@ -1,0 +1,169 @@
+use Rattle.std.proofs.Common.{◌≡◌, ◌-◌, ◌+◌, ◌<◌, ◌≤◌, false, ℕ, List, [], ◌∷◌, ◌++◌, length, length-append, append-nil, Some, Vec, Global, ap, ◌∙◌, subst, sym, arith, slice_index_or}
+use Rattle.std.specs.Prelude.{All, flat_map}
+use Rattle.std.proofs.lemmas.List.Elements.{All-nil, All-cons, All-append}
+use Rattle.std.proofs.lemmas.List.FromFn.{length-map-range_with_len}
+use Rattle.rail_model.specs.Table.{Mission}
+use Rattle.ring_sections.specs.Ring.{Pair, pair_at, next_point}
+use Rattle.ring_sections.specs.Search.{IsPair, ArePointsBelow, fits, own_ring, rings_from, standing_at, standing}
+use Rattle.ring_sections.specs.Levels.{AreLevels}
+use Rattle.ring_sections.proofs.Begun.{at_old}
+use Rattle.ring_sections.proofs.Pruned.{none_behind_taken, rings_from-zero, none_wanted, too_far, none_unfit, rings_from-standing}
+use Rattle.ring_sections.proofs.Adding.{adds_none, adds_err, Fails, own_first, added_more, added_all, failed_part, at-any}
+use Rattle.ring_sections.proofs.StepLists.{standing-at, stander-valid}
+use Rattle.ring_sections.proofs.search.+extend.Goals as goal
+use Rattle.ring_sections.proofs.search.+extend.Goals.{then-fits+in_ok-way+in_ok-extend, else-fits, then-left-eq0-via-then-left-eq0, then-left-eq0-via-else-left-eq0+then-is_taken}
+
+-- the pairs at the wanted point, as they are looked up
+looked_up : (M : List Mission) (n : ℕ) (r : List Pair) (wanted : ℕ) (all : List (List Pair)) (here : List Pair) → ArePointsBelow M n →
+    next_point M (pair_at r (length r - 1)) ≡ Some wanted → all ≡ standing M n → here ≡ slice_index_or all wanted [] → here ≡ standing_at M wanted
+looked_up M n r wanted all here points wants is at =
+    at ∙ ap (λ (s : List (List Pair)). slice_index_or s wanted []) is
+    ∙ standing-at M n wanted (points (pair_at r (length r - 1)).0 ((pair_at r (length r - 1)).1 + 1) wanted wants)
+
+-- one pair more
+valid_longer : (M : List Mission) (r longer here : List Pair) (wanted k : ℕ) → All (IsPair M) r → here ≡ standing_at M wanted → k < length here →
+    longer ≡ r ++ slice_index_or here k (0, 0) ∷ [] → All (IsPair M) longer
+valid_longer M r longer here wanted k valid is l same =
+    let w : Pair = slice_index_or here k (0, 0) in
+    let one : IsPair M w =
+    subst (λ (xs : List Pair). k < length xs → IsPair M (slice_index_or xs k (0, 0))) (sym is) (stander-valid M wanted k (0, 0)) l in
+    subst (All (IsPair M)) (sym same) (All-append (IsPair M) r (w ∷ []) valid (All-cons (IsPair M) w [] one (All-nil (IsPair M))))
+
+-- the circular waits, by the pairs that were looked up
+by_here : (M : List Mission) (r here : List Pair) (n wanted : ℕ) → 0 < n → 0 < length r → next_point M (pair_at r (length r - 1)) ≡ Some wanted → here ≡ standing_at M wanted →
+    rings_from M r n ≡ own_ring M r ++ flat_map (λ w. rings_from M (r ++ w ∷ []) (n - 1)) here
+by_here M r here n wanted more some wants is =
+    rings_from-standing M r n wanted more some wants ∙ ap (λ ws. own_ring M r ++ flat_map (λ w. rings_from M (r ++ w ∷ []) (n - 1)) ws) (sym is)
+
+pub returns-in_default : goal.returns-in_default
+returns-in_default t c =
+    adds_none c.args.found.now.items (rings_from c.args.missions.now c.args.way.now c.args.left)
+    (none_wanted c.args.missions.now c.args.way.now c.args.left c.requires.some (sym c.next_point_of.ensures ∙ c.in_default.is)) c.requires.few
+
+pub returns-then-levels-wanted : goal.returns-then-levels-wanted
+returns-then-levels-wanted t c =
+    adds_none c.args.found.now.items (rings_from c.args.missions.now c.args.way.now c.args.left)
+    (too_far c.args.missions.now c.args.levels.now c.args.way.now c.args.left c.in-Some.wanted c.requires.levels c.requires.some
+    (sym c.next_point_of.ensures ∙ c.in-Some.is) c.if-levels-wanted.true)
+    c.requires.few
+
+pub returns-in_err-keep_ring : goal.returns-in_err-keep_ring
+returns-in_err-keep_ring t c =
+    let o = own_first c.args.missions.now c.args.way.now c.args.left in
+    adds_err c.args.found.now.items c.keep_ring.new.found.items (own_ring c.args.missions.now c.args.way.now) o.0
+    (rings_from c.args.missions.now c.args.way.now c.args.left) c.from_residual.result c.in_err-keep_ring.field-0.0
+    c.from_residual.ensures.1 o.1 c.in_err-keep_ring.ensures
+
+pub returns-then-left-eq0 : goal.returns-then-left-eq0
+returns-then-left-eq0 t c =
+    let M = c.args.missions.now in
+    let r = c.args.way.now in
+    let own : rings_from M r c.args.left ≡ own_ring M r =
+    (elim c.then-left-eq0.branch [
+      | then-left-eq0-via-then-left-eq0 w ↦ ap (rings_from M r) w.if-left-eq0.true ∙ rings_from-zero M r
+      | then-left-eq0-via-else-left-eq0+then-is_taken w ↦
+          none_behind_taken M r c.args.left c.in-Some.wanted c.requires.some (sym c.next_point_of.ensures ∙ c.in-Some.is)
+          (w.is_taken.ensures.0 w.if-is_taken.true)
+    ]) in
+    (c.in_ok-keep_ring.ensures.0 ∙ ap (λ (vs : List (List Pair)). c.args.found.now.items ++ vs) (sym own), c.in_ok-keep_ring.ensures.1)
+
+pub at-next-items-requires : goal.at-next-items-requires
+at-next-items-requires t c =
+    let w : Pair = pair_at c.args.way.now (length c.args.way.now - 1) in
+    let l : c.in-Some.wanted < length c.args.levels.now = c.requires.points w.0 (w.1 + 1) c.in-Some.wanted (sym c.next_point_of.ensures ∙ c.in-Some.is) in
+    let n : length (standing c.args.missions.now (length c.args.levels.now)) ≡ length c.args.levels.now =
+    length-map-range_with_len (standing_at c.args.missions.now) 0 (length c.args.levels.now) in
+    subst (λ (all : List (List Pair)). c.in-Some.wanted < length all) (sym c.requires.standing) (omega arith)
+
+pub extend-requires : goal.extend-requires
+extend-requires t c =
+    let M = c.args.missions.now in
+    let r = c.args.way.now in
+    let here = c.at-next-items.result.now in
+    let k = c.loop-next.next-index in
+    let is : here ≡ standing_at M c.in-Some.wanted =
+    looked_up M (length c.args.levels.now) r c.in-Some.wanted c.args.standing.now here c.requires.points
+    (sym c.next_point_of.ensures ∙ c.in-Some.is) c.requires.standing c.at-next-items.ensures in
+    let longer : c.deref.result.now ≡ r ++ slice_index_or here k (0, 0) ∷ [] = c.deref.ensures.value ∙ c.in_ok-way.ensures in
+    let some : 0 < length r = c.requires.some in (
+      omega (arith, c.decreases),
+      (
+        c.requires.points,
+        (
+          c.requires.standing,
+          (
+            subst (λ (v : Pair). AreLevels M v c.args.levels.now) (sym (ap (λ (rs : List Pair). pair_at rs 0) longer ∙ at_old r (slice_index_or here k (0, 0) ∷ []) 0 some)) c.requires.levels,
+            (
+              subst (λ (rs : List Pair). 0 < length rs) (sym longer) (omega (arith, length-append r (slice_index_or here k (0, 0) ∷ []))),
+              (
+                valid_longer M r c.deref.result.now here c.in-Some.wanted k c.requires.way is c.loop-next-test.true longer,
+                c.loop-next.invariant.few,
+              ),
+            ),
+          ),
+        ),
+      ),
+    )
+
+pub returns-in_err-extend : goal.returns-in_err-extend
+returns-in_err-extend t c =
+    let M = c.args.missions.now in
+    let r = c.args.way.now in
+    let here = c.at-next-items.result.now in
+    let k = c.loop-next.next-index in
+    let w : Pair = slice_index_or here k (0, 0) in
+    let wants : next_point M (pair_at r (length r - 1)) ≡ Some c.in-Some.wanted = sym c.next_point_of.ensures ∙ c.in-Some.is in
+    let is : here ≡ standing_at M c.in-Some.wanted =
+    looked_up M (length c.args.levels.now) r c.in-Some.wanted c.args.standing.now here c.requires.points wants c.requires.standing c.at-next-items.ensures in
+    let longer : c.deref.result.now ≡ r ++ w ∷ [] = c.deref.ensures.value ∙ c.in_ok-way.ensures in
+    failed_part (λ v. rings_from M (r ++ v ∷ []) (c.args.left - 1)) here k w c.args.found.now.items (own_ring M r) c.loop-next.found.items c.extend.new.found.items
+    (rings_from M r c.args.left) c.from_residual-in_err-extend.result c.in_err-extend.field-0.0
+    c.loop-next-test.true (at-any here k (0, 0) w c.loop-next-test.true) c.loop-next.invariant.found
+    (by_here M r here c.args.left c.in-Some.wanted (omega arith) c.requires.some wants is)
+    c.from_residual-in_err-extend.ensures.1
+    (subst (λ (rs : List Pair). Fails (c.loop-next.found.items ++ rings_from M rs (c.args.left - 1)) c.in_err-extend.field-0.0) longer c.in_err-extend.ensures)
+
+pub loop-next-preserved : goal.loop-next-preserved
+loop-next-preserved t c =
+    let M = c.args.missions.now in
+    let r = c.args.way.now in
+    let here = c.at-next-items.result.now in
+    let k = c.loop-next.next-index in
+    let w : Pair = slice_index_or here k (0, 0) in
+    let same : w ≡ slice_index_or here k w = at-any here k (0, 0) w c.loop-next-test.true in
+    let G : Pair → List (List Pair) = λ v. rings_from M (r ++ v ∷ []) (c.args.left - 1) in
+    elim c.if-fits.branch [
+      | then-fits+in_ok-way+in_ok-extend v ↦
+          let longer : v.deref.result.now ≡ r ++ w ∷ [] = v.deref.ensures.value ∙ v.in_ok-way.ensures in
+          let items : c.if-fits.found.items ≡ v.extend.new.found.items = ap (λ (f : Vec (List Pair) Global). f.items) v.found-is in
+          let few = v.in_ok-extend.ensures.1 in
+          record {
+            found = added_more G here k w c.args.found.now.items (own_ring M r) c.loop-next.found.items c.if-fits.found.items
+                (rings_from M v.deref.result.now (c.args.left - 1)) c.loop-next-test.true same c.loop-next.invariant.found
+                (items ∙ v.in_ok-extend.ensures.0) (ap (λ (rs : List Pair). rings_from M rs (c.args.left - 1)) longer);
+            few = subst (λ (f : List (List Pair)). length f ≤ 64) (sym items) few;
+          }
+      | else-fits v ↦
+          let items : c.if-fits.found.items ≡ c.loop-next.found.items = ap (λ (f : Vec (List Pair) Global). f.items) v.found-is in
+          let unfit : fits r w ≡ false = sym c.fits.ensures ∙ v.if-fits.false in
+          record {
+            found = added_more G here k w c.args.found.now.items (own_ring M r) c.loop-next.found.items c.if-fits.found.items
+                [] c.loop-next-test.true same c.loop-next.invariant.found
+                (items ∙ sym (append-nil c.loop-next.found.items)) (sym (none_unfit M r w (c.args.left - 1) c.requires.some unfit));
+            few = subst (λ (f : List (List Pair)). length f ≤ 64) (sym items) c.loop-next.invariant.few;
+          }
+    ]
+
+pub returns : goal.returns
+returns t c =
+    let M = c.args.missions.now in
+    let r = c.args.way.now in
+    let here = c.at-next-items.result.now in
+    let wants : next_point M (pair_at r (length r - 1)) ≡ Some c.in-Some.wanted = sym c.next_point_of.ensures ∙ c.in-Some.is in
+    let is : here ≡ standing_at M c.in-Some.wanted =
+    looked_up M (length c.args.levels.now) r c.in-Some.wanted c.args.standing.now here c.requires.points wants c.requires.standing c.at-next-items.ensures in (
+      added_all (λ v. rings_from M (r ++ v ∷ []) (c.args.left - 1)) here c.loop-next.next-index c.args.found.now.items (own_ring M r) c.loop-next.found.items
+          (rings_from M r c.args.left) (omega arith) c.loop-next.invariant.found
+          (by_here M r here c.args.left c.in-Some.wanted (omega arith) c.requires.some wants is),
+      c.loop-next.invariant.few,
+    )

@@ -1,0 +1,15 @@
+use Rattle.std.proofs.Common.{◌∙◌, ap, subst, sym}
+use Rattle.std.specs.Prelude.{All, filter}
+use Rattle.ring_sections.specs.Search.{IsPair, stands_at, standing_at}
+use Rattle.ring_sections.proofs.StepLists.{valid-pairs}
+use Rattle.forbidden_states.proofs.Listed.{next_listed}
+use Rattle.ring_sections.proofs.standing.standing_of.Goals as goal
+
+pub standers_at-requires : goal.standers_at-requires
+standers_at-requires c = subst (All (IsPair c.args.missions.now)) (sym c.requires.pairs) (valid-pairs c.args.missions.now)
+
+pub loop-point-preserved : goal.loop-point-preserved
+loop-point-preserved c =
+    next_listed (standing_at c.args.missions.now) c.loop-point.point c.loop-point.points.items c.push.new.self.items c.in_ok-standers_at.field-0
+    c.loop-point.invariant c.in_ok-push.ensures.items
+    (c.in_ok-standers_at.ensures ∙ ap (filter (stands_at c.args.missions.now c.loop-point.point)) c.requires.pairs)

@@ -1,0 +1,5 @@
+pub mod Answer
+pub mod Levels
+pub mod Marking
+pub mod Ring
+pub mod Search

@@ -1,0 +1,19 @@
+//! Circular waits of trains, and the sections that forbid them.
+#![tactic(auto)]
+
+mod laws;
+mod levels;
+mod marking;
+mod placed;
+mod refused;
+mod ring;
+mod search;
+mod standing;
+#[cfg(test)]
+mod tests;
+
+pub use laws::lists_just_the_rings;
+pub use marking::mark_rings;
+pub use refused::Rings;
+pub use ring::Ring;
+pub use search::rings;

@@ -1,0 +1,92 @@
+// Whether pairs are a circular wait.
+ghost use Rattle.std.specs.Prelude.{◌≡◌, ℕ, ◌+◌, ◌<◌, ◌≤◌, ◌↔◌, ◌%◌, All, IsTrue, length, Some};
+ghost use Rattle.ring_sections.specs.Ring.{point_at, next_point, pair_at, IsRing};
+ghost use Rattle.ring_sections.specs.Search.{IsPair, WaitsFor, AreApart, IsPlaced};
+
+use rail_model::Missions;
+
+// The point of a pair.
+pub(crate) fn point_of(missions: &Missions, pair: (u32, u32)) -> Option<u32>
+    requires { IsPair missions.now pair }
+    ensures { result ≡ point_at missions.now pair }
+{
+    missions.mission(pair.0).point(pair.1)
+}
+
+// The point that a pair wants.
+pub(crate) fn next_point_of(missions: &Missions, pair: (u32, u32)) -> Option<u32>
+    requires { IsPair missions.now pair }
+    ensures { result ≡ next_point missions.now pair }
+{
+    let _trains = missions.len();
+    missions.mission(pair.0).point(pair.1 + 1)
+}
+
+// Whether a pair wants the point of another.
+fn waits_for(missions: &Missions, pair: (u32, u32), other: (u32, u32)) -> bool
+    requires pair { IsPair missions.now pair }
+    requires other { IsPair missions.now other }
+    ensures { IsTrue result ↔ WaitsFor missions.now pair other }
+{
+    match next_point_of(missions, pair) {
+        Some(wanted) => point_of(missions, other) == Some(wanted),
+        None => false,
+    }
+}
+
+// Whether two pairs are of two trains at two points.
+fn are_apart(missions: &Missions, first: (u32, u32), second: (u32, u32)) -> bool
+    requires first { IsPair missions.now first }
+    requires second { IsPair missions.now second }
+    ensures { IsTrue result ↔ AreApart missions.now first second }
+{
+    if first.0 == second.0 {
+        return false;
+    }
+    match point_of(missions, first) {
+        Some(point) => point_of(missions, second) != Some(point),
+        None => true,
+    }
+}
+
+// Whether a pair is apart from those before it.
+fn is_new(missions: &Missions, way: &[(u32, u32)], index: usize) -> bool
+    requires way { All (IsPair missions.now) way.now }
+    requires index { index < length way.now }
+    ensures { IsTrue result ↔ ((j : ℕ) → j < index → AreApart missions.now (pair_at way.now j) (pair_at way.now index)) }
+{
+    for earlier in 0..index {
+        if !are_apart(missions, way[earlier], way[index]) {
+            return false;
+        }
+    }
+    true
+}
+
+// Whether a pair is as in a circular wait.
+fn is_placed(missions: &Missions, way: &[(u32, u32)], index: usize) -> bool
+    requires way { All (IsPair missions.now) way.now }
+    requires index { index < length way.now }
+    ensures { IsTrue result ↔ IsPlaced missions.now way.now index }
+{
+    let next = (index + 1) % way.len();
+    waits_for(missions, way[index], way[next])
+        && (index == 0 || way[0].0 < way[index].0)
+        && is_new(missions, way, index)
+}
+
+// Whether the pairs are a circular wait. The last pair, which may not close it, is looked at first.
+pub(crate) fn is_ring(missions: &Missions, way: &[(u32, u32)]) -> bool
+    requires { All (IsPair missions.now) way.now }
+    ensures { IsTrue result ↔ IsRing missions.now way.now }
+{
+    if way.len() < 2 {
+        return false;
+    }
+    for index in (0..way.len()).rev() {
+        if !is_placed(missions, way, index) {
+            return false;
+        }
+    }
+    true
+}

@@ -1,0 +1,176 @@
+// The search for circular waits: each from its least train on, pair by pair, in the order in which they are listed.
+ghost use Rattle.std.specs.Prelude.{◌≡◌, ◌<◌, ◌≤◌, ◌==◌, ◌-◌, ◌++◌, ◌∷◌, [], All, IfOk, IsTrue, ◌↔◌, length};
+ghost use Rattle.std.specs.List.{list_any};
+ghost use Rattle.rail_model.specs.Turns.{Answers};
+ghost use Rattle.ring_sections.specs.Ring.{pair_at, IsRing};
+ghost use Rattle.ring_sections.specs.Search.{IsPair, ArePointsBelow, standing as standing_at_all, IsTaken, fits as fits_after, own_ring, rings_from};
+ghost use Rattle.ring_sections.specs.Levels.{steps as steps_of_all, AreLevels};
+ghost use Rattle.ring_sections.specs.Answer.{Adds, all_rings};
+
+use crate::levels::{Step, levels_of, steps_of};
+use crate::placed::{is_ring, next_point_of, point_of};
+use crate::standing::{Standing, pairs_of, size_of, standing_of};
+use crate::{Ring, Rings};
+use rail_model::Missions;
+use std::alloc::{AllocError, Global};
+
+// So many circular waits are listed at most.
+const MOST_RINGS: usize = 64;
+
+// Adds the pairs to the circular waits, if they are one.
+fn keep_ring(
+    alloc: Global,
+    missions: &Missions,
+    way: &[(u32, u32)],
+    found: &mut Vec<Ring>,
+) -> Result<(), Rings>
+    requires way { All (IsPair missions.now) way.now }
+    requires few { length found.old.items ≤ 64 }
+    ensures { Adds found.old.items found.new.items (own_ring missions.now way.now) result }
+{
+    if !is_ring(missions, way) {
+        return Ok(());
+    }
+    if found.len() == MOST_RINGS {
+        return Err(Rings::Many { count: 65 });
+    }
+    let pairs = Vec::from_slice(alloc, way)?;
+    found.push(Ring::from(pairs))?;
+    Ok(())
+}
+
+fn has_train(way: &[(u32, u32)], train: u32) -> bool
+    ensures { result ≡ list_any (λ v. v.0 == train) way.now }
+{
+    way.iter().any(|pair| pair.0 == train)
+}
+
+// Whether a pair may come next: its train is above the first, and none of these.
+fn fits(way: &[(u32, u32)], next: (u32, u32)) -> bool
+    requires { 0 < length way.now }
+    ensures { result ≡ fits_after way.now next }
+{
+    way[0].0 < next.0 && !has_train(way, next.0)
+}
+
+fn longer(
+    alloc: Global,
+    way: &[(u32, u32)],
+    next: (u32, u32),
+) -> Result<Vec<(u32, u32)>, AllocError>
+    ensures { IfOk result (λ longer. longer.items ≡ way.now ++ next ∷ []) }
+{
+    let mut longer = Vec::with_capacity(alloc, way.len() + 1)?;
+    longer.extend_from_slice(way)?;
+    longer.push(next)?;
+    Ok(longer)
+}
+
+// Whether one of the pairs stands at a point.
+fn is_taken(missions: &Missions, way: &[(u32, u32)], point: u32) -> bool
+    requires { All (IsPair missions.now) way.now }
+    ensures { IsTrue result ↔ IsTaken missions.now way.now point }
+{
+    for &pair in way {
+        if point_of(missions, pair) == Some(point) {
+            return true;
+        }
+    }
+    false
+}
+
+// Adds the circular waits that begin with some pairs and have at most `left` more.
+fn extend(
+    alloc: Global,
+    missions: &Missions,
+    standing: &Standing,
+    levels: &[u32],
+    way: &[(u32, u32)],
+    left: u32,
+    found: &mut Vec<Ring>,
+) -> Result<(), Rings>
+    requires points { ArePointsBelow missions.now (length levels.now) }
+    requires standing { standing.now ≡ standing_at_all missions.now (length levels.now) }
+    requires levels { AreLevels missions.now (pair_at way.now 0) levels.now }
+    requires some { 0 < length way.now }
+    requires way { All (IsPair missions.now) way.now }
+    requires few { length found.old.items ≤ 64 }
+    ensures { Adds found.old.items found.new.items (rings_from missions.now way.now left) result }
+{
+    let Some(wanted) = next_point_of(missions, way[way.len() - 1]) else {
+        return Ok(());
+    };
+    if levels[wanted as usize] > left {
+        return Ok(());
+    }
+    keep_ring(alloc, missions, way, found)?;
+    if left == 0 || is_taken(missions, way, wanted) {
+        return Ok(());
+    }
+    for &next in standing.at(wanted) {
+        if fits(way, next) {
+            let way = longer(alloc, way, next)?;
+            extend(alloc, missions, standing, levels, &way, left - 1, found)?;
+        }
+    }
+    Ok(())
+}
+
+// Adds the circular waits that begin with a pair.
+fn add_from(
+    alloc: Global,
+    missions: &Missions,
+    standing: &Standing,
+    steps: &[Step],
+    first: (u32, u32),
+    most: u32,
+    found: &mut Vec<Ring>,
+) -> Result<(), Rings>
+    requires points { ArePointsBelow missions.now (length standing.now) }
+    requires standing { standing.now ≡ standing_at_all missions.now (length standing.now) }
+    requires steps { steps.now ≡ steps_of_all missions.now }
+    requires first { IsPair missions.now first }
+    requires few { length found.old.items ≤ 64 }
+    requires most { 0 < most }
+    ensures { Adds found.old.items found.new.items (rings_from missions.now (first ∷ []) (most - 1)) result }
+{
+    let levels = levels_of(alloc, missions, steps, standing.len(), first, most)?;
+    extend(
+        alloc,
+        missions,
+        standing,
+        &levels,
+        &[first],
+        most - 1,
+        found,
+    )
+}
+
+/// All circular waits of at most `most` trains, in the order of their pairs: train before place, and a list before those that
+/// begin with it.
+///
+/// From each place of each train the search goes along later trains, and only to points from which steps of later trains lead back
+/// in time. It ends at the 65th. It may take long only where there are few circular waits and many trains on closed ways of at most
+/// `most` points, each of which would need one train twice.
+///
+/// # Errors
+///
+/// `Many` exactly where there are more than 64; want of memory, of which it takes in proportion to the greatest number of a point.
+pub fn rings(alloc: Global, missions: &Missions, most: u32) -> Result<Vec<Ring>, Rings>
+    requires least { 2 ≤ most }
+    requires greatest { most ≤ 8 }
+    ensures rings { Answers Rings.Memory (λ rings. rings.items) result (all_rings missions.now most) }
+
+    ensures each { IfOk result (λ rings. All (IsRing missions.now) rings.items) }
+    ensures few { IfOk result (λ rings. length rings.items ≤ 64) }
+{
+    let size = size_of(missions);
+    let pairs = pairs_of(alloc, missions)?;
+    let standing = standing_of(alloc, missions, &pairs, size)?;
+    let steps = steps_of(alloc, missions)?;
+    let mut found = Vec::new(alloc);
+    for &first in &pairs {
+        add_from(alloc, missions, &standing, &steps, first, most, &mut found)?;
+    }
+    Ok(found)
+}

@@ -1,0 +1,152 @@
+// The pairs of trains and places, by the points at which they stand.
+ghost use Rattle.std.specs.Prelude.{◌≡◌, ℕ, ◌<◌, ◌≤◌, ◌++◌, ◌^◌, [], All, IfOk, OnOk, length, filter, slice_index_or};
+ghost use Rattle.rail_model.specs.Table.{IsMission};
+ghost use Rattle.ring_sections.specs.Ring.{train_pairs, pairs as all_pairs};
+ghost use Rattle.ring_sections.specs.Search.{IsPair, ArePointsBelow, stands_at as stands_at_point, standing as standing_at_all};
+
+use crate::placed::point_of;
+use forbidden_states::last_of;
+use rail_model::{Mission, Missions};
+use std::alloc::{AllocError, Global};
+use std::marker::Model;
+
+/// The pairs at one point.
+#[derive(Drop)]
+struct Standers {
+    pairs: Vec<(u32, u32)>,
+}
+
+impl Model for Standers {
+    ghost use Rattle.std.specs.Prelude.{List};
+    ghost use Rattle.ring_sections.specs.Ring.{Pair};
+
+    ghost Value = { List Pair };
+
+    ghost view = { λ s. s.pairs.items };
+}
+
+/// For each point the pairs that stand there, in order.
+#[derive(Drop)]
+pub(crate) struct Standing {
+    points: Vec<Standers>,
+}
+
+impl Model for Standing {
+    ghost use Rattle.std.specs.Prelude.{List};
+    ghost use Rattle.ring_sections.specs.Ring.{Pair};
+
+    ghost Value = { List (List Pair) };
+
+    ghost view = { λ s. s.points.items };
+}
+
+impl Standing {
+    // The number of points.
+    pub(crate) fn len(&self) -> usize
+        ensures { result ≡ length self.now }
+    {
+        self.points.len()
+    }
+
+    // The pairs at a point.
+    pub(crate) fn at(&self, point: u32) -> &[(u32, u32)]
+        requires { point < length self.now }
+        ensures { result.now ≡ slice_index_or self.now point [] }
+    {
+        &self.points[point as usize].pairs
+    }
+}
+
+// Adds the pairs of a train.
+fn add_pairs(train: u32, mission: &Mission, pairs: &mut Vec<(u32, u32)>) -> Result<(), AllocError>
+    requires { IsMission mission.now }
+    ensures { OnOk result (pairs.new.items ≡ pairs.old.items ++ train_pairs train mission.now) }
+{
+    for place in 0..last_of(mission) {
+        pairs.push((train, place))?;
+    }
+    Ok(())
+}
+
+// All pairs of a train and a place below its last.
+pub(crate) fn pairs_of(alloc: Global, missions: &Missions) -> Result<Vec<(u32, u32)>, AllocError>
+    ensures { IfOk result (λ pairs. pairs.items ≡ all_pairs missions.now) }
+{
+    let mut pairs = Vec::new(alloc);
+    for train in 0..missions.len() as u32 {
+        add_pairs(train, missions.mission(train), &mut pairs)?;
+    }
+    Ok(pairs)
+}
+
+fn stands_at(missions: &Missions, point: u32, pair: (u32, u32)) -> bool
+    requires { IsPair missions.now pair }
+    ensures { result ≡ stands_at_point missions.now point pair }
+{
+    match point_of(missions, pair) {
+        Some(at) => at == point,
+        None => false,
+    }
+}
+
+fn standers_at(
+    alloc: Global,
+    missions: &Missions,
+    pairs: &[(u32, u32)],
+    point: u32,
+) -> Result<Standers, AllocError>
+    requires { All (IsPair missions.now) pairs.now }
+    ensures { IfOk result (λ standers. standers ≡ filter (stands_at_point missions.now point) pairs.now) }
+{
+    let mut standers = Vec::new(alloc);
+    for &pair in pairs {
+        if stands_at(missions, point, pair) {
+            standers.push(pair)?;
+        }
+    }
+    Ok(Standers { pairs: standers })
+}
+
+// The pairs at each point below `size`.
+pub(crate) fn standing_of(
+    alloc: Global,
+    missions: &Missions,
+    pairs: &[(u32, u32)],
+    size: usize,
+) -> Result<Standing, AllocError>
+    requires pairs { pairs.now ≡ all_pairs missions.now }
+    requires size { size ≤ 2 ^ 32 }
+    ensures { IfOk result (λ standing. standing ≡ standing_at_all missions.now size) }
+{
+    let mut points = Vec::new(alloc);
+    for point in 0..size {
+        points.push(standers_at(alloc, missions, pairs, point as u32)?)?;
+    }
+    Ok(Standing { points })
+}
+
+// A number above all these points, and not below `least`.
+fn above_points(points: &[u32], least: usize) -> usize
+    requires { least ≤ 2 ^ 32 }
+    ensures least { least ≤ result }
+    ensures points { All (λ q. q < result) points.now }
+    ensures most { result ≤ 2 ^ 32 }
+{
+    let mut bound = least;
+    for &point in points {
+        bound = bound.max(point as usize + 1);
+    }
+    bound
+}
+
+// A number above all points of the missions.
+pub(crate) fn size_of(missions: &Missions) -> usize
+    ensures points { ArePointsBelow missions.now result }
+    ensures most { result ≤ 2 ^ 32 }
+{
+    let mut bound = 0;
+    for mission in missions.as_slice() {
+        bound = above_points(mission.as_slice(), bound);
+    }
+    bound
+}

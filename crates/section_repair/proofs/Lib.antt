@@ -1,0 +1,12 @@
+pub mod Asks
+pub mod Closed
+pub mod Kept
+pub mod Lists
+pub mod Lost
+pub mod OneAnswer
+pub mod Reached
+pub mod Rows
+pub mod Stays
+pub mod Steps
+pub mod Told
+pub mod Unions

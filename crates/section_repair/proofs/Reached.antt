@@ -1,0 +1,90 @@
+-- The table that some rounds reached, from one round to the next.
+use Rattle.std.proofs.Common.{◌≡◌, ℕ, zero, suc, ◌<◌, ◌≤◌, List, [], ◌∷◌, ◌++◌, length, Some, None, refl, arith, ap, ◌∙◌, inl, inr, subst, sym}
+use Rattle.std.specs.Prelude.{All, filter, find, unwrap_or, slice_index_or}
+use Rattle.rail_model.specs.Table.{Table, Mission, trains}
+use Rattle.rail_model.specs.Checks.{below}
+use Rattle.rail_model.proofs.Found.{Among}
+use Rattle.cert_maker.specs.declared.made.Made.{Made}
+use Rattle.cert_maker.specs.declared.made.Made.TheVariants.{Stuck as found}
+use Rattle.cert_maker.specs.Rule.{Makes}
+use Rattle.forbidden_states.specs.Forbid.{Stay, AreStays, marked}
+use Rattle.section_repair.specs.Core.{widened, widened_times, closure, closures, is_smallest, is_unfinished, core}
+use Rattle.section_repair.specs.Repairs.{treated, Treats, IsReached}
+use Rattle.section_repair.proofs.Lists.{find-among, among-map, filter-among, below-lt}
+use Rattle.section_repair.proofs.Steps.{widened-below}
+use Rattle.section_repair.proofs.Lost.{AreSound}
+use Rattle.section_repair.proofs.Kept.{reached_sound}
+
+-- ---- the core's trains
+
+one-below : (n i : ℕ) → i < n → All (λ j. j < n) (i ∷ [])
+one-below n i l zero d h = l
+one-below n i l (suc k) d h = absurd (omega arith)
+
+times-below : (T : Table) (p : List ℕ) (n : ℕ) (group : List ℕ) → All (λ j. j < trains T) group → All (λ j. j < trains T) (widened_times T p n group)
+times-below T p zero group all = all
+times-below T p (suc n) group all = times-below T p n (widened T p group) (widened-below T p group)
+
+pub core-below : (T : Table) (p : List ℕ) → All (λ j. j < trains T) (core T p)
+core-below T p =
+    (elim (find (is_smallest (closures T p)) (closures T p)) as (λ o. find (is_smallest (closures T p)) (closures T p) ≡ o → All (λ j. j < trains T) (unwrap_or o [])) [
+      | None ↦ λ e k d l. absurd (omega arith)
+      | Some c ↦ λ e.
+          let m = among-map (closure T p) (filter (is_unfinished T p) (below (trains T))) c (find-among (is_smallest (closures T p)) (closures T p) c e) in
+          let f = filter-among (is_unfinished T p) (below (trains T)) m.0 m.1 in
+          let l : m.0 < trains T = omega (arith, below-lt (trains T) 0 m.0 f.0) in
+          subst (All (λ j. j < trains T)) m.2 (times-below T p (trains T) (m.0 ∷ []) (one-below (trains T) m.0 l))
+    ]) refl
+
+-- ---- sections
+
+among-at : {X : Type 0} (xs : List X) (k : ℕ) (d : X) → k < length xs → Among xs (slice_index_or xs k d)
+among-at [] k d l = absurd (omega arith)
+among-at (x ∷ xs) zero d l = inl refl
+among-at (x ∷ xs) (suc k) d l = inr (among-at xs k d (omega arith))
+
+-- ---- rounds
+
+treats-next : (M : List Mission) (budget : ℕ) (states : List (List ℕ)) (S end next : List (List Stay)) (p : List ℕ) →
+    Treats M budget S states end → length end ≤ 64 → Makes (marked M end) budget (found p) → next ≡ treated M end p → Treats M budget S (states ++ p ∷ []) next
+treats-next M budget [] S end next p t few makes e =
+    (subst (λ v. length v ≤ 64) t few, subst (λ v. Makes (marked M v) budget (found p)) t makes, subst (λ v. next ≡ treated M v p) t e)
+treats-next M budget (q ∷ later) S end next p t few makes e = (t.0, t.1, treats-next M budget later (treated M S q) end next p t.2 few makes e)
+
+-- What a further round finds and makes of a table that was reached.
+pub record IsRound (M : List Mission) (budget : ℕ) (states : List (List ℕ)) (S : List (List Stay)) (T : Table) (p : List ℕ) (next : List (List Stay)) : Type 0 where
+  pub reached : IsReached M budget states S T
+  pub stuck : Makes T budget (found p)
+  pub treated_is : next ≡ treated T.missions S p
+
+pub round_of : (M : List Mission) (budget : ℕ) (states : List (List ℕ)) (S : List (List Stay)) (T : Table) (made : Made) (p : List ℕ) (next : List (List Stay)) →
+    IsReached M budget states S T → Makes T budget made → made ≡ found p → next ≡ treated T.missions S p → IsRound M budget states S T p next
+round_of M budget states S T made p next reached makes stuck is = record { reached = reached; stuck = subst (Makes T budget) stuck makes; treated_is = is }
+
+own-missions : (M : List Mission) (S : List (List Stay)) (T : Table) → T ≡ marked M S → T.missions ≡ M
+own-missions M S T e = ap (λ (v : Table). v.missions) e
+
+pub round-makes : (M : List Mission) (budget : ℕ) (states : List (List ℕ)) (S : List (List Stay)) (T : Table) (p : List ℕ) (next : List (List Stay)) →
+    IsRound M budget states S T p next → next ≡ treated M S p
+round-makes M budget states S T p next r = r.treated_is ∙ ap (λ m. treated m S p) (own-missions M S T r.reached.table)
+
+next-treats : (M : List Mission) (budget : ℕ) (states : List (List ℕ)) (S : List (List Stay)) (T : Table) (p : List ℕ) (next : List (List Stay)) →
+    IsRound M budget states S T p next → Treats M budget [] (states ++ p ∷ []) next
+next-treats M budget states S T p next r =
+    treats-next M budget states [] S next p r.reached.treats r.reached.few (subst (λ v. Makes v budget (found p)) r.reached.table r.stuck)
+    (round-makes M budget states S T p next r)
+
+-- the sections of a further round are of stays
+pub next-stays : (M : List Mission) (budget : ℕ) (states : List (List ℕ)) (S : List (List Stay)) (T : Table) (p : List ℕ) (next : List (List Stay)) →
+    IsRound M budget states S T p next → All (AreStays (length T.missions)) next
+next-stays M budget states S T p next r k d l =
+    let x : AreSound M next = reached_sound M budget (states ++ p ∷ []) next (next-treats M budget states S T p next r) in
+    subst (λ v. AreStays (length v) (slice_index_or next k d)) (sym (own-missions M S T r.reached.table)) (x (slice_index_or next k d) (among-at next k d l)).stays
+
+pub went_on : (M : List Mission) (budget : ℕ) (states : List (List ℕ)) (S : List (List Stay)) (T : Table) (p : List ℕ) (next : List (List Stay)) (N : Table) →
+    IsRound M budget states S T p next → length next ≤ 64 → N ≡ marked T.missions next → IsReached M budget (states ++ p ∷ []) next N
+went_on M budget states S T p next N r few e = record {
+  treats = next-treats M budget states S T p next r;
+  few = few;
+  table = e ∙ ap (λ m. marked m next) (own-missions M S T r.reached.table);
+}

@@ -1,0 +1,12 @@
+use Rattle.std.proofs.Common.{◌≡◌, ◌≤◌, ◌-◌, ℕ, List, length}
+use Rattle.section_repair.specs.Repairs.{IsReached}
+use Rattle.section_repair.proofs.rounds.answer.Given as goal
+
+abbrev pub invariant-rounds : goal.invariant-rounds
+invariant-rounds l = record {
+  reached : (states : List (List ℕ)) × IsReached l.fn.missions l.budget states l.sections.items l.table × (l.used ≡ length states);
+  within : l.used ≤ l.rounds;
+}
+
+abbrev pub decreases-rounds : goal.decreases-rounds
+decreases-rounds l = l.rounds - l.used

@@ -1,0 +1,4 @@
+pub mod Claims
+pub mod Core
+pub mod Joining
+pub mod Repairs
