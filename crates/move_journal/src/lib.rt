@@ -20,7 +20,7 @@ pub use lines::{Journal, Part};
 pub use reading::{read, read_prefix};
 pub use replaying::replay;
 pub use verifying::verify;
-pub use writing::text;
+pub use writing::{push_line, text};
 
 #[cfg(test)]
 mod tests;

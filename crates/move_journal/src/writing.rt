@@ -28,8 +28,13 @@ pub fn text(alloc: Global, names: &Names, journal: &Journal) -> Result<Vec<u8>, 
     Ok(out.into_bytes())
 }
 
-// Adds a line with its number.
-fn push_line(out: &mut String, names: &Names, number: u64, line: &Line) -> Result<(), AllocError>
+/// Adds a line behind a number: its own in a journal, or its tick where a run is timed.
+pub fn push_line(
+    out: &mut String,
+    names: &Names,
+    number: u64,
+    line: &Line,
+) -> Result<(), AllocError>
     requires { IsNamed names.now line.now }
     ensures text { OnOk result (string_bytes out.new ≡ string_bytes out.old ++ (decimal number ++ words names.now line.now ++ codes "\n")) }
     ensures printable { IsPrintable names.now line.now }

@@ -1,0 +1,110 @@
+-- What each turn keeps: one due tick per train, low enough, and one tick per line.
+use Rattle.std.proofs.Common.{◌≡◌, ◌⊎◌, ℕ, ◌+◌, ◌*◌, ◌<◌, ◌≤◌, List, [], ◌∷◌, ◌++◌, length, map, get_or, sym, ◌∙◌, ap, subst, arith, inl, inr, lit≤}
+use Rattle.std.specs.Prelude.{max, slice_index}
+use Rattle.std.proofs.lemmas.Bool.{cases_eq}
+use Rattle.std.proofs.lemmas.List.{get_or-map, length-map, get_or-set_same, get_or-set_other}
+use Rattle.std.proofs.Math.ListN.{length-append, length-set}
+use Rattle.rail_model.specs.declared.types.Ask.{Ask}
+use Rattle.rail_model.specs.declared.types.Ask.TheVariants.{Yes}
+use Rattle.rail_model.specs.declared.types.Line.{Line}
+use Rattle.rail_model.specs.Lines.{move_line}
+use Rattle.rail_model.specs.Journal.{IsDone}
+use Rattle.rail_model.specs.Move.{Move, Answers, Live, advance}
+use Rattle.rail_model.specs.State.{Legal}
+use Rattle.rail_model.specs.Table.{IsTable, trains}
+use Rattle.rail_model.specs.Yard.{Offer, Yard, IsNextDue, offer, in_force, moved}
+use Rattle.rail_model.proofs.Asks.{told_once}
+use Rattle.rail_model.proofs.Live.{arrived_or_moves}
+use Rattle.table_exchange.specs.Steps.{after_ask}
+use Rattle.table_exchange.specs.Tables.{AreTables, Stands}
+use Rattle.plain_yard.specs.Keeps.{Keeps}
+use Rattle.plain_yard.specs.Lines.{asked_lines}
+use Rattle.plain_yard.proofs.Keeping.{few_moves, keeps_ready}
+use Rattle.plain_yard.proofs.Turns.{falls, left}
+use Rattle.train_sim.specs.Steps.{Watched, Grants, IsKept, not_before}
+use Rattle.train_sim.proofs.Waiting.{put_cases}
+
+-- what is at a number offers the table of that number
+pub offer_at : {X : Type 0} (offer_of : X → Offer) (xs : List X) (x : X) (t : ℕ) → t < length xs → x ≡ get_or xs t x → (offer_of x).table ≡ (offer (map offer_of xs) t).table
+offer_at offer_of xs x t below is =
+    ap (λ z. (offer_of z).table) is
+    ∙ ap (λ (o : Offer). o.table) (sym (get_or-map offer_of xs t x (record { table = record { missions = []; sections = []; connections = [] }; after = 0 }) below))
+
+-- the table at the number of the table in force
+pub force_at : {X : Type 0} (offer_of : X → Offer) (xs : List X) (x : X) (t : ℕ) (tables : List Offer) (y : Yard) → t < length xs → x ≡ get_or xs t x → map offer_of xs ≡ tables → t ≡ y.table
+    → (offer_of x).table ≡ in_force tables y
+force_at offer_of xs x t tables y below is are same = offer_at offer_of xs x t below is ∙ ap (λ os. (offer os t).table) are ∙ ap (λ k. (offer tables k).table) same
+
+pub in_tables : {X : Type 0} (offer_of : X → Offer) (xs : List X) (t : ℕ) (tables : List Offer) (y : Yard) → Stands tables y → map offer_of xs ≡ tables → t ≡ y.table → t < length xs
+in_tables offer_of xs t tables y stands are same =
+    let size : length xs ≡ length tables = sym (length-map xs offer_of) ∙ ap length are in
+    omega (arith, stands.in_range)
+
+-- a run has few lines
+pub few_lines : (tables : List Offer) (y : Yard) (lines : List Line) → Keeps tables y lines → IsTable (in_force tables y) → length lines ≤ 4079
+few_lines tables y lines k formed =
+    let ready = keeps_ready tables y lines 4079 k (lit≤ tt) in
+    omega (arith, ready.counted, few_moves tables y ready.stands formed, ready.stands.tried, ready.are.few)
+
+-- all tables have the trains that have due ticks
+pub same_trains : (tables : List Offer) (y : Yard) (w : Watched) (lines : List Line) → AreTables tables → Stands tables y → IsKept tables y w lines → length w.due ≡ trains (in_force tables y)
+same_trains tables y w lines are stands kept = kept.one_each ∙ sym (are.same y.table stands.in_range)
+
+pub low_due : (tables : List Offer) (y : Yard) (w : Watched) (lines : List Line) (i : ℕ) → AreTables tables → Stands tables y → IsTable (in_force tables y) → IsKept tables y w lines
+    → i < trains (in_force tables y) → slice_index w.due i ≤ 4064000
+low_due tables y w lines i are stands formed kept i_in =
+    omega (arith, kept.low i (omega (arith, same_trains tables y w lines are stands kept)), few_moves tables y stands formed)
+
+-- a train that may move and asks has moved, with its line
+pub has_moved : (tables : List Offer) (y z : Yard) (lines longer : List Line) (i : ℕ) (a : Ask) → Move (in_force tables y) y.positions i (advance y.positions i) → Answers (in_force tables y) y.positions i a
+    → z ≡ after_ask y i a → longer ≡ lines ++ asked_lines tables y i a → (z ≡ moved y i) × (longer ≡ lines ++ move_line tables y i ∷ [])
+has_moved tables y z lines longer i a move answer after adds =
+    let yes : a ≡ Yes = told_once (in_force tables y) y.positions i a Yes move.before answer move in
+    (after ∙ ap (after_ask y i) yes, adds ∙ ap (λ (b : Ask). lines ++ asked_lines tables y i b) yes)
+
+pub room_granted : (tables : List Offer) (y : Yard) (w : Watched) (lines longer : List Line) (l : Line) → IsKept tables y w lines → longer ≡ lines ++ l ∷ [] → length longer ≤ 4079 → length w.ticks < 4079
+room_granted tables y w lines longer l kept adds few =
+    let all : length longer ≡ length lines + 1 = ap length adds ∙ length-append lines (l ∷ []) in
+    omega (arith, kept.counted)
+
+pub kept_granted : (tables : List Offer) (y : Yard) (w v : Watched) (lines longer : List Line) (l : Line) (i takes : ℕ) → IsKept tables y w lines → i < length w.due → Grants w i takes v → takes ≤ 1000
+    → longer ≡ lines ++ l ∷ [] → IsKept tables (moved y i) v longer
+kept_granted tables y w v lines longer l i takes kept i_in g short adds =
+    let tick : ℕ = slice_index w.due i in
+    let due_length : length v.due ≡ length w.due = ap length g.due ∙ length-set g.later i (tick + takes) ∙ g.puts_off.0 in
+    let ticks : length v.ticks ≡ length w.ticks + 1 = ap length g.ticks ∙ length-append w.ticks (tick ∷ []) in
+    let all : length longer ≡ length lines + 1 = ap length adds ∙ length-append lines (l ∷ []) in
+    record {
+      one_each = due_length ∙ kept.one_each;
+      low = λ j lt. elim (cases_eq j i) [
+        | inl same ↦
+            let own : slice_index v.due i ≡ tick + takes = ap (λ d. slice_index d i) g.due ∙ get_or-set_same g.later i (tick + takes) 0 (omega (arith, g.puts_off.0)) in
+            let here : slice_index v.due j ≡ slice_index v.due i = ap (slice_index v.due) same in
+            omega (arith, kept.low i i_in)
+        | inr other ↦
+            let there : slice_index v.due j ≡ slice_index g.later j = ap (λ d. slice_index d j) g.due ∙ get_or-set_other g.later i j (tick + takes) 0 other in
+            let j_put : slice_index g.later j ≡ max (slice_index w.due j) (not_before i tick j) = g.puts_off.1 j (omega arith) in
+            let j_low : slice_index w.due j ≤ 1000 * y.moves = kept.low j (omega arith) in
+            elim (put_cases i tick j) [
+              | inl below ↦ omega (arith, below.1, kept.low i i_in)
+              | inr behind ↦ omega (arith, behind.1, kept.low i i_in)
+            ]
+      ];
+      counted = omega (arith, kept.counted);
+    }
+
+-- every turn leaves less to do
+pub less_left : (tables ts us : List Offer) (y z x : Yard) (i : ℕ) → ts ≡ tables → us ≡ ts → Move (in_force tables y) y.positions i (advance y.positions i) → z ≡ moved y i
+    → (x ≡ z) ⊎ (z.tried < x.tried) → Stands us x → IsTable (in_force tables y) → IsTable (in_force us x) → left us x 0 < left tables y 0
+less_left tables ts us y z x i same still move moves tried stands formed new_formed =
+    let all : us ≡ tables = still ∙ same in
+    subst (λ (os : List Offer). left os x 0 < left tables y 0) (sym all)
+    (falls tables y z x i 0 move moves tried (subst (λ (os : List Offer). Stands os x) all stands).tried formed (subst (λ (os : List Offer). IsTable (in_force os x)) all new_formed))
+
+-- where no train may move and no table is due, all is done
+pub all_done : (tables : List Offer) (y : Yard) → Legal (in_force tables y) y.positions → Live (in_force tables y) → ((i : ℕ) → Move (in_force tables y) y.positions i (advance y.positions i) → ⊥)
+    → (IsNextDue tables y → ⊥) → IsDone tables y
+all_done tables y legal live none undue = elim (arrived_or_moves (in_force tables y) y.positions live legal) [
+  | inl arrived ↦ (arrived, λ more. undue (more, inr arrived))
+  | inr w ↦ absurd (none w.0 w.1)
+]

@@ -1,0 +1,9 @@
+pub mod Asking
+pub mod Bounded
+pub mod Keeping
+pub mod Leading
+pub mod Played
+pub mod Righting
+pub mod Rows
+pub mod Sooner
+pub mod Waiting

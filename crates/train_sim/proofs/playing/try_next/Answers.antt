@@ -1,0 +1,19 @@
+use Rattle.std.proofs.Common.{ap, sym, ◌∙◌}
+use Rattle.std.specs.Prelude.{if◌then◌else◌}
+use Rattle.train_sim.specs.Steps.{Watched, noted}
+use Rattle.train_sim.proofs.Leading.{leads_tried}
+use Rattle.train_sim.proofs.playing.try_next.Goals as goal
+
+pub returns-then-not-has_answer-clause-leads : goal.returns-then-not-has_answer-clause-leads
+returns-then-not-has_answer-clause-leads g c times =
+    let w : Watched = c.args.watch.now in
+    leads_tried c.args.run.now.tables times c.args.run.now.yard c.try_table-tried.new.self.yard w w c.args.run.now.lines c.try_table-tried.new.self.lines c.try_table-tried.result
+    c.try_table-tried.ensures.answer c.try_table-tried.ensures.after c.try_table-tried.ensures.adds
+    (sym (ap (λ b. if b then noted w else w) (sym c.has_answer.ensures ∙ c.if-not-has_answer.true)))
+
+pub returns-clause-leads : goal.returns-clause-leads
+returns-clause-leads g c times =
+    let w : Watched = c.args.watch.now in
+    leads_tried c.args.run.now.tables times c.args.run.now.yard c.try_table-tried.new.self.yard w c.note_table.new.self c.args.run.now.lines c.try_table-tried.new.self.lines c.try_table-tried.result
+    c.try_table-tried.ensures.answer c.try_table-tried.ensures.after c.try_table-tried.ensures.adds
+    (c.note_table.ensures ∙ sym (ap (λ b. if b then noted w else w) (sym c.has_answer.ensures ∙ c.if-not-has_answer.false)))
