@@ -1,0 +1,7 @@
+use Rattle.document_generator.proofs.Loops.{grown_take}
+use Rattle.document_generator.specs.Pairs.{Pair}
+use Rattle.document_generator.proofs.generator.times.Goals as goal
+
+pub loop-pair-preserved : goal.loop-pair-preserved
+loop-pair-preserved c =
+    grown_take (λ (g : Pair). g.times) c.args.pairs.now _ _ _ _ c.loop-pair-test.true c.pair-item.is c.loop-pair.invariant c.in_ok-add_times.ensures

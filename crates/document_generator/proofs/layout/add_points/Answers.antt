@@ -1,0 +1,6 @@
+use Rattle.document_generator.proofs.Loops.{grown}
+use Rattle.document_generator.specs.Pieces.{loop_points}
+use Rattle.document_generator.proofs.layout.add_points.Goals as goal
+
+pub loop-place-preserved : goal.loop-place-preserved
+loop-place-preserved c = grown (loop_points c.args.pair.now) _ _ _ _ c.loop-place.invariant c.in_ok-add_loop_points.ensures

@@ -1,0 +1,5 @@
+pub mod Draws
+pub mod Pairs
+pub mod Pieces
+pub mod Generated
+pub mod Seen

@@ -1,0 +1,93 @@
+// Points and links.
+ghost use Rattle.std.specs.Prelude.{◌≡◌, ◌<◌, ◌++◌, IfOk, OnOk, map, flat_map};
+ghost use Rattle.document_generator.specs.Pieces.{loop_points, points_of, loop_links, links_of};
+ghost use Rattle.document_generator.specs.Seen.{point_seen, link_seen};
+
+use crate::names::{joint, lower, upper};
+use crate::pairs::Pair;
+use std::alloc::{AllocError, Global};
+
+/// How many zones there are.
+pub const ZONES: u32 = 4;
+
+// Adds the points of a loop behind its first joint.
+fn add_loop_points(
+    alloc: Global,
+    pair: &Pair,
+    place: u32,
+    found: &mut Vec<(String, u32)>,
+) -> Result<(), AllocError>
+    requires { place < 8 }
+    ensures { OnOk result (map point_seen found.new.items ≡ map point_seen found.old.items ++ loop_points pair.now place) }
+{
+    let start = pair.first() + 3 * place;
+    found.push((upper(alloc, pair, place)?, (start + 1) % ZONES))?;
+    found.push((lower(alloc, pair, place)?, (start + 2) % ZONES))?;
+    found.push((joint(alloc, pair, place + 1)?, (start + 3) % ZONES))?;
+    Ok(())
+}
+
+// Adds the points of a pair.
+fn add_points(alloc: Global, pair: &Pair, found: &mut Vec<(String, u32)>) -> Result<(), AllocError>
+    ensures { OnOk result (map point_seen found.new.items ≡ map point_seen found.old.items ++ points_of pair.now) }
+{
+    found.push((joint(alloc, pair, 0)?, pair.first() % ZONES))?;
+    for place in 0..pair.loops() {
+        add_loop_points(alloc, pair, place, found)?;
+    }
+    Ok(())
+}
+
+/// The points of all pairs, with their zones.
+pub fn points(alloc: Global, pairs: &[Pair]) -> Result<Vec<(String, u32)>, AllocError>
+    ensures { IfOk result (λ v. map point_seen v.items ≡ flat_map points_of pairs.now) }
+{
+    let mut found = Vec::new(alloc);
+    for pair in pairs {
+        add_points(alloc, pair, &mut found)?;
+    }
+    Ok(found)
+}
+
+// Adds the links of a loop.
+fn add_loop_links(
+    alloc: Global,
+    pair: &Pair,
+    place: u32,
+    found: &mut Vec<(String, String)>,
+) -> Result<(), AllocError>
+    requires { place < 8 }
+    ensures { OnOk result (map link_seen found.new.items ≡ map link_seen found.old.items ++ loop_links pair.now place) }
+{
+    let next = place + 1;
+    found.push((joint(alloc, pair, place)?, upper(alloc, pair, place)?))?;
+    found.push((upper(alloc, pair, place)?, joint(alloc, pair, next)?))?;
+    found.push((joint(alloc, pair, next)?, lower(alloc, pair, place)?))?;
+    found.push((lower(alloc, pair, place)?, joint(alloc, pair, place)?))?;
+    Ok(())
+}
+
+// Adds the links of a pair.
+fn add_links(
+    alloc: Global,
+    pair: &Pair,
+    found: &mut Vec<(String, String)>,
+) -> Result<(), AllocError>
+    ensures { OnOk result (map link_seen found.new.items ≡ map link_seen found.old.items ++ links_of pair.now) }
+{
+    for place in 0..pair.loops() {
+        add_loop_links(alloc, pair, place, found)?;
+    }
+    Ok(())
+}
+
+/// The links of all pairs, by the names of their points.
+pub fn links(alloc: Global, pairs: &[Pair]) -> Result<Vec<(String, String)>, AllocError>
+    ensures { IfOk result (λ v. map link_seen v.items ≡ flat_map links_of pairs.now) }
+{
+    let mut found = Vec::new(alloc);
+    for pair in pairs {
+        add_links(alloc, pair, &mut found)?;
+    }
+    Ok(found)
+}

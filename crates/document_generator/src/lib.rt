@@ -1,0 +1,14 @@
+//! Generated documents: pairs of trains that meet on rows of loops, drawn from a seed.
+#![tactic(auto)]
+
+mod draws;
+mod generator;
+mod layout;
+mod names;
+mod pairs;
+mod sections;
+#[cfg(test)]
+mod tests;
+mod ways;
+
+pub use generator::generate;
