@@ -27,6 +27,6 @@ fn main(rt: HostRuntime) -> ExitCode {
     let mut source = Reading::new(rt.stdin());
     let mut out = Writing::new(rt.stdout());
     let mut err = Writing::new(rt.stderr());
-    let status = ats(rt.alloc(), &words, &mut source, &mut out, &mut err);
+    let status = ats(&rt, rt.alloc(), &words, &mut source, &mut out, &mut err);
     ExitCode::from(code(status))
 }

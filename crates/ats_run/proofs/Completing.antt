@@ -1,23 +1,41 @@
 -- A good input ends well unless memory or a device fails.
-use Rattle.std.proofs.Common.{◌≡◌, ◌≢◌, ◌⊎◌, ℕ, ◌<◌, ◌≤◌, List, length, Option, Some, None, refl, sym, ◌∙◌, ap, subst, arith, inl, inr}
-use Rattle.std.specs.Prelude.{Result, Ok, Err, IfSome}
+use Rattle.std.proofs.Common.{◌≡◌, ◌≢◌, ◌⊎◌, ℕ, ◌<◌, ◌≤◌, List, length, Some, refl, sym, ◌∙◌, ap, subst, arith, inl, inr}
+use Rattle.std.specs.Prelude.{Ok, Err}
+use Rattle.rail_model.specs.Table.{Table}
 use Rattle.rail_model.specs.Certificate.{Tree, FirstBad}
+use Rattle.memchr.specs.Find.{OccursAt}
+use Rattle.rail_model.proofs.Decide.{same_first}
 use Rattle.rail_model.proofs.FirstBads.{not_both}
+use Rattle.cert_maker.specs.Rule.{Makes}
+use Rattle.cert_maker.specs.declared.made.Made.TheVariants.{Cert as cert, Stuck as found, Spent as spent}
+use Rattle.cert_maker.proofs.Spelled.{makes_one}
 use Rattle.cert_tree.proofs.Spell.{one_tree}
 use Rattle.cert_tree.proofs.Verdicts.{refused_not_spelled}
 use Rattle.command_words.specs.declared.orders.Order.{Order}
-use Rattle.command_words.specs.declared.orders.Order.TheVariants.{Run, Resume, Check, Verify, Migrate, Make}
+use Rattle.command_words.specs.declared.orders.Order.TheVariants.{Run, Resume, Check, Verify, Migrate, Make, Derive, Repair, Simulate, Generate, Drill}
+use Rattle.move_journal.specs.declared.faults.BadText.TheVariants.{NoEnd}
 use Rattle.layout_json.specs.Doc.{Doc, table_at, nodes_at}
 use Rattle.layout_json.specs.Trees.{tree_at, IsNoTree}
 use Rattle.layout_json.specs.Reading.{doc_of}
+use Rattle.legal_state.proofs.Verdicts.{illegal_not_legal}
 use Rattle.ats_run.specs.declared.status.Status.{Status}
 use Rattle.ats_run.specs.declared.failure.Failure.{Failure}
 use Rattle.ats_run.specs.declared.failure.Failure.TheVariants as failure
-use Rattle.ats_run.specs.Causes.{Call, IsCause, most_bytes}
-use Rattle.ats_run.specs.Certificates.{AreAccepted, IsBadTable}
-use Rattle.ats_run.specs.Command.{Comes, IsUnchecked}
-use Rattle.ats_run.specs.Complete.{IsAcceptedInput, IsGoodInput, IsDoneOrMemory}
+use Rattle.ats_run.specs.Causes.{Call, Asked, IsRead, IsCause, most_bytes}
+use Rattle.ats_run.specs.Certificates.{IsBadTable}
+use Rattle.ats_run.specs.Command.{Comes, IsDocWith, IsNoDoc, IsUnchecked, IsUnverifiedInput, IsUnresumedInput, IsUnmadeInput, IsUnderivedInput, IsUnrepairedInput}
+use Rattle.ats_run.specs.Complete.{IsAcceptedInput, IsWholeText, IsRightFront, IsJournalInput, IsDerivable, IsGoodInput, IsDoneOrMemory}
+use Rattle.ats_run.specs.Deriving.{derived, IsUnderived}
 use Rattle.ats_run.specs.Ending.{status_of}
+use Rattle.document_generator.specs.Generated.{generated}
+use Rattle.ats_run.specs.Generating.{full_budget}
+use Rattle.ats_run.specs.Journals.{mark, IsCut, document_part, journal_part, IsUnreadable, IsUnverified, IsUnresumed}
+use Rattle.ats_run.specs.Making.{tables_in, table_in, AreMakeable, IsUnmade, MakesNone}
+use Rattle.ats_run.specs.Orders.{Reads, OnInput, Holds}
+use Rattle.ats_run.specs.Repairing.{IsUnrepaired, IsRepairable}
+use Rattle.ats_run.proofs.Reading.{of_input}
+use Rattle.ats_run.proofs.Repairable.{not_unrepaired}
+use Rattle.ats_run.proofs.GoodJournals.{readable, verified, begins_readable, resumed}
 
 same_doc : (input : List ℕ) (D E : Doc) → doc_of input ≡ Ok D → doc_of input ≡ Ok E → E ≡ D
 same_doc input D E d e = let both = sym e ∙ d in let same : E ≡ D = cc in same
@@ -42,57 +60,196 @@ not_unchecked input good failure.Memory h = h
 not_unchecked input good failure.ReadFault h = h
 not_unchecked input good failure.WriteFault h = h
 not_unchecked input good failure.TooLong h = h
+not_unchecked input good (failure.Spent t n) h = h
+not_unchecked input good (failure.Stuck t p) h = h
+not_unchecked input good (failure.Rounds t n p) h = h
+not_unchecked input good (failure.Many t n) h = h
+not_unchecked input good (failure.Connected t) h = h
 not_unchecked input good failure.NoJournal h = h
 not_unchecked input good (failure.Text x) h = h
 not_unchecked input good (failure.Line x) h = h
+
+same_cut : (input : List ℕ) (j k : ℕ) → IsCut input j → IsCut input k → j ≡ k
+same_cut input j k p q = same_first (OccursAt input mark) j k p q
+
+-- what is said of some cut and document of an input is said of its own
+said_of : (input : List ℕ) (P Q : Doc → List ℕ → Type 0) (good : IsJournalInput input P)
+    → (k : ℕ) × IsCut input k × IsDocWith (document_part input k) (λ D. Q D (journal_part input k)) → Q good.3.0 (journal_part input good.0)
+said_of input P Q good h =
+    let moved = subst (λ k. IsDocWith (document_part input k) (λ D. Q D (journal_part input k))) (same_cut input h.0 good.0 h.1 good.1) h.2 in
+    subst (λ (E : Doc). Q E (journal_part input good.0)) (same_doc (document_part input good.0) good.3.0 moved.0 good.3.1 moved.1) moved.2
+
+-- the document of such an input is refused for nothing
+part_not_unchecked : (input : List ℕ) (P : Doc → List ℕ → Type 0) (good : IsJournalInput input P) (e : Failure)
+    → (k : ℕ) × IsCut input k × IsUnchecked (document_part input k) e → ⊥
+part_not_unchecked input P good e h =
+    not_unchecked (document_part input good.0) good.2 e (subst (λ k. IsUnchecked (document_part input k) e) (same_cut input h.0 good.0 h.1 good.1) h.2)
+
+not_unverified : (input : List ℕ) (good : IsJournalInput input IsWholeText) (e : Failure) → IsUnverifiedInput input e → ⊥
+not_unverified input good failure.NoJournal h = h good.0 good.1.0
+not_unverified input good (failure.Text cause) h =
+    readable good.3.0 (journal_part input good.0) good.3.2 cause (said_of input IsWholeText (λ D given. IsUnreadable D given cause) good h)
+not_unverified input good (failure.Line cause) h =
+    verified good.3.0 (journal_part input good.0) good.3.2 cause (said_of input IsWholeText (λ D given. IsUnverified D given cause) good h)
+not_unverified input good (failure.Document x) h = part_not_unchecked input IsWholeText good (failure.Document x) h
+not_unverified input good (failure.Tree t x) h = part_not_unchecked input IsWholeText good (failure.Tree t x) h
+not_unverified input good (failure.Certificate t x) h = part_not_unchecked input IsWholeText good (failure.Certificate t x) h
+not_unverified input good (failure.Spent t n) h = h.2
+not_unverified input good (failure.Stuck t p) h = h.2
+not_unverified input good (failure.Rounds t n p) h = h.2
+not_unverified input good (failure.Many t n) h = h.2
+not_unverified input good (failure.Connected t) h = h.2
+not_unverified input good failure.Words h = h.2
+not_unverified input good failure.Memory h = h.2
+not_unverified input good failure.ReadFault h = h.2
+not_unverified input good failure.WriteFault h = h.2
+not_unverified input good failure.TooLong h = h.2
+
+-- the given bytes are a whole journal's text or a right front
+abbrev Begins : Doc → List ℕ → Type 0
+Begins D given = IsWholeText D given ⊎ IsRightFront D given
+
+not_unresumed : (input : List ℕ) (good : IsJournalInput input Begins) (e : Failure) → IsUnresumedInput input e → ⊥
+not_unresumed input good failure.NoJournal h = h good.0 good.1.0
+not_unresumed input good (failure.Text cause) h =
+    let said = said_of input Begins (λ D given. IsUnreadable D given cause × (cause ≢ NoEnd)) good h in
+    begins_readable good.3.0 (journal_part input good.0) good.3.2 cause said.0 said.1
+not_unresumed input good (failure.Line cause) h =
+    resumed good.3.0 (journal_part input good.0) good.3.2 cause (said_of input Begins (λ D given. IsUnresumed D given cause) good h)
+not_unresumed input good (failure.Document x) h = part_not_unchecked input Begins good (failure.Document x) h
+not_unresumed input good (failure.Tree t x) h = part_not_unchecked input Begins good (failure.Tree t x) h
+not_unresumed input good (failure.Certificate t x) h = part_not_unchecked input Begins good (failure.Certificate t x) h
+not_unresumed input good (failure.Spent t n) h = h.2
+not_unresumed input good (failure.Stuck t p) h = h.2
+not_unresumed input good (failure.Rounds t n p) h = h.2
+not_unresumed input good (failure.Many t n) h = h.2
+not_unresumed input good (failure.Connected t) h = h.2
+not_unresumed input good failure.Words h = h.2
+not_unresumed input good failure.Memory h = h.2
+not_unresumed input good failure.ReadFault h = h.2
+not_unresumed input good failure.WriteFault h = h.2
+not_unresumed input good failure.TooLong h = h.2
+
+not_no_doc : (input : List ℕ) (D : Doc) → doc_of input ≡ Ok D → (e : Failure) → IsNoDoc input e → ⊥
+not_no_doc input D is e h = let both = sym h.2 ∙ is in cc
+
+-- two answers of the maker are one
+made_or_not : (T : Table) (budget t : ℕ) (tree : Tree) → Makes T budget (cert tree) → (e : Failure) → MakesNone T t budget e → ⊥
+made_or_not T budget t tree good (failure.Spent u n) h = let same = makes_one T budget (cert tree) (spent n) good h.1 in cc
+made_or_not T budget t tree good (failure.Stuck u p) h = let same = makes_one T budget (cert tree) (found p) good h.1 in cc
+made_or_not T budget t tree good failure.Words h = h
+made_or_not T budget t tree good failure.Memory h = h
+made_or_not T budget t tree good failure.ReadFault h = h
+made_or_not T budget t tree good failure.WriteFault h = h
+made_or_not T budget t tree good failure.TooLong h = h
+made_or_not T budget t tree good (failure.Document x) h = h
+made_or_not T budget t tree good (failure.Tree u x) h = h
+made_or_not T budget t tree good (failure.Certificate u x) h = h
+made_or_not T budget t tree good (failure.Rounds u n p) h = h
+made_or_not T budget t tree good (failure.Many u n) h = h
+made_or_not T budget t tree good (failure.Connected u) h = h
+made_or_not T budget t tree good failure.NoJournal h = h
+made_or_not T budget t tree good (failure.Text x) h = h
+made_or_not T budget t tree good (failure.Line x) h = h
+
+not_unmade : (input : List ℕ) (budget : ℕ) → IsDocWith input (λ D. AreMakeable (tables_in D) budget) → (e : Failure) → IsUnmadeInput input budget e → ⊥
+not_unmade input budget good e (inl h) = not_no_doc input good.0 good.1 e h
+not_unmade input budget good e (inr h) =
+    let same = same_doc input good.0 h.0 good.1 h.1 in
+    let no = subst (λ (E : Doc). IsUnmade (tables_in E) budget e) same h.2 in
+    let tree = good.2 no.table no.in_range in
+    made_or_not (table_in (tables_in good.0) no.table) budget no.table tree.0 tree.1 e no.none
+
+not_underived : (input : List ℕ) (most budget : ℕ) → IsDocWith input (IsDerivable most budget) → (e : Failure) → IsUnderivedInput input most budget e → ⊥
+not_underived input most budget good e (inl h) = not_no_doc input good.0 good.1 e h
+not_underived input most budget good e (inr h) =
+    let D = good.0 in
+    let same = same_doc input D h.0 good.1 h.1 in
+    let no = subst (λ (E : Doc). IsUnderived E most budget e) same h.2 in
+    elim no [
+      | inl many ↦ let few = good.2.0 many.table many.in_range in omega (arith, few, many.many.1)
+      | inr (inl bad) ↦ illegal_not_legal (table_in (derived D most) 0) D.start bad.1.0 bad.1.2 good.2.1
+      | inr (inr none) ↦
+          let tree = good.2.2 none.2.table none.2.in_range in
+          made_or_not (table_in (derived D most) none.2.table) budget none.2.table tree.0 tree.1 e none.2.none
+    ]
+
+not_repaired : (input : List ℕ) (budget rounds : ℕ) → IsDocWith input (λ D. IsRepairable D budget rounds) → (e : Failure) → IsUnrepairedInput input budget rounds e → ⊥
+not_repaired input budget rounds good e (inl h) = not_no_doc input good.0 good.1 e h
+not_repaired input budget rounds good e (inr h) =
+    not_unrepaired good.0 budget rounds good.2 e (subst (λ (E : Doc). IsUnrepaired E budget rounds e) (same_doc input good.0 h.0 good.1 h.1) h.2)
 
 -- a good input is refused for nothing
 not_refused : (order : Order) (input : List ℕ) → IsGoodInput order input → (e : Failure) → Comes order input (Err e) → ⊥
 not_refused (Run w r) input good e h = not_unchecked input good.1 e h
 not_refused Check input good e h = not_unchecked input good.1 e h
-not_refused (Resume w r) input good e h = good
-not_refused Verify input good e h = good
-not_refused Migrate input good e h = good
-not_refused (Make b) input good e h = good
+not_refused (Resume w r) input good e h = not_unresumed input good.1 e h
+not_refused Verify input good e h = not_unverified input good.1 e h
+not_refused Migrate input good e h = not_no_doc input good.1.0 good.1.1 e h
+not_refused (Make b) input good e h = not_unmade input b good.1 e h
+not_refused (Derive m b) input good e h = not_underived input m b good.1 e h
+not_refused (Repair b r) input good e h = not_repaired input b r good.1 e h
+not_refused Simulate input good e h = not_unchecked input good.1 e h
+not_refused (Generate s n) input good e h = not_unmade (generated s n) full_budget good.1 e h
+not_refused (Drill s n w) input good e h = good
 
 short : (order : Order) (input : List ℕ) → IsGoodInput order input → length input ≤ most_bytes
 short (Run w r) input good = good.0
 short Check input good = good.0
-short (Resume w r) input good = absurd good
-short Verify input good = absurd good
-short Migrate input good = absurd good
-short (Make b) input good = absurd good
+short (Resume w r) input good = good.0
+short Verify input good = good.0
+short Migrate input good = good.0
+short (Make b) input good = good.0
+short (Derive m b) input good = good.0
+short (Repair b r) input good = good.0
+short Simulate input good = good.0
+short (Generate s n) input good = good.0
+short (Drill s n w) input good = absurd good
 
 -- what a call knows of a good input
 pub record IsGoodCall (call : Call) (order : Order) (input : List ℕ) : Type 0 where
   pub asked : call.order ≡ Some order
-  pub held : call.held ≡ Some input
+  pub held : Holds order call.held input
   pub good : IsGoodInput order input
   pub source : call.source_failed → ⊥
   pub sink : call.sink_failed → ⊥
 
--- a command's refusal of a good input
-refused : (call : Call) (order : Order) (input : List ℕ) → IsGoodCall call order input → (e : Failure)
-    → (asked : Order) × (call.order ≡ Some asked) × IfSome call.held (λ input. Comes asked input (Err e)) → ⊥
-refused call order input g e h =
+-- the order that was asked for is the one of a good call
+asked_for : (call : Call) (order : Order) (input : List ℕ) → IsGoodCall call order input → (P : Order → Type 0) → Asked call P → P order
+asked_for call order input g P h =
     let both = sym h.1 ∙ g.asked in
     let same : h.0 ≡ order = cc in
-    let comes = subst (λ (o : Option (List ℕ)). IfSome o (λ input. Comes h.0 input (Err e))) g.held h.2 in
-    not_refused order input g.good e (subst (λ (o : Order). Comes o input (Err e)) same comes)
+    subst P same h.2
+
+-- a command's refusal of a good input
+refused : (call : Call) (order : Order) (input : List ℕ) → IsGoodCall call order input → (e : Failure)
+    → Asked call (λ asked. IsRead call asked × OnInput asked call.held (λ input. Comes asked input (Err e))) → ⊥
+refused call order input g e h =
+    let here = asked_for call order input g (λ asked. IsRead call asked × OnInput asked call.held (λ input. Comes asked input (Err e))) h in
+    not_refused order input g.good e (of_input order call.held input (λ input. Comes order input (Err e)) g.held here.1)
+
+too_long : (call : Call) (order : Order) (input : List ℕ) → IsGoodCall call order input → IsCause call failure.TooLong → ⊥
+too_long call order input g h =
+    let here = asked_for call order input g (λ asked. Reads asked × OnInput asked call.held (λ input. most_bytes < length input)) h in
+    let long : most_bytes < length input = of_input order call.held input (λ input. most_bytes < length input) g.held here.1 in
+    let few = short order input g.good in
+    omega arith
 
 -- the refusal of a good call is want of memory
 only_memory : (call : Call) (order : Order) (input : List ℕ) → IsGoodCall call order input → (e : Failure) → IsCause call e → e ≡ failure.Memory
 only_memory call order input g failure.Memory h = refl
 only_memory call order input g failure.Words h = let both = sym h ∙ g.asked in absurd cc
-only_memory call order input g failure.ReadFault h = absurd (g.source h)
-only_memory call order input g failure.WriteFault h = absurd (g.sink h)
-only_memory call order input g failure.TooLong h =
-    let long : most_bytes < length input = subst (λ (o : Option (List ℕ)). IfSome o (λ input. most_bytes < length input)) g.held h in
-    let few = short order input g.good in
-    absurd (omega arith)
+only_memory call order input g failure.ReadFault h = absurd (g.source h.2.1)
+only_memory call order input g failure.WriteFault h = absurd (g.sink h.2.1)
+only_memory call order input g failure.TooLong h = absurd (too_long call order input g h)
 only_memory call order input g (failure.Document x) h = absurd (refused call order input g (failure.Document x) h)
 only_memory call order input g (failure.Tree t x) h = absurd (refused call order input g (failure.Tree t x) h)
 only_memory call order input g (failure.Certificate t x) h = absurd (refused call order input g (failure.Certificate t x) h)
+only_memory call order input g (failure.Spent t n) h = absurd (refused call order input g (failure.Spent t n) h)
+only_memory call order input g (failure.Stuck t p) h = absurd (refused call order input g (failure.Stuck t p) h)
+only_memory call order input g (failure.Rounds t n p) h = absurd (refused call order input g (failure.Rounds t n p) h)
+only_memory call order input g (failure.Many t n) h = absurd (refused call order input g (failure.Many t n) h)
+only_memory call order input g (failure.Connected t) h = absurd (refused call order input g (failure.Connected t) h)
 only_memory call order input g failure.NoJournal h = absurd (refused call order input g failure.NoJournal h)
 only_memory call order input g (failure.Text x) h = absurd (refused call order input g (failure.Text x) h)
 only_memory call order input g (failure.Line x) h = absurd (refused call order input g (failure.Line x) h)

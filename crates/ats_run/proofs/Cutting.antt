@@ -1,5 +1,5 @@
 -- The first place of the line between a document and a journal.
-use Rattle.std.proofs.Common.{◌≡◌, ℕ, ◌+◌, ◌<◌, List, length, Option, Some, None, arith}
+use Rattle.std.proofs.Common.{ℕ, ◌+◌, ◌<◌, List, length, Some, None, arith}
 use Rattle.memchr.specs.Find.{OccursAt, FindsNeedle}
 use Rattle.ats_run.specs.Journals.{mark, IsCut, HasNoCut}
 

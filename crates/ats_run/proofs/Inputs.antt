@@ -11,7 +11,7 @@ use Rattle.ats_run.specs.declared.failure.Failure.{Failure}
 use Rattle.ats_run.specs.declared.failure.Failure.TheVariants.{Memory as NoMemory}
 use Rattle.ats_run.specs.Ending.{failure_of_text}
 use Rattle.ats_run.specs.Command.{IsResumedInput}
-use Rattle.ats_run.specs.Journals.{IsCut, IsResumed, IsTextFault, document_part, journal_part}
+use Rattle.ats_run.specs.Journals.{IsCut, IsResumed, IsTextFault, IsPartFault, document_part, journal_part}
 
 pub resumed_input : (input document given written : List ℕ) → (k : ℕ) × IsCut input k × (document ≡ document_part input k) × (given ≡ journal_part input k)
     → (D : Doc) → doc_of document ≡ Ok D → IsResumed D given written → IsResumedInput input written
@@ -25,11 +25,11 @@ whole_told N given (Number k) h = inr h
 whole_told N given After h = inr h
 whole_told N given NoEnd h = inr h
 
-part_told : (N : Names) (given : List ℕ) (cause : BadText) → AnswersPrefix N given (Err cause) → (failure_of_text cause ≡ NoMemory) ⊎ IsTextFault N given (failure_of_text cause)
+part_told : (N : Names) (given : List ℕ) (cause : BadText) → AnswersPrefix N given (Err cause) → (failure_of_text cause ≡ NoMemory) ⊎ IsPartFault N given (failure_of_text cause)
 part_told N given Memory h = inl refl
-part_told N given (Line k) h = inr h
-part_told N given (Number k) h = inr h
-part_told N given After h = inr h
+part_told N given (Line k) h = inr (h, λ same. cc)
+part_told N given (Number k) h = inr (h, λ same. cc)
+part_told N given After h = inr (h, λ same. cc)
 part_told N given NoEnd h = absurd h
 
 pub text_fault : (N M : Names) (given : List ℕ) (cause : BadText) (e : Failure) → M ≡ N → Answers M given (Err cause) → e ≡ failure_of_text cause → (e ≡ NoMemory) ⊎ IsTextFault N given e
@@ -37,6 +37,6 @@ text_fault N M given cause e same h is =
     subst (λ (x : Failure). (x ≡ NoMemory) ⊎ IsTextFault N given x) (sym is) (whole_told N given cause (subst (λ (x : Names). Answers x given (Err cause)) same h))
 
 pub part_fault : (N M : Names) (given : List ℕ) (cause : BadText) (e : Failure) → M ≡ N → AnswersPrefix M given (Err cause) → e ≡ failure_of_text cause
-    → (e ≡ NoMemory) ⊎ IsTextFault N given e
+    → (e ≡ NoMemory) ⊎ IsPartFault N given e
 part_fault N M given cause e same h is =
-    subst (λ (x : Failure). (x ≡ NoMemory) ⊎ IsTextFault N given x) (sym is) (part_told N given cause (subst (λ (x : Names). AnswersPrefix x given (Err cause)) same h))
+    subst (λ (x : Failure). (x ≡ NoMemory) ⊎ IsPartFault N given x) (sym is) (part_told N given cause (subst (λ (x : Names). AnswersPrefix x given (Err cause)) same h))

@@ -1,7 +1,17 @@
+pub mod Answered
 mod Completing
 mod Cutting
+mod Derived
+mod Drilled
+mod GoodJournals
 mod Inputs
+mod LightMarked
 mod LineFaults
+pub mod Made
 mod Offered
+pub mod Reading
+mod Repairable
+mod Repaired
 mod Resumed
 mod Runs
+pub mod Simulated

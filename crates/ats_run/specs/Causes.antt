@@ -1,11 +1,12 @@
 -- Why a call may end with a refusal, and what it then tells.
-use Rattle.std.specs.Prelude.{◌≡◌, ℕ, ◌<◌, List, length, Option, Some, None, Ok, Err, IfSome}
+use Rattle.std.specs.Prelude.{◌≡◌, ◌⊎◌, ℕ, ◌<◌, List, length, Option, Some, None, Err, IfSome}
 use Rattle.ats_io.specs.Bytes.{Adds, AddsPrefix}
 use Rattle.command_words.specs.declared.orders.Order.{Order}
 use Rattle.ats_run.specs.declared.status.Status.{Status}
 use Rattle.ats_run.specs.declared.failure.Failure.{Failure}
 use Rattle.ats_run.specs.declared.failure.Failure.TheVariants.{Words, Memory, ReadFault, WriteFault, TooLong}
 use Rattle.ats_run.specs.Ending.{status_of}
+use Rattle.ats_run.specs.Orders.{Reads, OnInput}
 use Rattle.ats_run.specs.Command.{Comes}
 use Rattle.ats_run.specs.Report.{line_of}
 
@@ -13,21 +14,42 @@ use Rattle.ats_run.specs.Report.{line_of}
 abbrev pub most_bytes : ℕ
 most_bytes = 16777216
 
--- What a call knows of the outside: the order that its words ask for, what the source held, and whether source and sink failed in it.
+-- What a call knows of the outside: the order that its words ask for, what the source held, whether it is at its end now, and
+-- whether source and sink failed in the call.
 pub record Call : Type 1 where
   pub order : Option Order
   pub held : Option (List ℕ)
+  pub at_end : Type 0
   pub source_failed : Type 0
   pub sink_failed : Type 0
 
--- The cause of a refusal. Want of memory alone is free.
+-- The words ask for an order, of which the fact holds.
+abbrev pub Asked : Call → (Order → Type 0) → Type 0
+Asked call P = (order : Order) × (call.order ≡ Some order) × P order
+
+-- What the order reads was read to its end.
+abbrev pub IsRead : Call → Order → Type 0
+IsRead call order = Reads order → call.at_end
+
+-- The cause of a refusal. Want of memory alone is free. What isn't of the words or of the source comes only after the source was
+-- read to its end.
 abbrev pub IsCause : Call → Failure → Type 0
 IsCause call Words = call.order ≡ None
 IsCause call Memory = Unit {0}
-IsCause call ReadFault = call.source_failed
-IsCause call WriteFault = call.sink_failed
-IsCause call TooLong = IfSome call.held (λ input. most_bytes < length input)
-IsCause call e = (order : Order) × (call.order ≡ Some order) × IfSome call.held (λ input. Comes order input (Err e))
+IsCause call ReadFault = Asked call (λ order. Reads order × call.source_failed)
+IsCause call TooLong = Asked call (λ order. Reads order × OnInput order call.held (λ input. most_bytes < length input))
+IsCause call WriteFault = Asked call (λ order. IsRead call order × call.sink_failed)
+IsCause call e = Asked call (λ order. IsRead call order × OnInput order call.held (λ input. Comes order input (Err e)))
+
+-- Why an input was not read: memory alone is free.
+abbrev pub IsUnread : Option (List ℕ) → Type 0 → Failure → Type 0
+IsUnread held source_failed e =
+    (e ≡ Memory) ⊎ ((e ≡ ReadFault) × source_failed) ⊎ ((e ≡ TooLong) × IfSome held (λ input. most_bytes < length input))
+
+-- Why nothing, or a part alone, was written of what an order comes to on an input.
+abbrev pub IsUnwritten : Order → List ℕ → Type 0 → Failure → Type 0
+IsUnwritten order input sink_failed e =
+    (e ≡ Memory) ⊎ ((e ≡ WriteFault) × sink_failed) ⊎ Comes order input (Err e)
 
 -- A refusal with this status has its cause, and its line was told: whole, unless the error sink failed.
 pub record Tells (call : Call) (status : Status) (err_failed : Type 0) (old new : Option (List ℕ)) : Type 0 where

@@ -1,20 +1,34 @@
 -- What each command comes to on the bytes of its input: the bytes that it prints, or the refusal that it tells.
-use Rattle.std.specs.Prelude.{◌≡◌, ℕ, List, Result, Ok, Err}
+use Rattle.std.specs.Prelude.{◌≡◌, ◌≢◌, ◌⊎◌, ℕ, List, Result, Ok, Err}
 use Rattle.command_words.specs.declared.orders.Order.{Order}
-use Rattle.command_words.specs.declared.orders.Order.TheVariants.{Run, Resume, Check, Verify}
+use Rattle.command_words.specs.declared.orders.Order.TheVariants.{Run, Resume, Check, Verify, Migrate, Make, Derive, Repair, Simulate, Generate, Drill}
+use Rattle.move_journal.specs.declared.faults.BadText.TheVariants.{NoEnd}
+use Rattle.document_generator.specs.Generated.{generated}
 use Rattle.layout_json.specs.Doc.{Doc}
 use Rattle.layout_json.specs.Trees.{IsNoTree}
 use Rattle.layout_json.specs.Reading.{doc_of}
+use Rattle.layout_json.specs.Migrated.{migrated}
+use Rattle.layout_json.specs.Written.{written as text_of}
+use Rattle.layout_json.specs.declared.refused.DocRefused.{DocRefused}
 use Rattle.ats_run.specs.declared.failure.Failure.{Failure}
 use Rattle.ats_run.specs.declared.failure.Failure.TheVariants.{Document, Tree, Certificate, NoJournal, Text, Line}
 use Rattle.ats_run.specs.Certificates.{IsBadTable}
 use Rattle.ats_run.specs.Checking.{IsChecked}
 use Rattle.ats_run.specs.Journals.{IsCut, HasNoCut, document_part, journal_part, IsVerified, IsUnreadable, IsUnverified, IsResumed, IsUnresumed}
+use Rattle.ats_run.specs.Generating.{full_budget, IsDrilled}
 use Rattle.ats_run.specs.Headline.{IsRun, IsRoundRobin}
+use Rattle.ats_run.specs.Deriving.{IsDerived, IsUnderived}
+use Rattle.ats_run.specs.Making.{tables_in, IsMade, IsUnmade}
+use Rattle.ats_run.specs.Repairing.{IsRepaired, IsUnrepaired}
+use Rattle.ats_run.specs.Simulating.{IsSimulated}
 
 -- The bytes are a document, of which the fact holds.
 abbrev pub IsDocWith : List ℕ → (Doc → Type 0) → Type 0
 IsDocWith input P = (D : Doc) × (doc_of input ≡ Ok D) × P D
+
+-- The bytes are no document, for the first cause.
+abbrev pub IsNoDoc : List ℕ → Failure → Type 0
+IsNoDoc input e = (cause : DocRefused) × (e ≡ Document cause) × (doc_of input ≡ Err cause)
 
 -- The bytes are no document with a certificate for each table: the first refusal in the order document, trees, certificates.
 abbrev pub IsUnchecked : List ℕ → Failure → Type 0
@@ -46,10 +60,32 @@ IsResumedInput input written =
 abbrev pub IsUnresumedInput : List ℕ → Failure → Type 0
 IsUnresumedInput input NoJournal = HasNoCut input
 IsUnresumedInput input (Text cause) =
-    (k : ℕ) × IsCut input k × IsDocWith (document_part input k) (λ D. IsUnreadable D (journal_part input k) cause)
+    (k : ℕ) × IsCut input k × IsDocWith (document_part input k) (λ D. IsUnreadable D (journal_part input k) cause × (cause ≢ NoEnd))
 IsUnresumedInput input (Line cause) =
     (k : ℕ) × IsCut input k × IsDocWith (document_part input k) (λ D. IsUnresumed D (journal_part input k) cause)
 IsUnresumedInput input e = (k : ℕ) × IsCut input k × IsUnchecked (document_part input k) e
+
+-- The bytes are no document of which each table gets a certificate.
+abbrev pub IsUnmadeInput : List ℕ → ℕ → Failure → Type 0
+IsUnmadeInput input budget e = IsNoDoc input e ⊎ IsDocWith input (λ D. IsUnmade (tables_in D) budget e)
+
+-- The bytes are no document whose tables take the sections of their rings and then get certificates.
+abbrev pub IsUnderivedInput : List ℕ → ℕ → ℕ → Failure → Type 0
+IsUnderivedInput input most budget e = IsNoDoc input e ⊎ IsDocWith input (λ D. IsUnderived D most budget e)
+
+-- The bytes are no document whose tables are repaired so that its start stays legal.
+abbrev pub IsUnrepairedInput : List ℕ → ℕ → ℕ → Failure → Type 0
+IsUnrepairedInput input budget rounds e = IsNoDoc input e ⊎ IsDocWith input (λ D. IsUnrepaired D budget rounds e)
+
+-- The certificates of the document are made, and the run of the document so made is counted.
+abbrev pub IsDrilledInput : List ℕ → List ℕ → Type 0
+IsDrilledInput input written =
+    (made : List ℕ) × IsDocWith input (λ D. IsMade D full_budget made) × IsDocWith made (λ D. IsDrilled D written)
+
+-- Why not: no certificates, or what was made is refused.
+abbrev pub IsUndrilledInput : List ℕ → Failure → Type 0
+IsUndrilledInput input e =
+    IsUnmadeInput input full_budget e ⊎ ((made : List ℕ) × IsDocWith input (λ D. IsMade D full_budget made) × IsUnchecked made e)
 
 abbrev pub Comes : Order → List ℕ → Result (List ℕ) Failure → Type 0
 Comes (Run workers rounds) input (Ok written) = IsDocWith input (λ D. IsRun D written × IsRoundRobin D written)
@@ -60,4 +96,17 @@ Comes Verify input (Ok written) = IsVerifiedInput input written
 Comes Verify input (Err e) = IsUnverifiedInput input e
 Comes (Resume workers rounds) input (Ok written) = IsResumedInput input written
 Comes (Resume workers rounds) input (Err e) = IsUnresumedInput input e
-Comes order input result = ⊥
+Comes Migrate input (Ok written) = IsDocWith input (λ D. written ≡ text_of (migrated D))
+Comes Migrate input (Err e) = IsNoDoc input e
+Comes (Make budget) input (Ok written) = IsDocWith input (λ D. IsMade D budget written)
+Comes (Make budget) input (Err e) = IsUnmadeInput input budget e
+Comes (Derive most budget) input (Ok written) = IsDocWith input (λ D. IsDerived D most budget written)
+Comes (Derive most budget) input (Err e) = IsUnderivedInput input most budget e
+Comes (Repair budget rounds) input (Ok written) = IsDocWith input (λ D. IsRepaired D budget rounds written)
+Comes (Repair budget rounds) input (Err e) = IsUnrepairedInput input budget rounds e
+Comes Simulate input (Ok written) = IsDocWith input (λ D. IsSimulated D written)
+Comes Simulate input (Err e) = IsUnchecked input e
+Comes (Generate seed trains) input (Ok written) = IsDocWith (generated seed trains) (λ D. IsMade D full_budget written)
+Comes (Generate seed trains) input (Err e) = IsUnmadeInput (generated seed trains) full_budget e
+Comes (Drill seed trains workers) input (Ok written) = IsDrilledInput (generated seed trains) written
+Comes (Drill seed trains workers) input (Err e) = IsUndrilledInput (generated seed trains) e

@@ -1,22 +1,67 @@
 -- Inputs that a command takes: where no device fails, its answer is its text, or there was no memory.
-use Rattle.std.specs.Prelude.{◌≡◌, ◌⊎◌, ℕ, ◌≤◌, List, length}
+use Rattle.std.specs.Prelude.{◌≡◌, ◌⊎◌, ℕ, ◌≤◌, List, length, Ok}
 use Rattle.command_words.specs.declared.orders.Order.{Order}
-use Rattle.command_words.specs.declared.orders.Order.TheVariants.{Run, Check}
+use Rattle.command_words.specs.declared.orders.Order.TheVariants.{Run, Resume, Check, Verify, Migrate, Make, Derive, Repair, Simulate, Generate}
 use Rattle.rail_model.specs.Certificate.{Tree}
+use Rattle.rail_model.specs.State.{Legal}
+use Rattle.rail_model.specs.Yard.{opening}
+use Rattle.rail_model.specs.Journal.{Journal, IsRight, IsWhole}
+use Rattle.move_journal.specs.Answers.{IsTextOf, IsFrontOf}
+use Rattle.document_generator.specs.Generated.{generated}
+use Rattle.layout_json.specs.Doc.{Doc, offers_of, names_of}
+use Rattle.layout_json.specs.Reading.{doc_of}
 use Rattle.ats_run.specs.declared.status.Status.{Status}
 use Rattle.ats_run.specs.declared.status.Status.TheVariants.{Done, Memory}
 use Rattle.ats_run.specs.Causes.{most_bytes}
 use Rattle.ats_run.specs.Certificates.{AreAccepted}
 use Rattle.ats_run.specs.Command.{IsDocWith}
+use Rattle.ats_run.specs.Generating.{full_budget}
+use Rattle.ats_run.specs.Journals.{IsCut, document_part, journal_part}
+use Rattle.ats_run.specs.Deriving.{derived, HaveFewRings}
+use Rattle.ats_run.specs.Making.{tables_in, table_in, AreMakeable}
+use Rattle.ats_run.specs.Repairing.{IsRepairable}
+
+-- The bytes are a document.
+abbrev pub IsDocument : List ℕ → Type 0
+IsDocument input = (D : Doc) × (doc_of input ≡ Ok D)
 
 -- The bytes are a document whose every table accepts its certificate.
 abbrev pub IsAcceptedInput : List ℕ → Type 0
 IsAcceptedInput input = IsDocWith input (λ D. (trees : List Tree) × AreAccepted D trees)
 
+-- The bytes are the text of a whole journal of the document.
+abbrev pub IsWholeText : Doc → List ℕ → Type 0
+IsWholeText D given = (J : Journal) × IsTextOf (names_of D) given J × IsWhole (offers_of D) (opening D.start) J
+
+-- The bytes are the front of a text, and its lines are right.
+abbrev pub IsRightFront : Doc → List ℕ → Type 0
+IsRightFront D given = (J : Journal) × IsFrontOf (names_of D) given J × IsRight (offers_of D) (opening D.start) J.lines
+
+-- The bytes are an accepted document, the line between, and a journal of which the fact holds.
+abbrev pub IsJournalInput : List ℕ → (Doc → List ℕ → Type 0) → Type 0
+IsJournalInput input P =
+    (k : ℕ) × IsCut input k × IsAcceptedInput (document_part input k)
+    × IsDocWith (document_part input k) (λ D. P D (journal_part input k))
+
+-- Each table has few enough rings; with their sections the start is legal, and each gets a certificate within the budget.
+abbrev pub IsDerivable : ℕ → ℕ → Doc → Type 0
+IsDerivable most budget D =
+    HaveFewRings D most × Legal (table_in (derived D most) 0) D.start × AreMakeable (derived D most) budget
+
 -- Not too long, and what the command asks for.
 abbrev pub IsGoodInput : Order → List ℕ → Type 0
 IsGoodInput (Run workers rounds) input = (length input ≤ most_bytes) × IsAcceptedInput input
+IsGoodInput Simulate input = (length input ≤ most_bytes) × IsAcceptedInput input
 IsGoodInput Check input = (length input ≤ most_bytes) × IsAcceptedInput input
+IsGoodInput Verify input = (length input ≤ most_bytes) × IsJournalInput input IsWholeText
+IsGoodInput (Resume workers rounds) input =
+    (length input ≤ most_bytes) × IsJournalInput input (λ D given. IsWholeText D given ⊎ IsRightFront D given)
+IsGoodInput Migrate input = (length input ≤ most_bytes) × IsDocument input
+IsGoodInput (Make budget) input = (length input ≤ most_bytes) × IsDocWith input (λ D. AreMakeable (tables_in D) budget)
+IsGoodInput (Derive most budget) input = (length input ≤ most_bytes) × IsDocWith input (IsDerivable most budget)
+IsGoodInput (Repair budget rounds) input = (length input ≤ most_bytes) × IsDocWith input (λ D. IsRepairable D budget rounds)
+IsGoodInput (Generate seed trains) input =
+    (length input ≤ most_bytes) × IsDocWith (generated seed trains) (λ D. AreMakeable (tables_in D) full_budget)
 IsGoodInput order input = ⊥
 
 abbrev pub IsDoneOrMemory : Status → Type 0

@@ -1,5 +1,5 @@
 -- Inputs of a document and a journal, and what is said of them.
-use Rattle.std.specs.Prelude.{◌≡◌, ◌⊎◌, ℕ, ◌+◌, ◌-◌, List, ◌++◌, length, take, drop, codes, decimal}
+use Rattle.std.specs.Prelude.{◌≡◌, ◌≢◌, ◌⊎◌, ℕ, ◌+◌, ◌-◌, List, ◌++◌, length, take, drop, codes, decimal}
 use Rattle.memchr.specs.Find.{OccursAt}
 use Rattle.rail_model.specs.declared.types.Line.{Line as Step}
 use Rattle.rail_model.specs.Table.{trains}
@@ -9,11 +9,12 @@ use Rattle.rail_model.specs.Yard.{Offer, Yard, opening, offer}
 use Rattle.rail_model.specs.Names.{Names}
 use Rattle.rail_model.specs.Journal.{Journal, IsWhole, IsRound, after_lines, text}
 use Rattle.move_journal.specs.declared.faults.BadText.{BadText}
+use Rattle.move_journal.specs.declared.faults.BadText.TheVariants.{NoEnd}
 use Rattle.move_journal.specs.declared.faults.BadLine.{BadLine}
 use Rattle.move_journal.specs.Counted.{journal_of}
 use Rattle.move_journal.specs.Answers.{IsTextOf, IsFrontOf, HasFault}
 use Rattle.move_journal.specs.Replays.{HasBadLine, IsNotWhole}
-use Rattle.layout_json.specs.Doc.{Doc, offers_of, names_of}
+use Rattle.layout_json.specs.Doc.{Doc, IsDoc, offers_of, names_of}
 use Rattle.ats_run.specs.declared.failure.Failure.{Failure}
 use Rattle.ats_run.specs.declared.failure.Failure.TheVariants.{Line, Text}
 use Rattle.ats_run.specs.Certificates.{AreAccepted}
@@ -55,6 +56,11 @@ abbrev pub IsTextFault : Names → List ℕ → Failure → Type 0
 IsTextFault N given (Text cause) = HasFault N given cause
 IsTextFault N given e = ⊥
 
+-- Why bytes are no front of a text either: an end line isn't asked for.
+abbrev pub IsPartFault : Names → List ℕ → Failure → Type 0
+IsPartFault N given (Text cause) = HasFault N given cause × (cause ≢ NoEnd)
+IsPartFault N given e = ⊥
+
 -- What a journal lacks, as the program tells it.
 abbrev pub IsLineFault : List Offer → Yard → Journal → Failure → Type 0
 IsLineFault tables y J (Line cause) = IsNotWhole tables y J cause
@@ -67,12 +73,14 @@ IsFrontFault tables y J e = ⊥
 
 -- The bytes are no journal's text, for the first cause.
 pub record IsUnreadable (D : Doc) (given : List ℕ) (cause : BadText) : Type 0 where
+  pub formed : IsDoc D
   pub trees : List Tree
   pub accepted : AreAccepted D trees
   pub fault : HasFault (names_of D) given cause
 
 -- The bytes are the text of a journal that isn't whole, for the first cause.
 pub record IsUnverified (D : Doc) (given : List ℕ) (cause : BadLine) : Type 0 where
+  pub formed : IsDoc D
   pub journal : Journal
   pub trees : List Tree
   pub accepted : AreAccepted D trees
@@ -100,6 +108,7 @@ pub record IsResumed (D : Doc) (given written : List ℕ) : Type 0 where
 
 -- The bytes are a whole journal's text or a front, with a first line that isn't right, or lacking an end that is.
 pub record IsUnresumed (D : Doc) (given : List ℕ) (cause : BadLine) : Type 0 where
+  pub formed : IsDoc D
   pub journal : Journal
   pub trees : List Tree
   pub accepted : AreAccepted D trees

@@ -3,8 +3,14 @@ pub mod Certificates
 pub mod Checking
 pub mod Command
 pub mod Complete
+pub mod Deriving
 pub mod Ending
+pub mod Generating
 pub mod Headline
 pub mod Journals
+pub mod Making
 pub mod Orders
+pub mod Repairing
 pub mod Report
+pub mod Simulating
+pub mod Starting

@@ -1,16 +1,28 @@
--- The orders that the program follows. The words for documents that are written are read, and refused until they are.
-use Rattle.std.specs.Prelude.{List, Option, Some, None, option_and_then}
+-- What words ask for, and what each order reads.
+use Rattle.std.specs.Prelude.{◌≡◌, ℕ, List, [], Option, Some, IfSome}
 use Rattle.clap.specs.Words.{Text}
 use Rattle.command_words.specs.Words.{words}
 use Rattle.command_words.specs.declared.orders.Order.{Order}
-use Rattle.command_words.specs.declared.orders.Order.TheVariants.{Migrate, Make}
-
--- an order that is followed
-abbrev pub followed : Order → Option Order
-followed Migrate = None
-followed (Make budget) = None
-followed order = Some order
+use Rattle.command_words.specs.declared.orders.Order.TheVariants.{Generate, Drill}
 
 -- what the words ask for, or None where they are refused
 abbrev pub order_of : List Text → Option Order
-order_of line = option_and_then followed (words line)
+order_of line = words line
+
+-- The order reads its input.
+abbrev pub Reads : Order → Type 0
+Reads (Generate seed trains) = ⊥
+Reads (Drill seed trains workers) = ⊥
+Reads order = Unit {0}
+
+-- The fact of the bytes that the source held, where it tells them; an order that reads nothing has no other input.
+abbrev pub OnInput : Order → Option (List ℕ) → (List ℕ → Type 0) → Type 0
+OnInput (Generate seed trains) held P = P []
+OnInput (Drill seed trains workers) held P = P []
+OnInput order held P = IfSome held P
+
+-- The input is what the source held; where nothing is read there is none.
+abbrev pub Holds : Order → Option (List ℕ) → List ℕ → Type 0
+Holds (Generate seed trains) held input = input ≡ []
+Holds (Drill seed trains workers) held input = input ≡ []
+Holds order held input = held ≡ Some input

@@ -4,8 +4,9 @@ use Rattle.refusal_lines.specs.Fields.{line, no_memory}
 use Rattle.refusal_lines.specs.Documents.{document_words}
 use Rattle.refusal_lines.specs.Certificates.{tree_words, bad_words}
 use Rattle.refusal_lines.specs.Journals.{text_words, line_words}
+use Rattle.refusal_lines.specs.Makers.{many_words, spent_words, stuck_words, rounds_words, connected_words}
 use Rattle.ats_run.specs.declared.failure.Failure.{Failure}
-use Rattle.ats_run.specs.declared.failure.Failure.TheVariants.{Words, Memory, ReadFault, WriteFault, TooLong, Document, Tree, Certificate, NoJournal, Text, Line}
+use Rattle.ats_run.specs.declared.failure.Failure.TheVariants.{Words, Memory, ReadFault, WriteFault, TooLong, Document, Tree, Certificate, Spent, Stuck, Rounds, Many, Connected, NoJournal, Text, Line}
 
 -- the number of a refusal, its name and its fields
 abbrev pub words_of : Failure → List ℕ
@@ -18,6 +19,11 @@ words_of NoJournal = codes "70 NoJournal"
 words_of (Document e) = document_words e
 words_of (Tree t e) = tree_words t e
 words_of (Certificate t bad) = bad_words t bad
+words_of (Spent t n) = spent_words t n
+words_of (Stuck t p) = stuck_words t p
+words_of (Rounds t n p) = rounds_words t n p
+words_of (Many t n) = many_words t n
+words_of (Connected t) = connected_words t
 words_of (Text e) = text_words e
 words_of (Line e) = line_words e
 
@@ -29,6 +35,11 @@ abbrev pub HasFields : Failure → Type 0
 HasFields (Document e) = Unit {0}
 HasFields (Tree t e) = Unit {0}
 HasFields (Certificate t bad) = Unit {0}
+HasFields (Spent t n) = Unit {0}
+HasFields (Stuck t p) = Unit {0}
+HasFields (Rounds t n p) = Unit {0}
+HasFields (Many t n) = Unit {0}
+HasFields (Connected t) = Unit {0}
 HasFields (Text e) = Unit {0}
 HasFields (Line e) = Unit {0}
 HasFields e = ⊥

@@ -11,21 +11,22 @@ use crate::checked::check_document;
 use cert_tree::Cert;
 use layout_json::tables_of;
 use std::alloc::{AllocError, Global};
+use std::thread::Threads;
 
 /// The line that says how many tables accept their certificates, and of how many nodes.
-pub fn check(alloc: Global, input: &[u8]) -> Result<Vec<u8>, Failure>
+pub fn check(rt: &(impl Threads + Sync), alloc: Global, input: &[u8]) -> Result<Vec<u8>, Failure>
     ensures checked { IfOk result (λ text. IsDocWith input.now (λ D. IsChecked D text.items)) }
 
     ensures unchecked { IfErr result (λ e. (e ≡ NoMemory) ⊎ IsUnchecked input.now e) }
 {
-    let checked = check_document(alloc, input)?;
+    let checked = check_document(rt, alloc, input)?;
     let tables = tables_of(&checked.doc);
     let text = checked_line(alloc, tables, nodes(&checked.certs))?;
     Ok(text.into_bytes())
 }
 
-// The number of nodes of all certificates.
-fn nodes(certs: &[Cert]) -> u64
+/// The number of nodes of all certificates.
+pub fn nodes(certs: &[Cert]) -> u64
     requires { length certs.now ≤ 16 }
     ensures { result ≡ nodes_below certs.now (length certs.now) }
 {

@@ -7,11 +7,11 @@ use crate::Status;
 use cert_tree::CertRefused;
 use layout_json::DocRefused;
 use move_journal::{BadLine, BadText};
-use rail_model::Bad;
+use rail_model::{Bad, State};
 use std::alloc::{AllocError, AllocFailed};
 
 /// What one line on the error sink tells.
-#[derive(Clone, Copy, Debug, PartialEq, Eq)]
+#[derive(Drop)]
 pub enum Failure {
     /// The words ask for no order.
     Words,
@@ -29,6 +29,16 @@ pub enum Failure {
     Tree { table: u32, refused: CertRefused },
     /// A table's certificate has a bad node, the first of which this is.
     Certificate { table: u32, bad: Bad },
+    /// The maker's budget of nodes was spent on a table.
+    Spent { table: u32, nodes: u32 },
+    /// The maker found a state of a table from which no train can move.
+    Stuck { table: u32, at: State },
+    /// A repair of a table treated as many stuck states as it may, and there is one more.
+    Rounds { table: u32, rounds: u32, at: State },
+    /// A table would have more sections than it may.
+    Many { table: u32, count: u32 },
+    /// A table has a connection, and can't be repaired.
+    Connected { table: u32 },
     /// No line parts a document from a journal.
     NoJournal,
     /// The bytes behind that line are no journal's text.
@@ -87,8 +97,14 @@ impl Failure {
             Failure::Memory => Status::Memory,
             Failure::ReadFault => Status::ReadFault,
             Failure::WriteFault => Status::WriteFault,
-            Failure::TooLong | Failure::Document(_) | Failure::Tree { .. } => Status::Refused,
+            Failure::TooLong
+            | Failure::Document(_)
+            | Failure::Tree { .. }
+            | Failure::Many { .. }
+            | Failure::Connected { .. } => Status::Refused,
             Failure::Certificate { .. } => Status::BadCertificate,
+            Failure::Spent { .. } | Failure::Rounds { .. } => Status::Spent,
+            Failure::Stuck { .. } => Status::Stuck,
             Failure::NoJournal | Failure::Text(_) | Failure::Line(_) => Status::BadJournal,
         }
     }

@@ -15,11 +15,12 @@ use layout_json::{Doc, names_of, start_of};
 use memchr::memmem;
 use move_journal::{Journal, read, verify as verify_journal};
 use std::alloc::{AllocError, Global};
+use std::thread::Threads;
 
 const MARK: &[u8] = b"\njournal\n";
 
 /// The line that says that a journal is whole, with its counts.
-pub fn verify(alloc: Global, input: &[u8]) -> Result<Vec<u8>, Failure>
+pub fn verify(rt: &(impl Threads + Sync), alloc: Global, input: &[u8]) -> Result<Vec<u8>, Failure>
     ensures verified { IfOk result (λ text. IsVerifiedInput input.now text.items) }
 
     ensures refused { IfErr result (λ e. (e ≡ NoMemory) ⊎ IsUnverifiedInput input.now e) }
@@ -27,7 +28,7 @@ pub fn verify(alloc: Global, input: &[u8]) -> Result<Vec<u8>, Failure>
     let Some((document, given)) = cut(input) else {
         return Err(Failure::NoJournal);
     };
-    let checked = check_document(alloc, document)?;
+    let checked = check_document(rt, alloc, document)?;
     let journal = read_given(alloc, &checked.doc, given)?;
     verify_lines(alloc, &checked.doc, &checked.tables, &journal)?;
     let text = verified_line(alloc, &journal)?;
@@ -37,6 +38,8 @@ pub fn verify(alloc: Global, input: &[u8]) -> Result<Vec<u8>, Failure>
 // The journal of a document whose text the bytes are.
 fn read_given(alloc: Global, doc: &Doc, given: &[u8]) -> Result<Journal, Failure>
     ensures text { IfOk result (λ journal. IsTextOf (names_of doc.now) given.now journal) }
+
+    ensures formed { IsDoc doc.now }
 
     ensures fault { IfErr result (λ e. (e ≡ NoMemory) ⊎ IsTextFault (names_of doc.now) given.now e) }
 {

@@ -2,14 +2,20 @@
 #![tactic(auto)]
 
 mod answer;
-mod asked;
 mod checked;
 mod checking;
 mod failure;
+mod generating;
 mod journals;
 mod lines;
+mod making;
+mod migrating;
+mod repairing;
 mod resuming;
 mod running;
+mod sectioning;
+mod simulating;
+mod starting;
 mod status;
 mod top;
 

@@ -3,7 +3,10 @@ ghost use Rattle.std.specs.Prelude.{◌≡◌, IfOk, IfSome, IfNone, string_byte
 ghost use Rattle.ats_run.specs.Report.{line_of, HasFields};
 
 use crate::Failure;
-use refusal_lines::{bad_line, document_line, journal_line, text_line, tree_line};
+use refusal_lines::{
+    bad_line, connected_line, document_line, journal_line, many_line, rounds_line, spent_line,
+    stuck_line, text_line, tree_line,
+};
 use std::alloc::{AllocError, Global};
 
 /// The line of a failure that has no fields: it takes no memory.
@@ -31,6 +34,11 @@ pub fn line_of(alloc: Global, failure: &Failure) -> Result<String, AllocError>
         Failure::Document(refused) => document_line(alloc, refused),
         Failure::Tree { table, refused } => tree_line(alloc, *table, refused),
         Failure::Certificate { table, bad } => bad_line(alloc, *table, bad),
+        Failure::Spent { table, nodes } => spent_line(alloc, *table, *nodes),
+        Failure::Stuck { table, at } => stuck_line(alloc, *table, at),
+        Failure::Rounds { table, rounds, at } => rounds_line(alloc, *table, *rounds, at),
+        Failure::Many { table, count } => many_line(alloc, *table, *count),
+        Failure::Connected { table } => connected_line(alloc, *table),
         Failure::Text(fault) => text_line(alloc, fault),
         Failure::Line(fault) => journal_line(alloc, fault),
         _ => unreachable!(),

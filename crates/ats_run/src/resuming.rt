@@ -7,7 +7,7 @@ ghost use Rattle.plain_yard.specs.Keeps.{Keeps};
 ghost use Rattle.move_journal.specs.Answers.{IsTextOf, IsFrontOf, IsPart};
 ghost use Rattle.layout_json.specs.Doc.{IsDoc, offers_of, names_of};
 ghost use Rattle.ats_run.specs.Certificates.{AreAccepted};
-ghost use Rattle.ats_run.specs.Journals.{IsResumed, IsLineFault, IsFrontFault, IsTextFault};
+ghost use Rattle.ats_run.specs.Journals.{IsResumed, IsLineFault, IsFrontFault, IsPartFault};
 ghost use Rattle.ats_run.specs.Command.{IsResumedInput, IsUnresumedInput};
 ghost use Rattle.ats_run.specs.declared.failure.Failure.TheVariants.{Memory as NoMemory};
 
@@ -20,9 +20,10 @@ use layout_json::{Doc, names_of, start_of};
 use move_journal::{Journal, Part, read_prefix, replay};
 use rail_model::PlainState;
 use std::alloc::Global;
+use std::thread::Threads;
 
 /// The text of the run that goes on from a journal, or the journal as it is where it is whole.
-pub fn resume(alloc: Global, input: &[u8]) -> Result<Vec<u8>, Failure>
+pub fn resume(rt: &(impl Threads + Sync), alloc: Global, input: &[u8]) -> Result<Vec<u8>, Failure>
     ensures resumed { IfOk result (λ text. IsResumedInput input.now text.items) }
 
     ensures refused { IfErr result (λ e. (e ≡ NoMemory) ⊎ IsUnresumedInput input.now e) }
@@ -30,7 +31,7 @@ pub fn resume(alloc: Global, input: &[u8]) -> Result<Vec<u8>, Failure>
     let Some((document, given)) = cut(input) else {
         return Err(Failure::NoJournal);
     };
-    let checked = check_document(alloc, document)?;
+    let checked = check_document(rt, alloc, document)?;
     match read_part(alloc, &checked.doc, given)? {
         Part::Whole(journal) => keep(alloc, &checked.doc, &checked.tables, &journal, given),
         Part::Open(front) => go_on(alloc, &checked.doc, &checked.tables, &front, given),
@@ -41,7 +42,9 @@ pub fn resume(alloc: Global, input: &[u8]) -> Result<Vec<u8>, Failure>
 fn read_part(alloc: Global, doc: &Doc, given: &[u8]) -> Result<Part, Failure>
     ensures part { IfOk result (IsPart (names_of doc.now) given.now) }
 
-    ensures fault { IfErr result (λ e. (e ≡ NoMemory) ⊎ IsTextFault (names_of doc.now) given.now e) }
+    ensures formed { IsDoc doc.now }
+
+    ensures fault { IfErr result (λ e. (e ≡ NoMemory) ⊎ IsPartFault (names_of doc.now) given.now e) }
 {
     match read_prefix(alloc, names_of(doc), given) {
         Ok(part) => Ok(part),

@@ -21,14 +21,15 @@ use move_journal::{Journal, text};
 use plain_yard::{PlainYard, begin};
 use rail_model::PlainState;
 use std::alloc::{AllocError, Global};
+use std::thread::Threads;
 
 /// The text of the journal of a document's run on one thread.
-pub fn run(alloc: Global, input: &[u8]) -> Result<Vec<u8>, Failure>
+pub fn run(rt: &(impl Threads + Sync), alloc: Global, input: &[u8]) -> Result<Vec<u8>, Failure>
     ensures run { IfOk result (λ text. IsDocWith input.now (λ D. IsRun D text.items × IsRoundRobin D text.items)) }
 
     ensures unchecked { IfErr result (λ e. (e ≡ NoMemory) ⊎ IsUnchecked input.now e) }
 {
-    let checked = check_document(alloc, input)?;
+    let checked = check_document(rt, alloc, input)?;
     let text = run_checked(alloc, &checked.doc, &checked.tables)?;
     Ok(text)
 }
@@ -42,8 +43,8 @@ fn run_checked(alloc: Global, doc: &Doc, tables: &[Accepted]) -> Result<Vec<u8>,
     print(alloc, doc, state)
 }
 
-// The state and the lines in which the round robin from a document's start ends.
-fn finish(alloc: Global, doc: &Doc, tables: &[Accepted]) -> Result<PlainState, AllocError>
+/// The state and the lines in which the round robin from a document's start ends.
+pub fn finish(alloc: Global, doc: &Doc, tables: &[Accepted]) -> Result<PlainState, AllocError>
     requires { tables.now ≡ offers_of doc.now }
     ensures done { IfOk result (λ state. IsDone (offers_of doc.now) state.yard) }
     ensures formed { IsDoc doc.now }

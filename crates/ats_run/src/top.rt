@@ -1,87 +1,133 @@
 // The top call.
-ghost use Rattle.std.specs.Prelude.{◌≡◌, ◌≢◌, ◌+◌, ◌⊎◌, ◌≤◌, ℕ, [], List, IfSome, IfOk, OnErr, IfErr, OnOk, Some, None, Ok, Err, map, length, string_bytes};
+ghost use Rattle.std.specs.Prelude.{◌≡◌, ◌≢◌, ◌+◌, ◌⊎◌, ◌≤◌, ℕ, [], List, IfSome, IfOk, IfErr, OnOk, Option, Some, None, Ok, Err, map, IsTrue, ◌↔◌, length, string_bytes};
 ghost use Rattle.std.specs.Io.KnownBytes.{IsAtEnd};
 ghost use Rattle.ats_io.specs.Bytes.{Adds, AddsPrefix, ConsumesAtMost};
 ghost use Rattle.ats_io.specs.Faults.{Rose};
-ghost use Rattle.ats_run.specs.Orders.{order_of};
+ghost use Rattle.command_words.specs.Subcommands.{HasItsNumbers};
+ghost use Rattle.ats_run.specs.Orders.{order_of, Reads, OnInput, Holds};
 ghost use Rattle.command_words.specs.declared.orders.Order.{Order as OrderValue};
 ghost use Rattle.command_words.specs.declared.orders.Order.TheVariants.{Run};
 ghost use Rattle.ats_run.specs.Command.{Comes, IsDocWith};
 ghost use Rattle.ats_run.specs.Complete.{IsGoodInput, IsDoneOrMemory};
 ghost use Rattle.ats_run.specs.Headline.{IsRun, IsRoundRobin};
-ghost use Rattle.ats_run.specs.Causes.{Call, IsCause, Tells, most_bytes};
+ghost use Rattle.ats_run.specs.Causes.{Call, IsCause, IsUnread, IsUnwritten, Tells, most_bytes};
 ghost use Rattle.ats_run.specs.Ending.{status_of};
 ghost use Rattle.ats_run.specs.Report.{line_of as line_of_failure};
 
 use crate::answer::answer;
-use crate::asked::asked;
 use crate::lines::{fixed_line, line_of};
 use crate::{Failure, Status};
 use ats_io::{ReadAll, Sink, Source, WriteFault, read_all, write_all};
-use command_words::{Order, WordsRefused};
+use command_words::{Order, WordsRefused, words};
 use std::alloc::Global;
+use std::thread::Threads;
 
 const MOST_BYTES: usize = 16_777_216;
 
-// What an order comes to on what the source holds, written to the sink.
-fn serve<S: Source, K: Sink>(
-    alloc: Global,
-    order: Order,
-    source: &mut S,
-    out: &mut K,
-) -> Result<(), Failure>
-    ensures done { OnOk result (IfSome (S.left source.old)
-        (λ input. (written : List ℕ) × Comes order input (Ok written) × Adds (K.taken out.old) (K.taken out.new) written)) }
+// All that the source has left.
+fn read_input<S: Source>(alloc: Global, source: &mut S) -> Result<Vec<u8>, Failure>
+    ensures bytes { IfOk result (λ bytes. IfSome (S.left source.old) (λ all. bytes.items ≡ all)) }
+    ensures end { OnOk result (IsAtEnd (S.left source.new)) }
 
-    ensures cause { IfErr result (IsCause (record {
-      order = Some order;
-      held = S.left source.old;
-      source_failed = Rose (S.faults source.old) (S.faults source.new);
-      sink_failed = Rose (K.faults out.old) (K.faults out.new);
-    })) }
-    ensures nothing { IfErr result (λ e. e ≢ Failure.WriteFault → Adds (K.taken out.old) (K.taken out.new) []) }
-    ensures prefix { result ≡ Err Failure.WriteFault → IfSome (S.left source.old)
-        (λ input. (written : List ℕ) × Comes order input (Ok written) × AddsPrefix (K.taken out.old) (K.taken out.new) written) }
+    ensures unread { IfErr result (IsUnread (S.left source.old) (Rose (S.faults source.old) (S.faults source.new))) }
 
     ensures at_most { ConsumesAtMost (most_bytes + 1) (S.left source.old) (S.left source.new) }
 {
-    let bytes = match read_all(alloc, source, MOST_BYTES) {
-        Ok(bytes) => bytes,
-        Err(ReadAll::Memory) => return Err(Failure::Memory),
-        Err(ReadAll::ReadFault) => return Err(Failure::ReadFault),
-        Err(ReadAll::TooLong { .. }) => return Err(Failure::TooLong),
-    };
-    let text = answer(alloc, order, &bytes)?;
+    match read_all(alloc, source, MOST_BYTES) {
+        Ok(bytes) => Ok(bytes),
+        Err(ReadAll::Memory) => Err(Failure::Memory),
+        Err(ReadAll::ReadFault) => Err(Failure::ReadFault),
+        Err(ReadAll::TooLong { .. }) => Err(Failure::TooLong),
+    }
+}
+
+// What an order comes to on an input, written to the sink.
+fn write_answer<K: Sink>(
+    rt: &(impl Threads + Sync),
+    alloc: Global,
+    order: Order,
+    input: &[u8],
+    out: &mut K,
+) -> Result<(), Failure>
+    requires { HasItsNumbers order }
+    ensures done { OnOk result ((written : List ℕ) × Comes order input.now (Ok written) × Adds (K.taken out.old) (K.taken out.new) written) }
+
+    ensures failed { IfErr result (IsUnwritten order input.now (Rose (K.faults out.old) (K.faults out.new))) }
+    ensures nothing { IfErr result (λ e. e ≢ Failure.WriteFault → Adds (K.taken out.old) (K.taken out.new) []) }
+    ensures prefix { result ≡ Err Failure.WriteFault → (written : List ℕ) × Comes order input.now (Ok written) × AddsPrefix (K.taken out.old) (K.taken out.new) written }
+{
+    let text = answer(rt, alloc, order, input)?;
     match write_all(out, &text) {
         Ok(()) => Ok(()),
         Err(WriteFault) => Err(Failure::WriteFault),
     }
 }
 
+// What an order comes to on what the source holds, written to the sink.
+fn serve<S: Source, K: Sink>(
+    rt: &(impl Threads + Sync),
+    alloc: Global,
+    order: Order,
+    source: &mut S,
+    out: &mut K,
+) -> Result<(), Failure>
+    requires reads { Reads order }
+    requires numbers { HasItsNumbers order }
+    ensures end { OnOk result (IsAtEnd (S.left source.new)) }
+    ensures done { OnOk result (OnInput order (S.left source.old)
+        (λ input. (written : List ℕ) × Comes order input (Ok written) × Adds (K.taken out.old) (K.taken out.new) written)) }
+
+    ensures cause { IfErr result (IsCause (record {
+      order = Some order;
+      held = S.left source.old;
+      at_end = IsAtEnd (S.left source.new);
+      source_failed = Rose (S.faults source.old) (S.faults source.new);
+      sink_failed = Rose (K.faults out.old) (K.faults out.new);
+    })) }
+    ensures nothing { IfErr result (λ e. e ≢ Failure.WriteFault → Adds (K.taken out.old) (K.taken out.new) []) }
+    ensures prefix { result ≡ Err Failure.WriteFault → OnInput order (S.left source.old)
+        (λ input. (written : List ℕ) × Comes order input (Ok written) × AddsPrefix (K.taken out.old) (K.taken out.new) written) }
+
+    ensures at_most { ConsumesAtMost (most_bytes + 1) (S.left source.old) (S.left source.new) }
+{
+    let bytes = read_input(alloc, source)?;
+    write_answer(rt, alloc, order, &bytes, out)
+}
+
+// Whether the order reads its input.
+fn is_reading(order: Order) -> bool
+    ensures { IsTrue result ↔ Reads order }
+{
+    !matches!(order, Order::Generate { .. } | Order::Drill { .. })
+}
+
 // The same for the words of a command line.
 fn serve_words<S: Source, K: Sink>(
+    rt: &(impl Threads + Sync),
     alloc: Global,
     line: &[String],
     source: &mut S,
     out: &mut K,
 ) -> Result<(), Failure>
-    ensures done { OnOk result ((order : OrderValue) × (order_of (map string_bytes line.now) ≡ Some order) × IfSome (S.left source.old)
-        (λ input. (written : List ℕ) × Comes order input (Ok written) × Adds (K.taken out.old) (K.taken out.new) written)) }
+    ensures done { OnOk result ((order : OrderValue) × (order_of (map string_bytes line.now) ≡ Some order) × (Reads order → IsAtEnd (S.left source.new))
+        × OnInput order (S.left source.old) (λ input. (written : List ℕ) × Comes order input (Ok written) × Adds (K.taken out.old) (K.taken out.new) written)) }
 
     ensures cause { IfErr result (IsCause (record {
       order = order_of (map string_bytes line.now);
       held = S.left source.old;
+      at_end = IsAtEnd (S.left source.new);
       source_failed = Rose (S.faults source.old) (S.faults source.new);
       sink_failed = Rose (K.faults out.old) (K.faults out.new);
     })) }
     ensures nothing { IfErr result (λ e. e ≢ Failure.WriteFault → Adds (K.taken out.old) (K.taken out.new) []) }
-    ensures prefix { result ≡ Err Failure.WriteFault → (order : OrderValue) × (order_of (map string_bytes line.now) ≡ Some order) × IfSome (S.left source.old)
-        (λ input. (written : List ℕ) × Comes order input (Ok written) × AddsPrefix (K.taken out.old) (K.taken out.new) written) }
+    ensures prefix { result ≡ Err Failure.WriteFault → (order : OrderValue) × (order_of (map string_bytes line.now) ≡ Some order)
+        × OnInput order (S.left source.old) (λ input. (written : List ℕ) × Comes order input (Ok written) × AddsPrefix (K.taken out.old) (K.taken out.new) written) }
 
     ensures at_most { ConsumesAtMost (most_bytes + 1) (S.left source.old) (S.left source.new) }
 {
-    match asked(alloc, line) {
-        Ok(order) => serve(alloc, order, source, out),
+    match words(alloc, line) {
+        Ok(order) if is_reading(order) => serve(rt, alloc, order, source, out),
+        Ok(order) => write_answer(rt, alloc, order, &[], out),
         Err(WordsRefused::Words) => Err(Failure::Words),
         Err(WordsRefused::Memory) => Err(Failure::Memory),
     }
@@ -120,7 +166,11 @@ fn refuse<E: Sink>(alloc: Global, failure: Failure, err: &mut E) -> Failure
 }
 
 /// The program: reads the words, the source to its end, and prints what is asked for.
+///
+/// `line` has the words after the program's name. The answer's exit code is `code`. Nothing is told but one line on `err`, where the
+/// answer isn't `Done`. It waits for nobody.
 pub fn ats<S: Source, K: Sink, E: Sink>(
+    rt: &(impl Threads + Sync),
     alloc: Global,
     line: &[String],
     source: &mut S,
@@ -132,30 +182,31 @@ pub fn ats<S: Source, K: Sink, E: Sink>(
         → IfSome (S.left source.old) (λ input. (written : List ℕ) × IsDocWith input (λ D. IsRun D written × IsRoundRobin D written)
         × Adds (K.taken out.old) (K.taken out.new) written) }
 
-    // Every command that ends well has written what it comes to on the bytes that the source held, and told nothing.
-    ensures done { result ≡ Status.Done → (order : OrderValue) × (order_of (map string_bytes line.now) ≡ Some order) × IfSome (S.left source.old)
-        (λ input. (written : List ℕ) × Comes order input (Ok written) × Adds (K.taken out.old) (K.taken out.new) written) }
+    // Every command that ends well has read all that it reads, has written what it comes to on these bytes, and told nothing.
+    ensures done { result ≡ Status.Done → (order : OrderValue) × (order_of (map string_bytes line.now) ≡ Some order) × (Reads order → IsAtEnd (S.left source.new))
+        × OnInput order (S.left source.old) (λ input. (written : List ℕ) × Comes order input (Ok written) × Adds (K.taken out.old) (K.taken out.new) written) }
     ensures quiet { result ≡ Status.Done → Adds (E.taken err.old) (E.taken err.new) [] }
 
     // Any other status has its cause, and the line of it was told.
     ensures refused { result ≢ Status.Done → Tells (record {
       order = order_of (map string_bytes line.now);
       held = S.left source.old;
+      at_end = IsAtEnd (S.left source.new);
       source_failed = Rose (S.faults source.old) (S.faults source.new);
       sink_failed = Rose (K.faults out.old) (K.faults out.new);
     }) result (Rose (E.faults err.old) (E.faults err.new)) (E.taken err.old) (E.taken err.new) }
     ensures nothing { result ≢ Status.Done → result ≢ Status.WriteFault → result ≢ Status.Memory → Adds (K.taken out.old) (K.taken out.new) [] }
-    ensures prefix { result ≡ Status.WriteFault → (order : OrderValue) × (order_of (map string_bytes line.now) ≡ Some order) × IfSome (S.left source.old)
-        (λ input. (written : List ℕ) × Comes order input (Ok written) × AddsPrefix (K.taken out.old) (K.taken out.new) written) }
+    ensures prefix { result ≡ Status.WriteFault → (order : OrderValue) × (order_of (map string_bytes line.now) ≡ Some order)
+        × OnInput order (S.left source.old) (λ input. (written : List ℕ) × Comes order input (Ok written) × AddsPrefix (K.taken out.old) (K.taken out.new) written) }
 
     // Where no device fails, a good input ends well, or there was no memory.
-    ensures complete { (order : OrderValue) (input : List ℕ) → order_of (map string_bytes line.now) ≡ Some order → S.left source.old ≡ Some input
+    ensures complete { (order : OrderValue) (input : List ℕ) → order_of (map string_bytes line.now) ≡ Some order → Holds order (S.left source.old) input
         → IsGoodInput order input → (Rose (S.faults source.old) (S.faults source.new) → ⊥) → (Rose (K.faults out.old) (K.faults out.new) → ⊥)
         → IsDoneOrMemory result }
 
     ensures at_most { ConsumesAtMost (most_bytes + 1) (S.left source.old) (S.left source.new) }
 {
-    match serve_words(alloc, line, source, out) {
+    match serve_words(rt, alloc, line, source, out) {
         Ok(()) => Status::Done,
         Err(failure) => refuse(alloc, failure, err).status(),
     }

@@ -1,4 +1,4 @@
-use Rattle.std.proofs.Common.{◌≡◌, ◌+◌, suc, ap, sym, ◌∙◌, arith}
+use Rattle.std.proofs.Common.{◌≡◌, ◌+◌, suc, ap, ◌∙◌, arith}
 use Rattle.ats_run.specs.Checking.{nodes_below}
 use Rattle.ats_run.proofs.checking.nodes.Goals as goal
 

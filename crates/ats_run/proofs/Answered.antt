@@ -1,0 +1,119 @@
+-- From what was read and written to the cause of a call's end.
+use Rattle.std.proofs.Common.{◌≡◌, ◌⊎◌, ℕ, List, [], Option, None, Some, refl, sym, subst, inl, inr}
+use Rattle.std.proofs.lemmas.List.{append-nil}
+use Rattle.std.specs.Prelude.{Err}
+use Rattle.ats_io.specs.Bytes.{Adds}
+use Rattle.command_words.specs.declared.orders.Order.{Order}
+use Rattle.command_words.specs.declared.orders.Order.TheVariants.{Run, Resume, Check, Verify, Migrate, Make, Derive, Repair, Simulate, Generate, Drill}
+use Rattle.layout_json.specs.Doc.{Doc, table_at}
+use Rattle.ats_run.specs.declared.failure.Failure.{Failure}
+use Rattle.ats_run.specs.declared.failure.Failure.TheVariants as failure
+use Rattle.ats_run.specs.Causes.{Call, IsCause, IsUnread, IsUnwritten}
+use Rattle.ats_run.specs.Command.{Comes, IsUnchecked, IsUnverifiedInput, IsUnresumedInput, IsNoDoc, IsUnmadeInput, IsUnderivedInput}
+use Rattle.ats_run.specs.Deriving.{derived, IsOverfull}
+use Rattle.document_generator.specs.Generated.{generated}
+use Rattle.ats_run.specs.Generating.{full_budget}
+use Rattle.ats_run.specs.Making.{MakesNone, tables_in, table_in}
+use Rattle.ats_run.specs.Orders.{Reads, OnInput}
+use Rattle.ats_run.specs.Repairing.{RepairsNone, IsUnrepaired}
+use Rattle.ats_run.specs.Starting.{IsBadStart}
+use Rattle.ats_run.proofs.Reading.{of_bytes, on_input}
+
+-- a sink that took nothing
+pub adds_nothing : (taken : Option (List ℕ)) → Adds taken taken []
+adds_nothing None = tt
+adds_nothing (Some bytes) = sym (append-nil bytes)
+
+-- a failure of words or devices
+abbrev IsOutside : Failure → Type 0
+IsOutside e = (e ≡ failure.Words) ⊎ (e ≡ failure.ReadFault) ⊎ (e ≡ failure.WriteFault) ⊎ (e ≡ failure.TooLong)
+
+-- what fails for each of them
+outside : (P : Failure → Type 0) → (P failure.Words → ⊥) → (P failure.ReadFault → ⊥) → (P failure.WriteFault → ⊥) → (P failure.TooLong → ⊥)
+    → (e : Failure) → IsOutside e → P e → ⊥
+outside P words read write long e o h = elim o [
+  | inl is ↦ words (subst P is h)
+  | inr (inl is) ↦ read (subst P is h)
+  | inr (inr (inl is)) ↦ write (subst P is h)
+  | inr (inr (inr is)) ↦ long (subst P is h)
+]
+
+never_no_doc : (input : List ℕ) (e : Failure) → IsOutside e → IsNoDoc input e → ⊥
+never_no_doc input e o h = outside (IsNoDoc input) (λ n. let is = n.1 in cc) (λ n. let is = n.1 in cc) (λ n. let is = n.1 in cc) (λ n. let is = n.1 in cc) e o h
+
+never_underived : (input : List ℕ) (most budget : ℕ) (e : Failure) → IsOutside e → IsUnderivedInput input most budget e → ⊥
+never_underived input most budget e o (inl none) = never_no_doc input e o none
+never_underived input most budget e o (inr h) = elim h.2 [
+  | inl many ↦
+      outside (IsOverfull most (table_at h.0 many.table) many.table) (λ n. let is = n.0 in cc) (λ n. let is = n.0 in cc) (λ n. let is = n.0 in cc) (λ n. let is = n.0 in cc) e o
+      many.many
+  | inr (inl bad) ↦
+      outside (IsBadStart (table_in (derived h.0 most) 0) h.0.start) (λ n. let is = n.1 in cc) (λ n. let is = n.1 in cc) (λ n. let is = n.1 in cc) (λ n. let is = n.1 in cc) e o
+      bad.1
+  | inr (inr none) ↦
+      outside (MakesNone (table_in (derived h.0 most) none.2.table) none.2.table budget) (λ n. n) (λ n. n) (λ n. n) (λ n. n) e o none.2.none
+]
+
+never_unrepaired : (D : Doc) (budget rounds : ℕ) (e : Failure) → IsOutside e → IsUnrepaired D budget rounds e → ⊥
+never_unrepaired D budget rounds e o h = elim h [
+  | inl c ↦ outside (λ f. f ≡ failure.Connected c.table) (λ n. cc) (λ n. cc) (λ n. cc) (λ n. cc) e o c.told
+  | inr (inl u) ↦ outside (RepairsNone (table_at D u.table) u.table budget rounds) (λ n. n) (λ n. n) (λ n. n) (λ n. n) e o u.none
+  | inr (inr s) ↦ outside (IsBadStart s.1.table D.start) (λ n. let is = n.1 in cc) (λ n. let is = n.1 in cc) (λ n. let is = n.1 in cc) (λ n. let is = n.1 in cc) e o s.1.start
+]
+
+never_unmade : (input : List ℕ) (b : ℕ) (e : Failure) → IsOutside e → IsUnmadeInput input b e → ⊥
+never_unmade input b e o h = elim h [ inl none ↦ never_no_doc input e o none | inr none ↦ outside (MakesNone (table_in (tables_in none.0) none.2.table) none.2.table b) (λ n. n) (λ n. n) (λ n. n) (λ n. n) e o none.2.none ]
+
+-- no command comes to a failure of words or devices
+never : (order : Order) (input : List ℕ) (e : Failure) → IsOutside e → Comes order input (Err e) → ⊥
+never (Run w r) input e o h = outside (IsUnchecked input) (λ n. n) (λ n. n) (λ n. n) (λ n. n) e o h
+never (Resume w r) input e o h = outside (IsUnresumedInput input) (λ n. n.2) (λ n. n.2) (λ n. n.2) (λ n. n.2) e o h
+never Check input e o h = outside (IsUnchecked input) (λ n. n) (λ n. n) (λ n. n) (λ n. n) e o h
+never Verify input e o h = outside (IsUnverifiedInput input) (λ n. n.2) (λ n. n.2) (λ n. n.2) (λ n. n.2) e o h
+never Migrate input e o h = never_no_doc input e o h
+never (Make b) input e o h = never_unmade input b e o h
+never (Derive m b) input e o h = never_underived input m b e o h
+never (Repair b r) input e o h = elim h [ inl none ↦ never_no_doc input e o none | inr un ↦ never_unrepaired un.0 b r e o un.2 ]
+never Simulate input e o h = outside (IsUnchecked input) (λ n. n) (λ n. n) (λ n. n) (λ n. n) e o h
+never (Generate s n) input e o h = never_unmade (generated s n) full_budget e o h
+never (Drill s n w) input e o h = elim h [
+  | inl none ↦ never_unmade (generated s n) full_budget e o none
+  | inr bad ↦ outside (IsUnchecked bad.0) (λ n. n) (λ n. n) (λ n. n) (λ n. n) e o bad.2
+]
+
+-- what a command comes to on the bytes that were read is the cause of the end of its call
+pub answered : (call : Call) (order : Order) (bytes : List ℕ) (e : Failure) → call.order ≡ Some order → (Reads order → call.at_end)
+    → OnInput order call.held (λ input. bytes ≡ input) → Comes order bytes (Err e) → IsCause call e
+answered call order bytes failure.Words asked end same h = absurd (never order bytes failure.Words (inl refl) h)
+answered call order bytes failure.ReadFault asked end same h = absurd (never order bytes failure.ReadFault (inr (inl refl)) h)
+answered call order bytes failure.WriteFault asked end same h = absurd (never order bytes failure.WriteFault (inr (inr (inl refl))) h)
+answered call order bytes failure.TooLong asked end same h = absurd (never order bytes failure.TooLong (inr (inr (inr refl))) h)
+answered call order bytes failure.Memory asked end same h = tt
+answered call order bytes (failure.Document x) asked end same h = (order, asked, (end, of_bytes order call.held bytes (λ input. Comes order input (Err (failure.Document x))) same h))
+answered call order bytes (failure.Tree t x) asked end same h = (order, asked, (end, of_bytes order call.held bytes (λ input. Comes order input (Err (failure.Tree t x))) same h))
+answered call order bytes (failure.Certificate t x) asked end same h = (order, asked, (end, of_bytes order call.held bytes (λ input. Comes order input (Err (failure.Certificate t x))) same h))
+answered call order bytes (failure.Spent t n) asked end same h = (order, asked, (end, of_bytes order call.held bytes (λ input. Comes order input (Err (failure.Spent t n))) same h))
+answered call order bytes (failure.Stuck t p) asked end same h = (order, asked, (end, of_bytes order call.held bytes (λ input. Comes order input (Err (failure.Stuck t p))) same h))
+answered call order bytes (failure.Rounds t n p) asked end same h = (order, asked, (end, of_bytes order call.held bytes (λ input. Comes order input (Err (failure.Rounds t n p))) same h))
+answered call order bytes (failure.Many t n) asked end same h = (order, asked, (end, of_bytes order call.held bytes (λ input. Comes order input (Err (failure.Many t n))) same h))
+answered call order bytes (failure.Connected t) asked end same h = (order, asked, (end, of_bytes order call.held bytes (λ input. Comes order input (Err (failure.Connected t))) same h))
+answered call order bytes failure.NoJournal asked end same h = (order, asked, (end, of_bytes order call.held bytes (λ input. Comes order input (Err failure.NoJournal)) same h))
+answered call order bytes (failure.Text x) asked end same h = (order, asked, (end, of_bytes order call.held bytes (λ input. Comes order input (Err (failure.Text x))) same h))
+answered call order bytes (failure.Line x) asked end same h = (order, asked, (end, of_bytes order call.held bytes (λ input. Comes order input (Err (failure.Line x))) same h))
+
+-- why an input was not read is the cause
+pub unread : (call : Call) (order : Order) (e : Failure) → call.order ≡ Some order → Reads order → IsUnread call.held call.source_failed e → IsCause call e
+unread call order e asked reads h = elim h [
+  | inl is ↦ subst (IsCause call) (sym is) tt
+  | inr (inl (is, failed)) ↦ subst (IsCause call) (sym is) (order, asked, (reads, failed))
+  | inr (inr (is, long)) ↦ subst (IsCause call) (sym is) (order, asked, (reads, on_input order call.held _ reads long))
+]
+
+-- why it was not written is the cause
+pub unwritten : (call : Call) (order : Order) (bytes : List ℕ) (e : Failure) → call.order ≡ Some order → (Reads order → call.at_end)
+    → OnInput order call.held (λ input. bytes ≡ input) → IsUnwritten order bytes call.sink_failed e → IsCause call e
+unwritten call order bytes e asked end same h = elim h [
+  | inl is ↦ subst (IsCause call) (sym is) tt
+  | inr (inl (is, failed)) ↦ subst (IsCause call) (sym is) (order, asked, (end, failed))
+  | inr (inr comes) ↦ answered call order bytes e asked end same comes
+]

@@ -1,0 +1,30 @@
+-- From a finished round robin to its counts.
+use Rattle.std.proofs.Common.{◌≡◌, ℕ, ◌-◌, List, [], length, refl, ◌∙◌}
+use Rattle.rail_model.specs.declared.types.Line.{Line}
+use Rattle.rail_model.specs.Table.{trains}
+use Rattle.rail_model.specs.Certificate.{Tree}
+use Rattle.rail_model.specs.Yard.{Yard, opening, offer}
+use Rattle.rail_model.specs.Journal.{Journal, IsDone, text}
+use Rattle.plain_yard.specs.Rounds.{Finishes}
+use Rattle.move_journal.specs.Counted.{journal_of}
+use Rattle.layout_json.specs.Doc.{Doc, IsDoc, offers_of, names_of}
+use Rattle.ats_run.specs.Certificates.{AreAccepted}
+use Rattle.ats_run.specs.Checking.{nodes_below}
+use Rattle.ats_run.specs.Generating.{IsDrilled, drill_text}
+use Rattle.ats_run.proofs.Runs.{runs}
+
+-- the counts of the run that a finish gives
+pub drilled : (D : Doc) (trees : List Tree) (z : Yard) (lines : List Line) (K : Journal) (count nodes : ℕ) (bytes : List ℕ) → IsDoc D → AreAccepted D trees
+    → IsDone (offers_of D) z → Finishes (offers_of D) (opening D.start) (trains (offer (offers_of D) 0).table - 1) [] z lines
+    → K ≡ journal_of lines → count ≡ length D.trains → nodes ≡ nodes_below trees (length trees)
+    → bytes ≡ drill_text count K.moves K.tables nodes → IsDrilled D bytes
+drilled D trees z lines K count nodes bytes doc accepted done finishes is counted summed printed =
+    let run = runs D trees z lines (text (names_of D) (journal_of lines)) doc accepted done finishes refl in
+    record {
+      journal = journal_of lines;
+      run = run.0;
+      round = run.1;
+      trees = trees;
+      accepted = accepted;
+      printed = printed ∙ (λ i. drill_text (counted i) (is i).moves (is i).tables (summed i));
+    }

@@ -1,0 +1,22 @@
+use Rattle.std.proofs.Common.{List, subst, sym}
+use Rattle.rail_model.specs.Table.{Table}
+use Rattle.rail_model.specs.Certificate.{Tree}
+use Rattle.layout_json.specs.Keeps.{IsTaken}
+use Rattle.layout_json.specs.Replaced.{replaced}
+use Rattle.layout_json.proofs.FormedDoc.{read-is-formed}
+use Rattle.ats_run.proofs.Repaired.{repaired_taken, unrepaired_input}
+use Rattle.ats_run.proofs.repairing.repair.Goals as goal
+
+-- src/repairing.rt:32:17
+pub returns-in_err-parts-clause-unrepaired : goal.returns-in_err-parts-clause-unrepaired
+returns-in_err-parts-clause-unrepaired c =
+    unrepaired_input c.args.input.now c.in_ok-doc.doc c.args.budget c.args.rounds c.from_residual-in_err-parts.result c.in_err-parts.field-0.0
+    c.in_ok-doc.ensures.document c.in_err-parts.ensures.unrepaired c.from_residual-in_err-parts.ensures.1
+
+-- src/repairing.rt:33:5
+pub print_parts-requires-clause-taken : goal.print_parts-requires-clause-taken
+print_parts-requires-clause-taken c =
+    let D = c.in_ok-doc.doc in
+    let formed = read-is-formed c.args.input.now D c.in_ok-doc.ensures.document in
+    subst (λ (parts : List (Table × Tree)). IsTaken (replaced D parts)) (sym c.deref.ensures.value)
+    (repaired_taken D c.args.budget c.args.rounds c.in_ok-parts.parts.items formed.is formed.taken c.in_ok-check_connections.ensures.unconnected c.in_ok-parts.ensures.repaired)

@@ -1,0 +1,27 @@
+-- What generating a document, and drilling its run, comes to.
+use Rattle.std.specs.Prelude.{◌≡◌, ℕ, List, ◌++◌, length, codes, decimal}
+use Rattle.rail_model.specs.Certificate.{Tree}
+use Rattle.rail_model.specs.Journal.{Journal, text}
+use Rattle.layout_json.specs.Doc.{Doc, names_of}
+use Rattle.ats_run.specs.Certificates.{AreAccepted}
+use Rattle.ats_run.specs.Checking.{nodes_below}
+use Rattle.ats_run.specs.Headline.{IsRun, IsRoundRobin}
+
+-- the budget of nodes for the certificate of a generated document
+abbrev pub full_budget : ℕ
+full_budget = 1000000
+
+-- how many trains there are, the moves and exchanges of a run, and the nodes of the certificates
+abbrev pub drill_text : ℕ → ℕ → ℕ → ℕ → List ℕ
+drill_text trains moves tables nodes =
+    codes "trains=" ++ decimal trains ++ codes " moves=" ++ decimal moves ++ codes " tables=" ++ decimal tables
+    ++ codes " nodes=" ++ decimal nodes ++ codes "\n"
+
+-- The bytes say the counts of the journal whose text is that of the document's run, and of the certificates.
+pub record IsDrilled (D : Doc) (bytes : List ℕ) : Type 0 where
+  pub journal : Journal
+  pub run : IsRun D (text (names_of D) journal)
+  pub round : IsRoundRobin D (text (names_of D) journal)
+  pub trees : List Tree
+  pub accepted : AreAccepted D trees
+  pub printed : bytes ≡ drill_text (length D.trains) journal.moves journal.tables (nodes_below trees (length trees))

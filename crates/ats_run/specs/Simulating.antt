@@ -1,0 +1,38 @@
+-- What a simulation that ends well prints.
+use Rattle.std.specs.Prelude.{◌≡◌, ℕ, List, [], ◌∷◌, ◌++◌, codes, decimal}
+use Rattle.rail_model.specs.declared.types.Line.{Line}
+use Rattle.rail_model.specs.Certificate.{Tree}
+use Rattle.rail_model.specs.Names.{Names}
+use Rattle.rail_model.specs.Yard.{Yard, opening}
+use Rattle.rail_model.specs.Journal.{IsWhole, words}
+use Rattle.move_journal.specs.Counted.{journal_of}
+use Rattle.train_sim.specs.Report.{Simulates, IsSoon}
+use Rattle.layout_json.specs.Doc.{Doc, offers_of, names_of, times_of}
+use Rattle.ats_run.specs.Certificates.{AreAccepted}
+use Rattle.ats_run.specs.Headline.{GoesOnWell}
+
+-- each line behind its tick
+abbrev pub timed_text : Names → List ℕ → List Line → List ℕ
+timed_text N (t ∷ ticks) (l ∷ lines) = decimal t ++ words N l ++ codes "\n" ++ timed_text N ticks lines
+timed_text N _ _ = []
+
+-- the counts of the lines, and the tick of the last move
+abbrev pub last_text : List Line → ℕ → List ℕ
+last_text lines tick =
+    codes "end moves=" ++ decimal (journal_of lines).moves ++ codes " tables=" ++ decimal (journal_of lines).tables
+    ++ codes " last=" ++ decimal tick ++ codes "\n"
+
+-- The bytes are the timed journal of one whole run of the document by its travel times, whose tables accept their certificates. Each
+-- way of going on from a state of it ends well, and its last move comes soon.
+pub record IsSimulated (D : Doc) (bytes : List ℕ) : Type 0 where
+  pub trees : List Tree
+  pub accepted : AreAccepted D trees
+  pub lines : List Line
+  pub ticks : List ℕ
+  pub last_tick : ℕ
+  pub end : Yard
+  pub simulates : Simulates (offers_of D) (times_of D) (opening D.start) [] lines ticks last_tick end
+  pub soon : IsSoon (offers_of D) (times_of D) end.moves last_tick
+  pub whole : IsWhole (offers_of D) (opening D.start) (journal_of lines)
+  pub goes_on_well : GoesOnWell (offers_of D) (opening D.start) lines
+  pub printed : bytes ≡ timed_text (names_of D) ticks lines ++ last_text lines last_tick

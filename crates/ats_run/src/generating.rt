@@ -1,0 +1,97 @@
+// Documents that are generated of a seed, and the counts of their runs.
+ghost use Rattle.std.specs.Prelude.{◌≡◌, ◌⊎◌, ◌≤◌, List, length, IfOk, IfErr, string_bytes};
+ghost use Rattle.document_generator.specs.Generated.{generated};
+ghost use Rattle.layout_json.specs.Doc.{offers_of};
+ghost use Rattle.ats_run.specs.Certificates.{AreAccepted};
+ghost use Rattle.ats_run.specs.Command.{IsDocWith, IsUnchecked, IsUnmadeInput, IsDrilledInput, IsUndrilledInput};
+ghost use Rattle.ats_run.specs.Generating.{IsDrilled, drill_text, full_budget};
+ghost use Rattle.ats_run.specs.Making.{IsMade};
+ghost use Rattle.ats_run.specs.declared.failure.Failure.TheVariants.{Memory as NoMemory};
+
+use crate::Failure;
+use crate::checked::{Checked, check_document};
+use crate::checking::nodes;
+use crate::making::make;
+use crate::running::finish;
+use document_generator::generate as generate_document;
+use layout_json::names_of;
+use move_journal::Journal;
+use std::alloc::{AllocError, Global};
+use std::thread::Threads;
+
+const FULL_BUDGET: u32 = 1_000_000;
+
+/// The text of the document generated of a seed for so many trains, with its certificate.
+pub fn generate(alloc: Global, seed: u32, trains: u32) -> Result<Vec<u8>, Failure>
+    requires { trains ≤ 32 }
+    ensures made { IfOk result (λ text. IsDocWith (generated seed trains) (λ D. IsMade D full_budget text.items)) }
+
+    ensures unmade { IfErr result (λ e. (e ≡ NoMemory) ⊎ IsUnmadeInput (generated seed trains) full_budget e) }
+{
+    let document = generate_document(alloc, seed, trains)?;
+    make(alloc, &document, FULL_BUDGET)
+}
+
+/// The counts of the run of a generated document.
+pub fn drill(
+    rt: &(impl Threads + Sync),
+    alloc: Global,
+    seed: u32,
+    trains: u32,
+) -> Result<Vec<u8>, Failure>
+    requires { trains ≤ 32 }
+    ensures drilled { IfOk result (λ text. IsDrilledInput (generated seed trains) text.items) }
+
+    ensures undrilled { IfErr result (λ e. (e ≡ NoMemory) ⊎ IsUndrilledInput (generated seed trains) e) }
+{
+    let document = generate(alloc, seed, trains)?;
+    drill_document(rt, alloc, &document)
+}
+
+// The counts of the run of a document.
+fn drill_document(
+    rt: &(impl Threads + Sync),
+    alloc: Global,
+    input: &[u8],
+) -> Result<Vec<u8>, Failure>
+    ensures drilled { IfOk result (λ text. IsDocWith input.now (λ D. IsDrilled D text.items)) }
+
+    ensures unchecked { IfErr result (λ e. (e ≡ NoMemory) ⊎ IsUnchecked input.now e) }
+{
+    let checked = check_document(rt, alloc, input)?;
+    let text = drill_checked(alloc, &checked)?;
+    Ok(text)
+}
+
+// The counts of the run of a document under its tables, each of which accepts its certificate.
+fn drill_checked(alloc: Global, checked: &Checked) -> Result<Vec<u8>, AllocError>
+    requires tables { checked.now.tables.items ≡ offers_of checked.now.doc }
+    requires accepted { AreAccepted checked.now.doc checked.now.certs.items }
+    requires few { length checked.now.certs.items ≤ 16 }
+    ensures { IfOk result (λ text. IsDrilled checked.now.doc text.items) }
+{
+    let state = finish(alloc, &checked.doc, &checked.tables)?;
+    let (_, lines) = state.into_parts();
+    let journal = Journal::from_lines(lines);
+    let trains = names_of(&checked.doc).trains();
+    let line = drilled_line(alloc, trains, &journal, nodes(&checked.certs))?;
+    Ok(line.into_bytes())
+}
+
+fn drilled_line(
+    alloc: Global,
+    trains: usize,
+    journal: &Journal,
+    nodes: u64,
+) -> Result<String, AllocError>
+    ensures { IfOk result (λ line. string_bytes line ≡ drill_text trains journal.now.moves journal.now.tables nodes) }
+{
+    let moves = journal.moves();
+    let tables = journal.tables();
+    let mut line = String::new(alloc);
+    write!(
+        line,
+        "trains={trains} moves={moves} tables={tables} nodes={nodes}\n"
+    )?;
+    Ok(line)
+}
