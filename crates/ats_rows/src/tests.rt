@@ -72,6 +72,47 @@ const FIRST_PATH_LATER: &str =
 const LOOP_TIMED: &str =
     "0 move T0 W L1\n0 move T1 E L2\n1 move T0 L1 E\n1 move T1 L2 W\nend moves=4 tables=0 last=1\n";
 
+const UNMARKED_CORRIDOR: &str =
+    r#"{"version":1,"points":[["A",0],["M",0],["N",0],["B",0],["C",0],["D",0]],"links":[["A","M"],["M","N"],["N","B"],["C","N"],["M","D"]],"zones":1,"trains":["T0","T1"],"start":[0,0],"tables":[{"missions":[["A","M","N","B"],["C","N","M","D"]]}]}"#;
+
+const CORRIDOR_MARKED: &str =
+    r#"{"links":[["A","M"],["M","N"],["N","B"],["C","N"],["M","D"]],"points":[["A",0],["M",0],["N",0],["B",0],["C",0],["D",0]],"start":[0,0],"tables":[{"after":0,"certificate":[[0,0,1],[0,0,0],[0,1,1],[4,1],[0,1,2],[4,1],[4,0],[0,1,1],[0,1,0],[4,0],[2,0],[4,0],[0,0,2],[4,0],[0,1,1],[4,1],[0,1,2],[4,1],[3]],"missions":[["A","M","N","B"],["C","N","M","D"]],"sections":[{"changes":[[0,1,-1,0],[0,1,-1,0]],"limit":1}],"times":[[1,1,1],[1,1,1]]}],"trains":["T0","T1"],"version":1,"zones":1}
+"#;
+
+const GENERATED: &str =
+    r#"{"links":[["P0J0","P0U0"],["P0U0","P0J1"],["P0J1","P0L0"],["P0L0","P0J0"]],"points":[["P0J0",0],["P0U0",1],["P0L0",2],["P0J1",3]],"start":[0,0],"tables":[{"after":0,"certificate":[[0,0,1],[0,0,0],[4,0],[0,1,1],[4,1],[4,0],[0,1,1],[4,1],[3]],"missions":[["P0J0","P0U0","P0J1"],["P0J1","P0L0","P0J0"]],"sections":[{"changes":[[0,1,-1],[0,1,-1]],"limit":2}],"times":[[9,1],[8,6]]}],"trains":["T0","T1"],"version":1,"zones":4}
+"#;
+
+#[test]
+fn sections_are_made_and_documents_drawn(rt: HostRuntime) -> Result<(), Fail> {
+    let alloc = rt.alloc();
+    for (words, input, status, written, told) in [
+        ("derive --most 2", UNMARKED_CORRIDOR, 0, CORRIDOR_MARKED, ""),
+        ("repair", UNMARKED_CORRIDOR, 0, CORRIDOR_MARKED, ""),
+        (
+            "repair",
+            HEAD_ON,
+            3,
+            "",
+            "ats: 112 StartIllegal 34 Over section=0 count=2 limit=1\n",
+        ),
+        ("gen --seed 2 --trains 2", "", 0, GENERATED, ""),
+        (
+            "drill --seed 2",
+            "",
+            0,
+            "trains=2 moves=4 tables=0 nodes=9\n",
+            "",
+        ),
+    ] {
+        let played = played(&rt, alloc, words, &[input])?;
+        assert_eq!(rt; code(played.status), status, "{words}");
+        assert!(rt; played.written.as_slice() == written.as_bytes());
+        assert!(rt; played.told.as_slice() == told.as_bytes());
+    }
+    Ok(())
+}
+
 #[test]
 fn documents_are_made_and_runs_are_timed(rt: HostRuntime) -> Result<(), Fail> {
     let alloc = rt.alloc();
