@@ -1,9 +1,9 @@
 //! The whole program over sources and sinks in memory: what it writes and tells on worked examples, and where a device fails.
 #![tactic(auto)]
 
-mod play;
+mod calls;
 
-pub use play::{Faults, Played, play};
+pub use calls::{Faults, Played, play};
 
 #[cfg(test)]
 mod tests;
