@@ -8,6 +8,10 @@ use std::thread::Threads;
 const FIRST_PATH: &str =
     r#"{"version":1,"points":[["A",0],["B",0],["C",0]],"links":[["A","B"],["B","C"]],"zones":1,"trains":["T0"],"start":[0],"tables":[{"missions":[["A","B","C"]],"certificate":[[0,0,1],[4,0],[3]]}]}"#;
 
+// The first path with a number of zones, a version and a start that later members of the same name take the place of.
+const NAMED_TWICE: &str =
+    r#"{"zones":9,"version":7,"start":[2],"version":1,"points":[["A",0],["B",0],["C",0]],"links":[["A","B"],["B","C"]],"zones":1,"trains":["T0"],"start":[0],"tables":[{"missions":[["A","B","C"]],"certificate":[[3]],"certificate":[[0,0,1],[4,0],[3]]}]}"#;
+
 const PASSING_LOOP: &str =
     r#"{"version":1,"points":[["W",0],["L1",0],["E",0],["L2",0]],"links":[["W","L1"],["L1","E"],["E","L2"],["L2","W"]],"zones":1,"trains":["T0","T1"],"start":[0,0],"tables":[{"missions":[["W","L1","E"],["E","L2","W"]],"certificate":[[0,0,0],[4,0],[0,1,0],[0,0,1],[4,1],[1,0,1],[0,0,1],[4,0],[0,1,1],[4,1],[3]]}]}"#;
 
@@ -51,6 +55,7 @@ fn what_is_written_ends_well(rt: HostRuntime) -> Result<(), Fail> {
         ("run", FIRST_PATH, RUN),
         ("run --rounds 5", FIRST_PATH, RUN),
         ("check", FIRST_PATH, "accepted tables=1 nodes=3\n"),
+        ("run", NAMED_TWICE, RUN),
         ("run", PASSING_LOOP, LOOP_RUN),
         ("check", PASSING_LOOP, "accepted tables=1 nodes=11\n"),
     ] {
