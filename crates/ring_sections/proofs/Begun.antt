@@ -15,7 +15,7 @@ some_same p q e = cc
 pub at_old : (r later : List Pair) (k : ℕ) → k < length r → pair_at (r ++ later) k ≡ pair_at r k
 at_old r later k l = get-append-left r later k (0, 0) l
 
-at_new : (r : List Pair) (w : Pair) (later : List Pair) → pair_at (r ++ w ∷ later) (length r) ≡ w
+pub at_new : (r : List Pair) (w : Pair) (later : List Pair) → pair_at (r ++ w ∷ later) (length r) ≡ w
 at_new r w later = get-append-right r (w ∷ later) (length r) (0, 0) (omega arith) ∙ ap (λ k. pair_at (w ∷ later) k) (let z : length r - length r ≡ 0 = omega arith in z)
 
 longer : (r : List Pair) (w : Pair) (later : List Pair) → length r < length (r ++ w ∷ later)

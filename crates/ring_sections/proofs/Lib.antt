@@ -2,8 +2,10 @@ pub mod Adding
 pub mod AllPlaced
 pub mod Answering
 pub mod Begun
+pub mod Covering
 pub mod Excluded
 pub mod Growing
+pub mod LeadingBack
 pub mod OwnRing
 pub mod PointBounds
 pub mod Pruned
@@ -11,3 +13,4 @@ pub mod RingLists
 pub mod RingTests
 pub mod Rows
 pub mod StepLists
+pub mod TrainSets

@@ -61,7 +61,7 @@ filter-none : {X : Type 0} (p : X → Bool) (xs : List X) → ((x : X) → Among
 filter-none p [] h = refl
 filter-none p (x ∷ xs) h = rw (h x (inl refl)) (filter-none p xs (λ y a. h y (inr a)))
 
-none_from : (M : List Mission) (r : List Pair) (n : ℕ) → ((later : List Pair) → length later ≤ n → IsRing M (r ++ later) → ⊥) → rings_from M r n ≡ []
+pub none_from : (M : List Mission) (r : List Pair) (n : ℕ) → ((later : List Pair) → length later ≤ n → IsRing M (r ++ later) → ⊥) → rings_from M r n ≡ []
 none_from M r n none = filter-none (is_ring M) (map (λ later. r ++ later) (lists_of (pairs M) n)) (λ x a.
     let u = among-map (λ later. r ++ later) (lists_of (pairs M) n) x a in
     not_true (is_ring M x) (λ e.

@@ -49,7 +49,7 @@ lists-all ws (suc n) (w ∷ r) l h =
     inr (Among-flat_map (λ v. map (λ later. v ∷ later) (lists_of ws n)) ws w (w ∷ r) (h w (inl refl))
     (Among-map (λ later. w ∷ later) (lists_of ws n) r (lists-all ws n r (omega arith) (λ v a. h v (inr a)))))
 
-pairs-all : (M : List Mission) (w : Pair) → w.0 < length M → w.1 < last (unmarked M) w.0 → Among (pairs M) w
+pub pairs-all : (M : List Mission) (w : Pair) → w.0 < length M → w.1 < last (unmarked M) w.0 → Among (pairs M) w
 pairs-all M w l k =
     Among-flat_map (λ i. map (λ a. (i, a)) (below (last (unmarked M) i))) (below (length M)) w.0 w (in_range 0 (length M) w.0 (omega arith) (omega arith))
     (Among-map (λ a. (w.0, a)) (below (last (unmarked M) w.0)) w.1 (in_range 0 (last (unmarked M) w.0) w.1 (omega arith) (omega arith)))

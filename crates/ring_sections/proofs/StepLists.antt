@@ -1,18 +1,19 @@
 -- The pairs and the steps of trains, and the levels that steps keep.
-use Rattle.std.proofs.Common.{◌≡◌, ℕ, zero, suc, ◌+◌, ◌-◌, ◌<◌, List, [], ◌∷◌, length, Some, slice_get, refl, arith, inl, inr, subst}
+use Rattle.std.proofs.Common.{◌≡◌, ℕ, zero, suc, ◌+◌, ◌-◌, ◌<◌, List, [], ◌∷◌, length, Some, slice_get, refl, arith, ap, ◌∙◌, sym, inl, inr, subst}
 use Rattle.std.specs.Prelude.{All, slice_index, slice_index_or}
 use Rattle.std.specs.List.{range_with_len}
-use Rattle.std.proofs.lemmas.List.FromFn.{get_or-map-range_with_len}
+use Rattle.std.proofs.lemmas.List.FromFn.{get_or-map-range_with_len, length-map-range_with_len}
 use Rattle.rail_model.specs.Table.{Mission, mission, last}
 use Rattle.rail_model.specs.Checks.{below}
 use Rattle.rail_model.proofs.Found.{Among, Among-range, Among-flat_map, Among-map}
+use Rattle.rail_model.proofs.Agree.{Decides-same_point}
 use Rattle.forbidden_states.specs.Forbid.{unmarked}
-use Rattle.forbidden_states.proofs.Members.{among-map, filter-among, flat-among}
+use Rattle.forbidden_states.proofs.Members.{among-map, filter-among, among-filter, flat-among}
 use Rattle.ring_sections.specs.declared.levels.Step.{Step}
 use Rattle.ring_sections.specs.Ring.{Pair, point_at, next_point, train_pairs, pairs}
 use Rattle.ring_sections.specs.Search.{IsPair, ArePointsBelow, stands_at, standing_at, standing}
 use Rattle.ring_sections.specs.Levels.{step_at, train_steps, steps, IsStepBelow, IsSettled, AreLevels}
-use Rattle.ring_sections.proofs.RingLists.{among-index, at-among}
+use Rattle.ring_sections.proofs.RingLists.{among-index, at-among, pairs-all}
 
 pub all-among : {X : Type 0} (P : X → Type 0) (xs : List X) → ((x : X) → Among xs x → P x) → All P xs
 all-among P xs h k d l = h (slice_index_or xs k d) (at-among xs k d l)
@@ -86,6 +87,30 @@ settled-levels M first levels goal settled = record {
 -- what stands at a point
 pub standing-at : (M : List Mission) (n q : ℕ) → q < n → slice_index_or (standing M n) q [] ≡ standing_at M q
 standing-at M n q l = get_or-map-range_with_len (standing_at M) 0 n q q [] l (omega arith)
+
+-- the pairs at a point, as they are looked up
+pub looked_up : (M : List Mission) (n q : ℕ) (all : List (List Pair)) (here : List Pair) → q < n → all ≡ standing M n → here ≡ slice_index_or all q [] → here ≡ standing_at M q
+looked_up M n q all here l is at = at ∙ ap (λ (s : List (List Pair)). slice_index_or s q []) is ∙ standing-at M n q l
+
+-- a point that is looked up among them
+pub point_within : (M : List Mission) (n q : ℕ) (all : List (List Pair)) → q < n → all ≡ standing M n → q < length all
+point_within M n q all l is =
+    subst (λ (s : List (List Pair)). q < length s) (sym is) (let e : length (standing M n) ≡ n = length-map-range_with_len (standing_at M) 0 n in omega arith)
+
+pub stands-among : (M : List Mission) (q : ℕ) (w : Pair) → IsPair M w → point_at M w ≡ Some q → Among (standing_at M q) w
+stands-among M q w pair at =
+    among-filter (stands_at M q) (pairs M) w (pairs-all M w pair.0 pair.1) ((Decides-same_point (point_at M w) (Some q)).1 (q, at, refl))
+
+pub here_stands : (M : List Mission) (q k : ℕ) (here : List Pair) → here ≡ standing_at M q → k < length here → point_at M (slice_index_or here k (0, 0)) ≡ Some q
+here_stands M q k here is l =
+    let a : Among (standing_at M q) (slice_index_or here k (0, 0)) = subst (λ (s : List Pair). Among s (slice_index_or here k (0, 0))) is (at-among here k (0, 0) l) in
+    let same = (Decides-same_point (point_at M (slice_index_or here k (0, 0))) (Some q)).0 (filter-among (stands_at M q) (pairs M) (slice_index_or here k (0, 0)) a).1 in
+    same.1 ∙ sym same.2
+
+pub here_valid : (M : List Mission) (q k : ℕ) (here : List Pair) → here ≡ standing_at M q → k < length here → IsPair M (slice_index_or here k (0, 0))
+here_valid M q k here is l =
+    let a : Among (standing_at M q) (slice_index_or here k (0, 0)) = subst (λ (s : List Pair). Among s (slice_index_or here k (0, 0))) is (at-among here k (0, 0) l) in
+    valid-pair M (slice_index_or here k (0, 0)) (filter-among (stands_at M q) (pairs M) (slice_index_or here k (0, 0)) a).0
 
 pub stander-valid : (M : List Mission) (q k : ℕ) (d : Pair) → k < length (standing_at M q) → IsPair M (slice_index_or (standing_at M q) k d)
 stander-valid M q k d l = valid-pair M _ ((filter-among (stands_at M q) (pairs M) _ (at-among (standing_at M q) k d l)).0)

@@ -1,4 +1,5 @@
 pub mod Answer
+pub mod Leading
 pub mod Levels
 pub mod Marking
 pub mod Ring

@@ -2,6 +2,7 @@
 #![tactic(auto)]
 
 mod laws;
+mod leading;
 mod levels;
 mod marking;
 mod placed;
@@ -11,6 +12,7 @@ mod search;
 mod standing;
 #[cfg(test)]
 mod tests;
+mod train_set;
 
 pub use laws::lists_just_the_rings;
 pub use marking::mark_rings;

@@ -1,7 +1,8 @@
 // Whether pairs are a circular wait.
-ghost use Rattle.std.specs.Prelude.{◌≡◌, ℕ, ◌+◌, ◌<◌, ◌≤◌, ◌↔◌, ◌%◌, All, IsTrue, length, Some};
+ghost use Rattle.std.specs.Prelude.{◌≡◌, ℕ, ◌+◌, ◌<◌, ◌≤◌, ◌==◌, ◌↔◌, ◌%◌, All, IsTrue, length, Some};
+ghost use Rattle.std.specs.List.{list_any};
 ghost use Rattle.ring_sections.specs.Ring.{point_at, next_point, pair_at, IsRing};
-ghost use Rattle.ring_sections.specs.Search.{IsPair, WaitsFor, AreApart, IsPlaced};
+ghost use Rattle.ring_sections.specs.Search.{IsPair, WaitsFor, AreApart, IsPlaced, IsTaken, fits as fits_after};
 
 use rail_model::Missions;
 
@@ -73,6 +74,33 @@ fn is_placed(missions: &Missions, way: &[(u32, u32)], index: usize) -> bool
     waits_for(missions, way[index], way[next])
         && (index == 0 || way[0].0 < way[index].0)
         && is_new(missions, way, index)
+}
+
+fn has_train(way: &[(u32, u32)], train: u32) -> bool
+    ensures { result ≡ list_any (λ v. v.0 == train) way.now }
+{
+    way.iter().any(|pair| pair.0 == train)
+}
+
+// Whether a pair may come next: its train is above the first, and none of these.
+pub(crate) fn fits(way: &[(u32, u32)], next: (u32, u32)) -> bool
+    requires { 0 < length way.now }
+    ensures { result ≡ fits_after way.now next }
+{
+    way[0].0 < next.0 && !has_train(way, next.0)
+}
+
+// Whether one of the pairs stands at a point.
+pub(crate) fn is_taken(missions: &Missions, way: &[(u32, u32)], point: u32) -> bool
+    requires { All (IsPair missions.now) way.now }
+    ensures { IsTrue result ↔ IsTaken missions.now way.now point }
+{
+    for &pair in way {
+        if point_of(missions, pair) == Some(point) {
+            return true;
+        }
+    }
+    false
 }
 
 // Whether the pairs are a circular wait. The last pair, which may not close it, is looked at first.

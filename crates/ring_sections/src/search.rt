@@ -1,14 +1,14 @@
 // The search for circular waits: each from its least train on, pair by pair, in the order in which they are listed.
-ghost use Rattle.std.specs.Prelude.{◌≡◌, ◌<◌, ◌≤◌, ◌==◌, ◌-◌, ◌++◌, ◌∷◌, [], All, IfOk, IsTrue, ◌↔◌, length};
-ghost use Rattle.std.specs.List.{list_any};
+ghost use Rattle.std.specs.Prelude.{◌≡◌, ◌<◌, ◌≤◌, ◌-◌, ◌++◌, ◌∷◌, [], All, IfOk, length};
 ghost use Rattle.rail_model.specs.Turns.{Answers};
 ghost use Rattle.ring_sections.specs.Ring.{pair_at, IsRing};
-ghost use Rattle.ring_sections.specs.Search.{IsPair, ArePointsBelow, standing as standing_at_all, IsTaken, fits as fits_after, own_ring, rings_from};
+ghost use Rattle.ring_sections.specs.Search.{IsPair, ArePointsBelow, standing as standing_at_all, own_ring, rings_from};
 ghost use Rattle.ring_sections.specs.Levels.{steps as steps_of_all, AreLevels};
 ghost use Rattle.ring_sections.specs.Answer.{Adds, all_rings};
 
+use crate::leading::may_follow;
 use crate::levels::{Step, levels_of, steps_of};
-use crate::placed::{is_ring, next_point_of, point_of};
+use crate::placed::{is_ring, is_taken, next_point_of};
 use crate::standing::{Standing, pairs_of, size_of, standing_of};
 use crate::{Ring, Rings};
 use rail_model::Missions;
@@ -39,20 +39,6 @@ fn keep_ring(
     Ok(())
 }
 
-fn has_train(way: &[(u32, u32)], train: u32) -> bool
-    ensures { result ≡ list_any (λ v. v.0 == train) way.now }
-{
-    way.iter().any(|pair| pair.0 == train)
-}
-
-// Whether a pair may come next: its train is above the first, and none of these.
-fn fits(way: &[(u32, u32)], next: (u32, u32)) -> bool
-    requires { 0 < length way.now }
-    ensures { result ≡ fits_after way.now next }
-{
-    way[0].0 < next.0 && !has_train(way, next.0)
-}
-
 fn longer(
     alloc: Global,
     way: &[(u32, u32)],
@@ -64,19 +50,6 @@ fn longer(
     longer.extend_from_slice(way)?;
     longer.push(next)?;
     Ok(longer)
-}
-
-// Whether one of the pairs stands at a point.
-fn is_taken(missions: &Missions, way: &[(u32, u32)], point: u32) -> bool
-    requires { All (IsPair missions.now) way.now }
-    ensures { IsTrue result ↔ IsTaken missions.now way.now point }
-{
-    for &pair in way {
-        if point_of(missions, pair) == Some(point) {
-            return true;
-        }
-    }
-    false
 }
 
 // Adds the circular waits that begin with some pairs and have at most `left` more.
@@ -107,8 +80,19 @@ fn extend(
     if left == 0 || is_taken(missions, way, wanted) {
         return Ok(());
     }
+    let mut lost = Vec::new(alloc);
     for &next in standing.at(wanted) {
-        if fits(way, next) {
+        if may_follow(
+            alloc,
+            missions,
+            standing,
+            levels,
+            way,
+            wanted,
+            next,
+            left - 1,
+            &mut lost,
+        )? {
             let way = longer(alloc, way, next)?;
             extend(alloc, missions, standing, levels, &way, left - 1, found)?;
         }
@@ -166,7 +150,7 @@ pub fn rings(alloc: Global, missions: &Missions, most: u32) -> Result<Vec<Ring>,
 {
     let size = size_of(missions);
     let pairs = pairs_of(alloc, missions)?;
-    let standing = standing_of(alloc, missions, &pairs, size)?;
+    let standing = standing_of(alloc, missions, &pairs, size, most)?;
     let steps = steps_of(alloc, missions)?;
     let mut found = Vec::new(alloc);
     for &first in &pairs {

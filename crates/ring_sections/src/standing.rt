@@ -4,7 +4,7 @@ ghost use Rattle.rail_model.specs.Table.{IsMission};
 ghost use Rattle.ring_sections.specs.Ring.{train_pairs, pairs as all_pairs};
 ghost use Rattle.ring_sections.specs.Search.{IsPair, ArePointsBelow, stands_at as stands_at_point, standing as standing_at_all};
 
-use crate::placed::point_of;
+use crate::placed::{next_point_of, point_of};
 use forbidden_states::last_of;
 use rail_model::{Mission, Missions};
 use std::alloc::{AllocError, Global};
@@ -14,6 +14,8 @@ use std::marker::Model;
 #[derive(Drop)]
 struct Standers {
     pairs: Vec<(u32, u32)>,
+    // For each pair the least of the last trains that make its step, if these are many.
+    lasts: Vec<u32>,
 }
 
 impl Model for Standers {
@@ -55,6 +57,15 @@ impl Standing {
     {
         &self.points[point as usize].pairs
     }
+
+    // Whether there are so many trains above the first that make the step of the pair at an index that some train is left for it,
+    // whichever others stand in a circular wait.
+    pub(crate) fn are_many(&self, point: u32, index: usize, first: u32) -> bool {
+        match self.points.get(point as usize) {
+            Some(standers) => standers.lasts.get(index).copied().unwrap_or(0) > first,
+            None => false,
+        }
+    }
 }
 
 // Adds the pairs of a train.
@@ -89,11 +100,47 @@ fn stands_at(missions: &Missions, point: u32, pair: (u32, u32)) -> bool
     }
 }
 
+// The least of the last `many` trains of the pairs that want a point; 0 where there are fewer.
+fn last_of_many(missions: &Missions, pairs: &[(u32, u32)], to: Option<u32>, many: u32) -> u32
+    requires { All (IsPair missions.now) pairs.now }
+{
+    let mut last = 32;
+    let mut left = many;
+    for index in (0..pairs.len()).rev() {
+        let (train, _) = pairs[index];
+        if train < last && next_point_of(missions, pairs[index]) == to {
+            if left <= 1 {
+                return train;
+            }
+            last = train;
+            left -= 1;
+        }
+    }
+    0
+}
+
+// For each pair the least of the last `many` trains that make its step.
+fn lasts_of(
+    alloc: Global,
+    missions: &Missions,
+    pairs: &[(u32, u32)],
+    many: u32,
+) -> Result<Vec<u32>, AllocError>
+    requires { All (IsPair missions.now) pairs.now }
+{
+    let mut lasts = Vec::new(alloc);
+    for &pair in pairs {
+        lasts.push(last_of_many(missions, pairs, next_point_of(missions, pair), many))?;
+    }
+    Ok(lasts)
+}
+
 fn standers_at(
     alloc: Global,
     missions: &Missions,
     pairs: &[(u32, u32)],
     point: u32,
+    most: u32,
 ) -> Result<Standers, AllocError>
     requires { All (IsPair missions.now) pairs.now }
     ensures { IfOk result (λ standers. standers ≡ filter (stands_at_point missions.now point) pairs.now) }
@@ -104,7 +151,11 @@ fn standers_at(
             standers.push(pair)?;
         }
     }
-    Ok(Standers { pairs: standers })
+    let lasts = lasts_of(alloc, missions, &standers, most.saturating_sub(1))?;
+    Ok(Standers {
+        pairs: standers,
+        lasts,
+    })
 }
 
 // The pairs at each point below `size`.
@@ -113,6 +164,7 @@ pub(crate) fn standing_of(
     missions: &Missions,
     pairs: &[(u32, u32)],
     size: usize,
+    most: u32,
 ) -> Result<Standing, AllocError>
     requires pairs { pairs.now ≡ all_pairs missions.now }
     requires size { size ≤ 2 ^ 32 }
@@ -120,7 +172,7 @@ pub(crate) fn standing_of(
 {
     let mut points = Vec::new(alloc);
     for point in 0..size {
-        points.push(standers_at(alloc, missions, pairs, point as u32)?)?;
+        points.push(standers_at(alloc, missions, pairs, point as u32, most)?)?;
     }
     Ok(Standing { points })
 }

@@ -1,7 +1,6 @@
 use Rattle.std.proofs.Common.{◌≡◌, ◌-◌, ◌+◌, ◌<◌, ◌≤◌, false, ℕ, List, [], ◌∷◌, ◌++◌, length, length-append, append-nil, Some, Vec, Global, ap, ◌∙◌, subst, sym, arith, slice_index_or}
 use Rattle.std.specs.Prelude.{All, flat_map}
 use Rattle.std.proofs.lemmas.List.Elements.{All-nil, All-cons, All-append}
-use Rattle.std.proofs.lemmas.List.FromFn.{length-map-range_with_len}
 use Rattle.rail_model.specs.Table.{Mission}
 use Rattle.ring_sections.specs.Ring.{Pair, pair_at, next_point}
 use Rattle.ring_sections.specs.Search.{IsPair, ArePointsBelow, fits, own_ring, rings_from, standing_at, standing}
@@ -9,24 +8,20 @@ use Rattle.ring_sections.specs.Levels.{AreLevels}
 use Rattle.ring_sections.proofs.Begun.{at_old}
 use Rattle.ring_sections.proofs.Pruned.{none_behind_taken, rings_from-zero, none_wanted, too_far, none_unfit, rings_from-standing}
 use Rattle.ring_sections.proofs.Adding.{adds_none, adds_err, Fails, own_first, added_more, added_all, failed_part, at-any}
-use Rattle.ring_sections.proofs.StepLists.{standing-at, stander-valid}
+use Rattle.ring_sections.proofs.StepLists.{looked_up, point_within, here_stands, here_valid}
 use Rattle.ring_sections.proofs.search.+extend.Goals as goal
-use Rattle.ring_sections.proofs.search.+extend.Goals.{then-fits+in_ok-way+in_ok-extend, else-fits, then-left-eq0-via-then-left-eq0, then-left-eq0-via-else-left-eq0+then-is_taken}
+use Rattle.ring_sections.proofs.search.+extend.Goals.{then-branch+in_ok-way+in_ok-extend, else-branch, then-left-eq0-via-then-left-eq0, then-left-eq0-via-else-left-eq0+then-is_taken}
 
--- the pairs at the wanted point, as they are looked up
-looked_up : (M : List Mission) (n : ℕ) (r : List Pair) (wanted : ℕ) (all : List (List Pair)) (here : List Pair) → ArePointsBelow M n →
-    next_point M (pair_at r (length r - 1)) ≡ Some wanted → all ≡ standing M n → here ≡ slice_index_or all wanted [] → here ≡ standing_at M wanted
-looked_up M n r wanted all here points wants is at =
-    at ∙ ap (λ (s : List (List Pair)). slice_index_or s wanted []) is
-    ∙ standing-at M n wanted (points (pair_at r (length r - 1)).0 ((pair_at r (length r - 1)).1 + 1) wanted wants)
+-- the wanted point is one of those that have levels
+wanted_below : (M : List Mission) (n : ℕ) (r : List Pair) (wanted : ℕ) → ArePointsBelow M n → next_point M (pair_at r (length r - 1)) ≡ Some wanted → wanted < n
+wanted_below M n r wanted points wants = points (pair_at r (length r - 1)).0 ((pair_at r (length r - 1)).1 + 1) wanted wants
 
 -- one pair more
 valid_longer : (M : List Mission) (r longer here : List Pair) (wanted k : ℕ) → All (IsPair M) r → here ≡ standing_at M wanted → k < length here →
     longer ≡ r ++ slice_index_or here k (0, 0) ∷ [] → All (IsPair M) longer
 valid_longer M r longer here wanted k valid is l same =
     let w : Pair = slice_index_or here k (0, 0) in
-    let one : IsPair M w =
-    subst (λ (xs : List Pair). k < length xs → IsPair M (slice_index_or xs k (0, 0))) (sym is) (stander-valid M wanted k (0, 0)) l in
+    let one : IsPair M w = here_valid M wanted k here is l in
     subst (All (IsPair M)) (sym same) (All-append (IsPair M) r (w ∷ []) valid (All-cons (IsPair M) w [] one (All-nil (IsPair M))))
 
 -- the circular waits, by the pairs that were looked up
@@ -69,11 +64,29 @@ returns-then-left-eq0 t c =
 
 pub at-next-items-requires : goal.at-next-items-requires
 at-next-items-requires t c =
-    let w : Pair = pair_at c.args.way.now (length c.args.way.now - 1) in
-    let l : c.in-Some.wanted < length c.args.levels.now = c.requires.points w.0 (w.1 + 1) c.in-Some.wanted (sym c.next_point_of.ensures ∙ c.in-Some.is) in
-    let n : length (standing c.args.missions.now (length c.args.levels.now)) ≡ length c.args.levels.now =
-    length-map-range_with_len (standing_at c.args.missions.now) 0 (length c.args.levels.now) in
-    subst (λ (all : List (List Pair)). c.in-Some.wanted < length all) (sym c.requires.standing) (omega arith)
+    point_within c.args.missions.now (length c.args.levels.now) c.in-Some.wanted c.args.standing.now
+    (wanted_below c.args.missions.now (length c.args.levels.now) c.args.way.now c.in-Some.wanted c.requires.points (sym c.next_point_of.ensures ∙ c.in-Some.is))
+    c.requires.standing
+
+pub may_follow-requires-clause-next : goal.may_follow-requires-clause-next
+may_follow-requires-clause-next t c =
+    let M = c.args.missions.now in
+    let r = c.args.way.now in
+    let here = c.at-next-items.result.now in
+    let is : here ≡ standing_at M c.in-Some.wanted =
+    looked_up M (length c.args.levels.now) c.in-Some.wanted c.args.standing.now here
+    (wanted_below M (length c.args.levels.now) r c.in-Some.wanted c.requires.points (sym c.next_point_of.ensures ∙ c.in-Some.is)) c.requires.standing c.at-next-items.ensures in
+    here_valid M c.in-Some.wanted c.loop-next.next-index here is c.loop-next-test.true
+
+pub may_follow-requires-clause-stands : goal.may_follow-requires-clause-stands
+may_follow-requires-clause-stands t c =
+    let M = c.args.missions.now in
+    let r = c.args.way.now in
+    let here = c.at-next-items.result.now in
+    let is : here ≡ standing_at M c.in-Some.wanted =
+    looked_up M (length c.args.levels.now) c.in-Some.wanted c.args.standing.now here
+    (wanted_below M (length c.args.levels.now) r c.in-Some.wanted c.requires.points (sym c.next_point_of.ensures ∙ c.in-Some.is)) c.requires.standing c.at-next-items.ensures in
+    here_stands M c.in-Some.wanted c.loop-next.next-index here is c.loop-next-test.true
 
 pub extend-requires : goal.extend-requires
 extend-requires t c =
@@ -82,8 +95,8 @@ extend-requires t c =
     let here = c.at-next-items.result.now in
     let k = c.loop-next.next-index in
     let is : here ≡ standing_at M c.in-Some.wanted =
-    looked_up M (length c.args.levels.now) r c.in-Some.wanted c.args.standing.now here c.requires.points
-    (sym c.next_point_of.ensures ∙ c.in-Some.is) c.requires.standing c.at-next-items.ensures in
+    looked_up M (length c.args.levels.now) c.in-Some.wanted c.args.standing.now here
+    (wanted_below M (length c.args.levels.now) r c.in-Some.wanted c.requires.points (sym c.next_point_of.ensures ∙ c.in-Some.is)) c.requires.standing c.at-next-items.ensures in
     let longer : c.deref.result.now ≡ r ++ slice_index_or here k (0, 0) ∷ [] = c.deref.ensures.value ∙ c.in_ok-way.ensures in
     let some : 0 < length r = c.requires.some in (
       omega (arith, c.decreases),
@@ -114,7 +127,8 @@ returns-in_err-extend t c =
     let w : Pair = slice_index_or here k (0, 0) in
     let wants : next_point M (pair_at r (length r - 1)) ≡ Some c.in-Some.wanted = sym c.next_point_of.ensures ∙ c.in-Some.is in
     let is : here ≡ standing_at M c.in-Some.wanted =
-    looked_up M (length c.args.levels.now) r c.in-Some.wanted c.args.standing.now here c.requires.points wants c.requires.standing c.at-next-items.ensures in
+    looked_up M (length c.args.levels.now) c.in-Some.wanted c.args.standing.now here
+    (wanted_below M (length c.args.levels.now) r c.in-Some.wanted c.requires.points wants) c.requires.standing c.at-next-items.ensures in
     let longer : c.deref.result.now ≡ r ++ w ∷ [] = c.deref.ensures.value ∙ c.in_ok-way.ensures in
     failed_part (λ v. rings_from M (r ++ v ∷ []) (c.args.left - 1)) here k w c.args.found.now.items (own_ring M r) c.loop-next.found.items c.extend.new.found.items
     (rings_from M r c.args.left) c.from_residual-in_err-extend.result c.in_err-extend.field-0.0
@@ -132,25 +146,26 @@ loop-next-preserved t c =
     let w : Pair = slice_index_or here k (0, 0) in
     let same : w ≡ slice_index_or here k w = at-any here k (0, 0) w c.loop-next-test.true in
     let G : Pair → List (List Pair) = λ v. rings_from M (r ++ v ∷ []) (c.args.left - 1) in
-    elim c.if-fits.branch [
-      | then-fits+in_ok-way+in_ok-extend v ↦
+    elim c.if-branch.branch [
+      | then-branch+in_ok-way+in_ok-extend v ↦
           let longer : v.deref.result.now ≡ r ++ w ∷ [] = v.deref.ensures.value ∙ v.in_ok-way.ensures in
-          let items : c.if-fits.found.items ≡ v.extend.new.found.items = ap (λ (f : Vec (List Pair) Global). f.items) v.found-is in
+          let items : c.if-branch.found.items ≡ v.extend.new.found.items = ap (λ (f : Vec (List Pair) Global). f.items) v.found-is in
           let few = v.in_ok-extend.ensures.1 in
           record {
-            found = added_more G here k w c.args.found.now.items (own_ring M r) c.loop-next.found.items c.if-fits.found.items
+            found = added_more G here k w c.args.found.now.items (own_ring M r) c.loop-next.found.items c.if-branch.found.items
                 (rings_from M v.deref.result.now (c.args.left - 1)) c.loop-next-test.true same c.loop-next.invariant.found
                 (items ∙ v.in_ok-extend.ensures.0) (ap (λ (rs : List Pair). rings_from M rs (c.args.left - 1)) longer);
             few = subst (λ (f : List (List Pair)). length f ≤ 64) (sym items) few;
+            lost = c.in_ok-may_follow.ensures.lost;
           }
-      | else-fits v ↦
-          let items : c.if-fits.found.items ≡ c.loop-next.found.items = ap (λ (f : Vec (List Pair) Global). f.items) v.found-is in
-          let unfit : fits r w ≡ false = sym c.fits.ensures ∙ v.if-fits.false in
+      | else-branch v ↦
+          let items : c.if-branch.found.items ≡ c.loop-next.found.items = ap (λ (f : Vec (List Pair) Global). f.items) v.found-is in
           record {
-            found = added_more G here k w c.args.found.now.items (own_ring M r) c.loop-next.found.items c.if-fits.found.items
+            found = added_more G here k w c.args.found.now.items (own_ring M r) c.loop-next.found.items c.if-branch.found.items
                 [] c.loop-next-test.true same c.loop-next.invariant.found
-                (items ∙ sym (append-nil c.loop-next.found.items)) (sym (none_unfit M r w (c.args.left - 1) c.requires.some unfit));
+                (items ∙ sym (append-nil c.loop-next.found.items)) (sym (c.in_ok-may_follow.ensures.answer v.if-branch.false));
             few = subst (λ (f : List (List Pair)). length f ≤ 64) (sym items) c.loop-next.invariant.few;
+            lost = c.in_ok-may_follow.ensures.lost;
           }
     ]
 
@@ -161,7 +176,8 @@ returns t c =
     let here = c.at-next-items.result.now in
     let wants : next_point M (pair_at r (length r - 1)) ≡ Some c.in-Some.wanted = sym c.next_point_of.ensures ∙ c.in-Some.is in
     let is : here ≡ standing_at M c.in-Some.wanted =
-    looked_up M (length c.args.levels.now) r c.in-Some.wanted c.args.standing.now here c.requires.points wants c.requires.standing c.at-next-items.ensures in (
+    looked_up M (length c.args.levels.now) c.in-Some.wanted c.args.standing.now here
+    (wanted_below M (length c.args.levels.now) r c.in-Some.wanted c.requires.points wants) c.requires.standing c.at-next-items.ensures in (
       added_all (λ v. rings_from M (r ++ v ∷ []) (c.args.left - 1)) here c.loop-next.next-index c.args.found.now.items (own_ring M r) c.loop-next.found.items
           (rings_from M r c.args.left) (omega arith) c.loop-next.invariant.found
           (by_here M r here c.args.left c.in-Some.wanted (omega arith) c.requires.some wants is),
