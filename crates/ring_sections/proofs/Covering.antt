@@ -1,5 +1,5 @@
 -- Where those that are known cover one: by what is hit of them.
-use Rattle.std.proofs.Common.{◌≡◌, ◌≢◌, ℕ, ◌-◌, ◌<◌, ◌≤◌, ◌^◌, List, length, arith, ap, ◌∙◌, inl, inr, subst, sym}
+use Rattle.std.proofs.Common.{◌≡◌, ℕ, ◌-◌, ◌<◌, List, arith, inl, inr, subst, sym}
 use Rattle.std.specs.Prelude.{slice_index_or}
 use Rattle.std.specs.Int.Bits.{bit_and}
 use Rattle.ring_sections.specs.declared.leading.Reach.{Reach}
@@ -7,7 +7,7 @@ use Rattle.ring_sections.specs.declared.train_set.TrainSet.{TrainSet}
 use Rattle.ring_sections.specs.Ring.{Pair, pair_at}
 use Rattle.ring_sections.specs.Leading.{HasTrain, Avoids, IsKnown, IsCovered}
 use Rattle.ring_sections.proofs.Adding.{at-any}
-use Rattle.ring_sections.proofs.TrainSets.{with_train, has_apart, has_below, count_none, count_fewer, avoid_or_meet}
+use Rattle.ring_sections.proofs.TrainSets.{with_train, has_apart, count_none, count_fewer, avoid_or_meet}
 
 -- Where no more trains may be beside those that are hit, what none of them hits avoids all.
 pub covered_now : (known : List Reach) (from : Reach) (used hit : TrainSet) (n : ℕ) → IsKnown known from used → bit_and used.bits hit.bits ≡ 0 → n ≡ 0 → IsCovered known from hit n

@@ -1,7 +1,7 @@
 -- What is lost, step by step; and a circular wait's later pairs lead back.
-use Rattle.std.proofs.Common.{◌≡◌, ◌≢◌, ◌⊎◌, ℕ, zero, suc, ◌+◌, ◌-◌, ◌<◌, ◌≤◌, true, List, [], ◌∷◌, ◌++◌, length, length-append, append-nil, append_assoc, Some, None, arith, ap, ◌∙◌, inl, inr, subst, sym}
-use Rattle.std.specs.Prelude.{All, Contains, slice_index, slice_index_or}
-use Rattle.std.proofs.lemmas.List.Elements.{All-contains, All-head, All-tail}
+use Rattle.std.proofs.Common.{◌≡◌, ℕ, suc, ◌+◌, ◌-◌, ◌<◌, ◌≤◌, true, List, [], ◌∷◌, ◌++◌, length, length-append, append-nil, append_assoc, Some, None, arith, ap, ◌∙◌, inl, inr, subst, sym}
+use Rattle.std.specs.Prelude.{All, slice_index, slice_index_or}
+use Rattle.std.proofs.lemmas.List.Elements.{All-contains}
 use Rattle.rail_model.specs.Table.{Mission, last as last_place}
 use Rattle.rail_model.proofs.Found.{Among}
 use Rattle.forbidden_states.specs.Forbid.{unmarked}
@@ -15,7 +15,7 @@ use Rattle.ring_sections.proofs.RingLists.{among-index}
 use Rattle.ring_sections.proofs.StepLists.{stands-among}
 use Rattle.ring_sections.proofs.RingTests.{get-append-right}
 use Rattle.ring_sections.proofs.Adding.{at-any}
-use Rattle.ring_sections.proofs.TrainSets.{with_train, has_only, none_has, count_all}
+use Rattle.ring_sections.proofs.TrainSets.{count_all}
 use Rattle.ring_sections.proofs.Begun.{at_old, at_new, Decides-fits, next_fits, next_stands, none_behind, waits_for_first, wants_some}
 use Rattle.ring_sections.proofs.Pruned.{none_from, none_wanted}
 

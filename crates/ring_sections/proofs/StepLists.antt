@@ -111,6 +111,3 @@ pub here_valid : (M : List Mission) (q k : ℕ) (here : List Pair) → here ≡ 
 here_valid M q k here is l =
     let a : Among (standing_at M q) (slice_index_or here k (0, 0)) = subst (λ (s : List Pair). Among s (slice_index_or here k (0, 0))) is (at-among here k (0, 0) l) in
     valid-pair M (slice_index_or here k (0, 0)) (filter-among (stands_at M q) (pairs M) (slice_index_or here k (0, 0)) a).0
-
-pub stander-valid : (M : List Mission) (q k : ℕ) (d : Pair) → k < length (standing_at M q) → IsPair M (slice_index_or (standing_at M q) k d)
-stander-valid M q k d l = valid-pair M _ ((filter-among (stands_at M q) (pairs M) _ (at-among (standing_at M q) k d l)).0)

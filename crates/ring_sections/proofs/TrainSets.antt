@@ -1,6 +1,5 @@
 -- Sets of trains as bits, and what of some pairs is outside.
-use Rattle.std.proofs.Common.{◌≡◌, ◌≢◌, ◌⊎◌, ℕ, zero, suc, ◌+◌, ◌<◌, ◌≤◌, ◌==◌, ◌^◌, true, false, cond, List, [], ◌∷◌, length, max, min, arith, ap, ◌∙◌, sym, inl, inr, subst, slice_index_or, eq-eqb}
-use Rattle.std.specs.Prelude.{All}
+use Rattle.std.proofs.Common.{◌≡◌, ◌⊎◌, ℕ, zero, suc, ◌+◌, ◌<◌, ◌≤◌, ◌==◌, ◌^◌, true, false, cond, List, [], ◌∷◌, length, arith, ap, ◌∙◌, inl, inr, eq-eqb}
 use Rattle.std.specs.Int.{bit_at}
 use Rattle.std.specs.Int.Bits.{bit_and, bit_or}
 use Rattle.std.proofs.lemmas.Bool.Decides.{eqb_tells, leb_tells}

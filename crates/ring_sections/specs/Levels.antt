@@ -5,6 +5,7 @@ use Rattle.rail_model.specs.Checks.{below}
 use Rattle.ring_sections.specs.declared.levels.Step.{Step}
 use Rattle.forbidden_states.specs.Forbid.{unmarked}
 use Rattle.ring_sections.specs.Ring.{Pair, point_at, next_point}
+use Rattle.ring_sections.specs.Search.{ArePointsBelow, standing}
 
 -- the step of a train from a place on
 abbrev pub step_at : ℕ → Mission → ℕ → Step
@@ -31,3 +32,9 @@ pub record AreLevels (M : List Mission) (first : Pair) (levels : List ℕ) : Typ
   pub goal : (q : ℕ) → point_at M first ≡ Some q → slice_index levels q ≡ 0
   pub steps : (w : Pair) (a b : ℕ) → first.0 < w.0 → w.0 < length M → point_at M w ≡ Some a → next_point M w ≡ Some b
       → slice_index levels a ≤ slice_index levels b + 1
+
+-- What a search from a first pair looks at: all points have a level, and of each it is known which pairs stand there.
+pub record IsChart (M : List Mission) (here : List (List Pair)) (high : List ℕ) (first : Pair) : Type 0 where
+  pub points : ArePointsBelow M (length high)
+  pub places : here ≡ standing M (length high)
+  pub levels : AreLevels M first high

@@ -2,14 +2,13 @@
 ghost use Rattle.std.specs.Prelude.{◌≡◌, ◌≢◌, ℕ, ◌<◌, ◌^◌, ◌++◌, ◌∷◌, [], All, IfOk, IfSome, length, false, true};
 ghost use Rattle.std.specs.Int.Bits.{bit_and};
 ghost use Rattle.ring_sections.specs.Ring.{pair_at, point_at};
-ghost use Rattle.ring_sections.specs.Search.{IsPair, ArePointsBelow, standing as standing_at_all, rings_from};
-ghost use Rattle.ring_sections.specs.Levels.{AreLevels};
+ghost use Rattle.ring_sections.specs.Search.{IsPair, rings_from};
+ghost use Rattle.ring_sections.specs.Levels.{AreLevels, IsChart};
 ghost use Rattle.ring_sections.specs.Leading.{IsLost, IsLostBy, IsBehind, IsKnown, IsCovered};
 
+use crate::chart::Chart;
 use crate::placed::{fits, is_taken, next_point_of, point_of};
-use crate::standing::Standing;
 use crate::train_set::TrainSet;
-use rail_model::Missions;
 use std::alloc::{AllocError, Global};
 
 /// A point that was reached by some trains, with so many pairs left to lead back from it.
@@ -58,26 +57,19 @@ fn is_covered(known: &[Reach], from: Reach, hit: TrainSet, left: u32) -> bool
 }
 
 // Whether it is told at a glance that nothing leads back from a point that isn't the first pair's.
-fn is_lost(
-    missions: &Missions,
-    levels: &[u32],
-    way: &[(u32, u32)],
-    shut: u32,
-    from: Reach,
-    lost: &[Reach],
-) -> bool
-    requires levels { AreLevels missions.now (pair_at way.now 0) levels.now }
-    requires way { All (IsPair missions.now) way.now }
-    requires point { from.point < length levels.now }
-    requires away { point_at missions.now (pair_at way.now 0) ≢ Some from.point }
-    requires lost { All (IsLost missions.now way.now shut) lost.now }
-    ensures lost { result ≡ true → IsLost missions.now way.now shut from }
+fn is_lost(chart: &Chart<'_>, way: &[(u32, u32)], shut: u32, from: Reach, lost: &[Reach]) -> bool
+    requires levels { AreLevels chart.now.missions.now (pair_at way.now 0) chart.now.levels.now }
+    requires way { All (IsPair chart.now.missions.now) way.now }
+    requires point { from.point < length chart.now.levels.now }
+    requires away { point_at chart.now.missions.now (pair_at way.now 0) ≢ Some from.point }
+    requires lost { All (IsLost chart.now.missions.now way.now shut) lost.now }
+    ensures lost { result ≡ true → IsLost chart.now.missions.now way.now shut from }
     ensures left { result ≡ false → 0 < from.left }
 {
     if from.left == 0
-        || levels[from.point as usize] > from.left
+        || chart.levels[from.point as usize] > from.left
         || from.point == shut
-        || is_taken(missions, way, from.point)
+        || is_taken(chart.missions, way, from.point)
     {
         return true;
     }
@@ -87,25 +79,24 @@ fn is_lost(
 // What is reached by one of the pairs that stand at a point, if its train may be used. The train needn't be counted where there are
 // enough others.
 fn onward(
-    missions: &Missions,
-    standing: &Standing,
+    chart: &Chart<'_>,
     way: &[(u32, u32)],
     from: Reach,
     index: usize,
     next: (u32, u32),
 ) -> Option<Reach>
     requires some { 0 < length way.now }
-    requires next { IsPair missions.now next }
+    requires next { IsPair chart.now.missions.now next }
     requires left { 0 < from.left }
-    ensures behind { IfSome result (λ behind. IsBehind missions.now from next behind) }
-    ensures none { (shut : ℕ) → result ≡ None → IsLostBy missions.now way.now shut from next }
+    ensures behind { IfSome result (λ behind. IsBehind chart.now.missions.now from next behind) }
+    ensures none { (shut : ℕ) → result ≡ None → IsLostBy chart.now.missions.now way.now shut from next }
 {
-    let _trains = missions.len();
+    let _trains = chart.missions.len();
     if !fits(way, next) || from.used.has(next.0) {
         return None;
     }
-    let point = next_point_of(missions, next)?;
-    let used = if standing.are_many(from.point, index, way[0].0) {
+    let point = next_point_of(chart.missions, next)?;
+    let used = if chart.standing.are_many(from.point, index, way[0].0) {
         from.used
     } else {
         from.used.with(next.0)
@@ -117,33 +108,29 @@ fn onward(
 // Whether pairs may lead back to the first of the way, at most as many as are left. Adds what is found to be lost.
 fn may_lead(
     alloc: Global,
-    missions: &Missions,
-    standing: &Standing,
-    levels: &[u32],
+    chart: &Chart<'_>,
     way: &[(u32, u32)],
     shut: u32,
     from: Reach,
     lost: &mut Vec<Reach>,
 ) -> Result<bool, AllocError>
-    requires points { ArePointsBelow missions.now (length levels.now) }
-    requires standing { standing.now ≡ standing_at_all missions.now (length levels.now) }
-    requires levels { AreLevels missions.now (pair_at way.now 0) levels.now }
+    requires chart { IsChart chart.now.missions.now chart.now.standing.now chart.now.levels.now (pair_at way.now 0) }
     requires some { 0 < length way.now }
-    requires way { All (IsPair missions.now) way.now }
-    requires point { from.point < length levels.now }
-    requires lost { All (IsLost missions.now way.now shut) lost.old.items }
-    ensures lost { IfOk result (λ _. All (IsLost missions.now way.now shut) lost.new.items) }
-    ensures answer { IfOk result (λ may. may ≡ false → IsLost missions.now way.now shut from) }
+    requires way { All (IsPair chart.now.missions.now) way.now }
+    requires point { from.point < length chart.now.levels.now }
+    requires lost { All (IsLost chart.now.missions.now way.now shut) lost.old.items }
+    ensures lost { IfOk result (λ _. All (IsLost chart.now.missions.now way.now shut) lost.new.items) }
+    ensures answer { IfOk result (λ may. may ≡ false → IsLost chart.now.missions.now way.now shut from) }
 {
-    if point_of(missions, way[0]) == Some(from.point) {
+    if point_of(chart.missions, way[0]) == Some(from.point) {
         return Ok(true);
     }
-    if is_lost(missions, levels, way, shut, from, lost) {
+    if is_lost(chart, way, shut, from, lost) {
         return Ok(false);
     }
-    for (index, &next) in standing.at(from.point).iter().enumerate() {
-        if let Some(behind) = onward(missions, standing, way, from, index, next) {
-            if may_lead(alloc, missions, standing, levels, way, shut, behind, lost)? {
+    for (index, &next) in chart.standing.at(from.point).iter().enumerate() {
+        if let Some(behind) = onward(chart, way, from, index, next) {
+            if may_lead(alloc, chart, way, shut, behind, lost)? {
                 return Ok(true);
             }
         }
@@ -156,34 +143,30 @@ fn may_lead(
 // be lost.
 pub(crate) fn may_follow(
     alloc: Global,
-    missions: &Missions,
-    standing: &Standing,
-    levels: &[u32],
+    chart: &Chart<'_>,
     way: &[(u32, u32)],
     shut: u32,
     next: (u32, u32),
     left: u32,
     lost: &mut Vec<Reach>,
 ) -> Result<bool, AllocError>
-    requires points { ArePointsBelow missions.now (length levels.now) }
-    requires standing { standing.now ≡ standing_at_all missions.now (length levels.now) }
-    requires levels { AreLevels missions.now (pair_at way.now 0) levels.now }
+    requires chart { IsChart chart.now.missions.now chart.now.standing.now chart.now.levels.now (pair_at way.now 0) }
     requires some { 0 < length way.now }
-    requires way { All (IsPair missions.now) way.now }
-    requires next { IsPair missions.now next }
-    requires stands { point_at missions.now next ≡ Some shut }
-    requires lost { All (IsLost missions.now way.now shut) lost.old.items }
-    ensures lost { IfOk result (λ _. All (IsLost missions.now way.now shut) lost.new.items) }
-    ensures answer { IfOk result (λ may. may ≡ false → rings_from missions.now (way.now ++ next ∷ []) left ≡ []) }
+    requires way { All (IsPair chart.now.missions.now) way.now }
+    requires next { IsPair chart.now.missions.now next }
+    requires stands { point_at chart.now.missions.now next ≡ Some shut }
+    requires lost { All (IsLost chart.now.missions.now way.now shut) lost.old.items }
+    ensures lost { IfOk result (λ _. All (IsLost chart.now.missions.now way.now shut) lost.new.items) }
+    ensures answer { IfOk result (λ may. may ≡ false → rings_from chart.now.missions.now (way.now ++ next ∷ []) left ≡ []) }
 {
     if !fits(way, next) {
         return Ok(false);
     }
-    let Some(point) = next_point_of(missions, next) else {
+    let Some(point) = next_point_of(chart.missions, next) else {
         return Ok(false);
     };
-    let _trains = missions.len();
+    let _trains = chart.missions.len();
     let used = TrainSet::none().with(next.0);
     let from = Reach { point, left, used };
-    may_lead(alloc, missions, standing, levels, way, shut, from, lost)
+    may_lead(alloc, chart, way, shut, from, lost)
 }

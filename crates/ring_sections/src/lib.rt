@@ -1,6 +1,7 @@
 //! Circular waits of trains, and the sections that forbid them.
 #![tactic(auto)]
 
+mod chart;
 mod laws;
 mod leading;
 mod levels;

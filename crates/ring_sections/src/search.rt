@@ -3,9 +3,10 @@ ghost use Rattle.std.specs.Prelude.{◌≡◌, ◌<◌, ◌≤◌, ◌-◌, ◌+
 ghost use Rattle.rail_model.specs.Turns.{Answers};
 ghost use Rattle.ring_sections.specs.Ring.{pair_at, IsRing};
 ghost use Rattle.ring_sections.specs.Search.{IsPair, ArePointsBelow, standing as standing_at_all, own_ring, rings_from};
-ghost use Rattle.ring_sections.specs.Levels.{steps as steps_of_all, AreLevels};
+ghost use Rattle.ring_sections.specs.Levels.{steps as steps_of_all, IsChart};
 ghost use Rattle.ring_sections.specs.Answer.{Adds, all_rings};
 
+use crate::chart::Chart;
 use crate::leading::may_follow;
 use crate::levels::{Step, levels_of, steps_of};
 use crate::placed::{is_ring, is_taken, next_point_of};
@@ -55,46 +56,32 @@ fn longer(
 // Adds the circular waits that begin with some pairs and have at most `left` more.
 fn extend(
     alloc: Global,
-    missions: &Missions,
-    standing: &Standing,
-    levels: &[u32],
+    chart: &Chart<'_>,
     way: &[(u32, u32)],
     left: u32,
     found: &mut Vec<Ring>,
 ) -> Result<(), Rings>
-    requires points { ArePointsBelow missions.now (length levels.now) }
-    requires standing { standing.now ≡ standing_at_all missions.now (length levels.now) }
-    requires levels { AreLevels missions.now (pair_at way.now 0) levels.now }
+    requires chart { IsChart chart.now.missions.now chart.now.standing.now chart.now.levels.now (pair_at way.now 0) }
     requires some { 0 < length way.now }
-    requires way { All (IsPair missions.now) way.now }
+    requires way { All (IsPair chart.now.missions.now) way.now }
     requires few { length found.old.items ≤ 64 }
-    ensures { Adds found.old.items found.new.items (rings_from missions.now way.now left) result }
+    ensures { Adds found.old.items found.new.items (rings_from chart.now.missions.now way.now left) result }
 {
-    let Some(wanted) = next_point_of(missions, way[way.len() - 1]) else {
+    let Some(wanted) = next_point_of(chart.missions, way[way.len() - 1]) else {
         return Ok(());
     };
-    if levels[wanted as usize] > left {
+    if chart.levels[wanted as usize] > left {
         return Ok(());
     }
-    keep_ring(alloc, missions, way, found)?;
-    if left == 0 || is_taken(missions, way, wanted) {
+    keep_ring(alloc, chart.missions, way, found)?;
+    if left == 0 || is_taken(chart.missions, way, wanted) {
         return Ok(());
     }
     let mut lost = Vec::new(alloc);
-    for &next in standing.at(wanted) {
-        if may_follow(
-            alloc,
-            missions,
-            standing,
-            levels,
-            way,
-            wanted,
-            next,
-            left - 1,
-            &mut lost,
-        )? {
+    for &next in chart.standing.at(wanted) {
+        if may_follow(alloc, chart, way, wanted, next, left - 1, &mut lost)? {
             let way = longer(alloc, way, next)?;
-            extend(alloc, missions, standing, levels, &way, left - 1, found)?;
+            extend(alloc, chart, &way, left - 1, found)?;
         }
     }
     Ok(())
@@ -119,15 +106,12 @@ fn add_from(
     ensures { Adds found.old.items found.new.items (rings_from missions.now (first ∷ []) (most - 1)) result }
 {
     let levels = levels_of(alloc, missions, steps, standing.len(), first, most)?;
-    extend(
-        alloc,
+    let chart = Chart {
         missions,
         standing,
-        &levels,
-        &[first],
-        most - 1,
-        found,
-    )
+        levels: &levels,
+    };
+    extend(alloc, &chart, &[first], most - 1, found)
 }
 
 /// All circular waits of at most `most` trains, in the order of their pairs: train before place, and a list before those that

@@ -1,9 +1,9 @@
-use Rattle.std.proofs.Common.{◌≡◌, ◌≢◌, ◌<◌, ◌+◌, ℕ, List, Some, Vec, Global, false, refl, length, arith, ap, ◌∙◌, sym, inl, inr, subst, rules}
+use Rattle.std.proofs.Common.{◌≡◌, ◌≢◌, ◌<◌, ◌+◌, ℕ, Some, Vec, Global, false, refl, length, arith, sym, inl, inr, subst, rules}
 use Rattle.std.specs.Prelude.{All}
 use Rattle.std.proofs.lemmas.Bool.Decides.{leb_tells}
 use Rattle.std.proofs.lemmas.List.Elements.{All-push}
 use Rattle.ring_sections.specs.declared.leading.Reach.{Reach}
-use Rattle.ring_sections.specs.Ring.{Pair, pair_at, point_at}
+use Rattle.ring_sections.specs.Ring.{pair_at, point_at}
 use Rattle.ring_sections.specs.Search.{standing_at}
 use Rattle.ring_sections.specs.Leading.{IsLost, IsLostBy}
 use Rattle.ring_sections.proofs.LeadingBack.{lost_behind, lost_tried}
@@ -19,21 +19,21 @@ tried_more P n before now k l = elim (leb_tells n k) [
 ]
 
 pub at-next-items-requires : goal.at-next-items-requires
-at-next-items-requires t c = point_within c.args.missions.now (length c.args.levels.now) c.args.from.point c.args.standing.now c.requires.point c.requires.standing
+at-next-items-requires t c = point_within c.args.chart.now.missions.now (length c.args.chart.now.levels.now) c.args.from.point c.args.chart.now.standing.now c.requires.point c.requires.chart.places
 
 pub onward-requires-clause-next : goal.onward-requires-clause-next
 onward-requires-clause-next t c =
     let here = c.at-next-items.result.now in
-    let is : here ≡ standing_at c.args.missions.now c.args.from.point =
-    looked_up c.args.missions.now (length c.args.levels.now) c.args.from.point c.args.standing.now here c.requires.point c.requires.standing c.at-next-items.ensures in
-    here_valid c.args.missions.now c.args.from.point c.loop-index.index here is c.loop-index-test.true
+    let is : here ≡ standing_at c.args.chart.now.missions.now c.args.from.point =
+    looked_up c.args.chart.now.missions.now (length c.args.chart.now.levels.now) c.args.from.point c.args.chart.now.standing.now here c.requires.point c.requires.chart.places c.at-next-items.ensures in
+    here_valid c.args.chart.now.missions.now c.args.from.point c.loop-index.index here is c.loop-index-test.true
 
 pub onward-requires-clause-left : goal.onward-requires-clause-left
 onward-requires-clause-left t c = c.is_lost.ensures.left c.if-is_lost.false
 
 pub loop-index-preserved : goal.loop-index-preserved
 loop-index-preserved t c =
-    let M = c.args.missions.now in
+    let M = c.args.chart.now.missions.now in
     let way = c.args.way.now in
     let here = c.at-next-items.result.now in
     let k = c.loop-index.index in
@@ -55,12 +55,12 @@ loop-index-preserved t c =
 pub returns-clause-answer : goal.returns-clause-answer
 returns-clause-answer t c = λ _.
     let here = c.at-next-items.result.now in
-    let is : here ≡ standing_at c.args.missions.now c.args.from.point =
-    looked_up c.args.missions.now (length c.args.levels.now) c.args.from.point c.args.standing.now here c.requires.point c.requires.standing c.at-next-items.ensures in
-    let away : point_at c.args.missions.now (pair_at c.args.way.now 0) ≢ Some c.args.from.point = search rules in
-    lost_tried c.args.missions.now c.args.way.now c.args.shut c.args.from here c.loop-index.index is (omega arith) away c.loop-index.invariant.tried
+    let is : here ≡ standing_at c.args.chart.now.missions.now c.args.from.point =
+    looked_up c.args.chart.now.missions.now (length c.args.chart.now.levels.now) c.args.from.point c.args.chart.now.standing.now here c.requires.point c.requires.chart.places c.at-next-items.ensures in
+    let away : point_at c.args.chart.now.missions.now (pair_at c.args.way.now 0) ≢ Some c.args.from.point = search rules in
+    lost_tried c.args.chart.now.missions.now c.args.way.now c.args.shut c.args.from here c.loop-index.index is (omega arith) away c.loop-index.invariant.tried
 
 pub returns-clause-lost : goal.returns-clause-lost
 returns-clause-lost t c =
-    let P : Reach → Type 0 = IsLost c.args.missions.now c.args.way.now c.args.shut in
+    let P : Reach → Type 0 = IsLost c.args.chart.now.missions.now c.args.way.now c.args.shut in
     subst (All P) (sym c.in_ok-push.ensures.items) (All-push P c.loop-index.lost.items c.args.from c.loop-index.invariant.lost (returns-clause-answer t c (let e : false ≡ false = refl in e)))

@@ -9,6 +9,6 @@ decreases-may_lead l = l.from.left
 
 abbrev pub invariant-loop-index : goal.invariant-loop-index
 invariant-loop-index l = record {
-  lost : All (IsLost l.missions l.way l.shut) l.lost.items;
-  tried : (j : ℕ) → j < l.index → IsLostBy l.missions l.way l.shut l.from (pair_at l.next-items j);
+  lost : All (IsLost l.chart.missions.now l.way l.shut) l.lost.items;
+  tried : (j : ℕ) → j < l.index → IsLostBy l.chart.missions.now l.way l.shut l.from (pair_at l.next-items j);
 }

@@ -1,25 +1,25 @@
-use Rattle.std.proofs.Common.{◌≡◌, ◌∙◌, ℕ, [], ◌∷◌, ◌++◌, false, arith, rules, sym, inl, inr, subst}
+use Rattle.std.proofs.Common.{◌≡◌, ◌∙◌, [], ◌∷◌, ◌++◌, false, arith, rules, sym, inl, inr, subst}
 use Rattle.std.specs.Int.{bit_at}
 use Rattle.std.proofs.lemmas.Result.{IfOk-weaker}
 use Rattle.ring_sections.specs.declared.leading.Reach.{Reach}
 use Rattle.ring_sections.specs.Search.{fits, rings_from}
-use Rattle.ring_sections.specs.Leading.{HasTrain, IsLost}
+use Rattle.ring_sections.specs.Leading.{IsLost}
 use Rattle.ring_sections.proofs.LeadingBack.{none_follow, none_follow_unwanted}
 use Rattle.ring_sections.proofs.Pruned.{none_unfit}
 use Rattle.ring_sections.proofs.TrainSets.{has_only, none_has}
 use Rattle.ring_sections.proofs.leading.may_follow.Goals as goal
 
 pub returns-in_default-clause-answer : goal.returns-in_default-clause-answer
-returns-in_default-clause-answer c = λ _. none_follow_unwanted c.args.missions.now c.args.way.now c.args.left c.args.next (sym c.next_point_of.ensures ∙ c.in_default.is)
+returns-in_default-clause-answer c = λ _. none_follow_unwanted c.args.chart.now.missions.now c.args.way.now c.args.left c.args.next (sym c.next_point_of.ensures ∙ c.in_default.is)
 
 pub returns-then-not-fits-clause-answer : goal.returns-then-not-fits-clause-answer
 returns-then-not-fits-clause-answer c = λ _.
     let unfit : fits c.args.way.now c.args.next ≡ false = search rules in
-    none_unfit c.args.missions.now c.args.way.now c.args.next c.args.left c.requires.some unfit
+    none_unfit c.args.chart.now.missions.now c.args.way.now c.args.next c.args.left c.requires.some unfit
 
 pub returns-clause-answer : goal.returns-clause-answer
 returns-clause-answer c =
-    let M = c.args.missions.now in
+    let M = c.args.chart.now.missions.now in
     let way = c.args.way.now in
     let from : Reach = record { point = c.in-Some.point; left = c.args.left; used = c.with-used.result } in
     IfOk-weaker c.may_lead.result (λ may. may ≡ false → IsLost M way c.args.shut from) (λ may. may ≡ false → rings_from M (way ++ c.args.next ∷ []) c.args.left ≡ [])

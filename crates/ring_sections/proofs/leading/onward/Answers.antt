@@ -1,4 +1,4 @@
-use Rattle.std.proofs.Common.{◌≡◌, ◌+◌, ◌⊎◌, ℕ, arith, ap, ◌∙◌, sym, inl, subst}
+use Rattle.std.proofs.Common.{◌≡◌, ◌⊎◌, ℕ, arith, ◌∙◌, sym, inl, subst}
 use Rattle.std.specs.Int.{bit_at}
 use Rattle.ring_sections.specs.declared.train_set.TrainSet.{TrainSet}
 use Rattle.ring_sections.specs.Leading.{HasTrain}

@@ -1,20 +1,26 @@
-use Rattle.std.proofs.Common.{◌≡◌, ◌-◌, ◌+◌, ◌<◌, ◌≤◌, false, ℕ, List, [], ◌∷◌, ◌++◌, length, length-append, append-nil, Some, Vec, Global, ap, ◌∙◌, subst, sym, arith, slice_index_or}
+use Rattle.std.proofs.Common.{◌≡◌, ◌-◌, ◌+◌, ◌<◌, ◌≤◌, ℕ, List, [], ◌∷◌, ◌++◌, length, length-append, append-nil, Some, Vec, Global, ap, ◌∙◌, subst, sym, arith, slice_index_or}
 use Rattle.std.specs.Prelude.{All, flat_map}
 use Rattle.std.proofs.lemmas.List.Elements.{All-nil, All-cons, All-append}
 use Rattle.rail_model.specs.Table.{Mission}
 use Rattle.ring_sections.specs.Ring.{Pair, pair_at, next_point}
-use Rattle.ring_sections.specs.Search.{IsPair, ArePointsBelow, fits, own_ring, rings_from, standing_at, standing}
-use Rattle.ring_sections.specs.Levels.{AreLevels}
+use Rattle.ring_sections.specs.Search.{IsPair, own_ring, rings_from, standing_at}
+use Rattle.ring_sections.specs.Levels.{IsChart}
 use Rattle.ring_sections.proofs.Begun.{at_old}
-use Rattle.ring_sections.proofs.Pruned.{none_behind_taken, rings_from-zero, none_wanted, too_far, none_unfit, rings_from-standing}
+use Rattle.ring_sections.proofs.Pruned.{none_behind_taken, rings_from-zero, none_wanted, too_far, rings_from-standing}
 use Rattle.ring_sections.proofs.Adding.{adds_none, adds_err, Fails, own_first, added_more, added_all, failed_part, at-any}
 use Rattle.ring_sections.proofs.StepLists.{looked_up, point_within, here_stands, here_valid}
 use Rattle.ring_sections.proofs.search.+extend.Goals as goal
 use Rattle.ring_sections.proofs.search.+extend.Goals.{then-branch+in_ok-way+in_ok-extend, else-branch, then-left-eq0-via-then-left-eq0, then-left-eq0-via-else-left-eq0+then-is_taken}
 
 -- the wanted point is one of those that have levels
-wanted_below : (M : List Mission) (n : ℕ) (r : List Pair) (wanted : ℕ) → ArePointsBelow M n → next_point M (pair_at r (length r - 1)) ≡ Some wanted → wanted < n
-wanted_below M n r wanted points wants = points (pair_at r (length r - 1)).0 ((pair_at r (length r - 1)).1 + 1) wanted wants
+wanted_below : (M : List Mission) (r : List Pair) (wanted : ℕ) (all : List (List Pair)) (high : List ℕ) → IsChart M all high (pair_at r 0) →
+    next_point M (pair_at r (length r - 1)) ≡ Some wanted → wanted < length high
+wanted_below M r wanted all high chart wants = chart.points (pair_at r (length r - 1)).0 ((pair_at r (length r - 1)).1 + 1) wanted wants
+
+-- the pairs at the wanted point, as they are looked up
+wanted_here : (M : List Mission) (r : List Pair) (wanted : ℕ) (all : List (List Pair)) (high : List ℕ) (here : List Pair) → IsChart M all high (pair_at r 0) →
+    next_point M (pair_at r (length r - 1)) ≡ Some wanted → here ≡ slice_index_or all wanted [] → here ≡ standing_at M wanted
+wanted_here M r wanted all high here chart wants at = looked_up M (length high) wanted all here (wanted_below M r wanted all high chart wants) chart.places at
 
 -- one pair more
 valid_longer : (M : List Mission) (r longer here : List Pair) (wanted k : ℕ) → All (IsPair M) r → here ≡ standing_at M wanted → k < length here →
@@ -32,26 +38,26 @@ by_here M r here n wanted more some wants is =
 
 pub returns-in_default : goal.returns-in_default
 returns-in_default t c =
-    adds_none c.args.found.now.items (rings_from c.args.missions.now c.args.way.now c.args.left)
-    (none_wanted c.args.missions.now c.args.way.now c.args.left c.requires.some (sym c.next_point_of.ensures ∙ c.in_default.is)) c.requires.few
+    adds_none c.args.found.now.items (rings_from c.args.chart.now.missions.now c.args.way.now c.args.left)
+    (none_wanted c.args.chart.now.missions.now c.args.way.now c.args.left c.requires.some (sym c.next_point_of.ensures ∙ c.in_default.is)) c.requires.few
 
-pub returns-then-levels-wanted : goal.returns-then-levels-wanted
-returns-then-levels-wanted t c =
-    adds_none c.args.found.now.items (rings_from c.args.missions.now c.args.way.now c.args.left)
-    (too_far c.args.missions.now c.args.levels.now c.args.way.now c.args.left c.in-Some.wanted c.requires.levels c.requires.some
-    (sym c.next_point_of.ensures ∙ c.in-Some.is) c.if-levels-wanted.true)
+pub returns-then-chart-wanted : goal.returns-then-chart-wanted
+returns-then-chart-wanted t c =
+    adds_none c.args.found.now.items (rings_from c.args.chart.now.missions.now c.args.way.now c.args.left)
+    (too_far c.args.chart.now.missions.now c.args.chart.now.levels.now c.args.way.now c.args.left c.in-Some.wanted c.requires.chart.levels c.requires.some
+    (sym c.next_point_of.ensures ∙ c.in-Some.is) c.if-chart-wanted.true)
     c.requires.few
 
 pub returns-in_err-keep_ring : goal.returns-in_err-keep_ring
 returns-in_err-keep_ring t c =
-    let o = own_first c.args.missions.now c.args.way.now c.args.left in
-    adds_err c.args.found.now.items c.keep_ring.new.found.items (own_ring c.args.missions.now c.args.way.now) o.0
-    (rings_from c.args.missions.now c.args.way.now c.args.left) c.from_residual.result c.in_err-keep_ring.field-0.0
+    let o = own_first c.args.chart.now.missions.now c.args.way.now c.args.left in
+    adds_err c.args.found.now.items c.keep_ring.new.found.items (own_ring c.args.chart.now.missions.now c.args.way.now) o.0
+    (rings_from c.args.chart.now.missions.now c.args.way.now c.args.left) c.from_residual.result c.in_err-keep_ring.field-0.0
     c.from_residual.ensures.1 o.1 c.in_err-keep_ring.ensures
 
 pub returns-then-left-eq0 : goal.returns-then-left-eq0
 returns-then-left-eq0 t c =
-    let M = c.args.missions.now in
+    let M = c.args.chart.now.missions.now in
     let r = c.args.way.now in
     let own : rings_from M r c.args.left ≡ own_ring M r =
     (elim c.then-left-eq0.branch [
@@ -64,55 +70,48 @@ returns-then-left-eq0 t c =
 
 pub at-next-items-requires : goal.at-next-items-requires
 at-next-items-requires t c =
-    point_within c.args.missions.now (length c.args.levels.now) c.in-Some.wanted c.args.standing.now
-    (wanted_below c.args.missions.now (length c.args.levels.now) c.args.way.now c.in-Some.wanted c.requires.points (sym c.next_point_of.ensures ∙ c.in-Some.is))
-    c.requires.standing
+    point_within c.args.chart.now.missions.now (length c.args.chart.now.levels.now) c.in-Some.wanted c.args.chart.now.standing.now
+    (wanted_below c.args.chart.now.missions.now c.args.way.now c.in-Some.wanted c.args.chart.now.standing.now c.args.chart.now.levels.now c.requires.chart
+    (sym c.next_point_of.ensures ∙ c.in-Some.is))
+    c.requires.chart.places
 
 pub may_follow-requires-clause-next : goal.may_follow-requires-clause-next
 may_follow-requires-clause-next t c =
-    let M = c.args.missions.now in
+    let M = c.args.chart.now.missions.now in
     let r = c.args.way.now in
     let here = c.at-next-items.result.now in
     let is : here ≡ standing_at M c.in-Some.wanted =
-    looked_up M (length c.args.levels.now) c.in-Some.wanted c.args.standing.now here
-    (wanted_below M (length c.args.levels.now) r c.in-Some.wanted c.requires.points (sym c.next_point_of.ensures ∙ c.in-Some.is)) c.requires.standing c.at-next-items.ensures in
+    wanted_here M r c.in-Some.wanted c.args.chart.now.standing.now c.args.chart.now.levels.now here c.requires.chart (sym c.next_point_of.ensures ∙ c.in-Some.is) c.at-next-items.ensures in
     here_valid M c.in-Some.wanted c.loop-next.next-index here is c.loop-next-test.true
 
 pub may_follow-requires-clause-stands : goal.may_follow-requires-clause-stands
 may_follow-requires-clause-stands t c =
-    let M = c.args.missions.now in
+    let M = c.args.chart.now.missions.now in
     let r = c.args.way.now in
     let here = c.at-next-items.result.now in
     let is : here ≡ standing_at M c.in-Some.wanted =
-    looked_up M (length c.args.levels.now) c.in-Some.wanted c.args.standing.now here
-    (wanted_below M (length c.args.levels.now) r c.in-Some.wanted c.requires.points (sym c.next_point_of.ensures ∙ c.in-Some.is)) c.requires.standing c.at-next-items.ensures in
+    wanted_here M r c.in-Some.wanted c.args.chart.now.standing.now c.args.chart.now.levels.now here c.requires.chart (sym c.next_point_of.ensures ∙ c.in-Some.is) c.at-next-items.ensures in
     here_stands M c.in-Some.wanted c.loop-next.next-index here is c.loop-next-test.true
 
 pub extend-requires : goal.extend-requires
 extend-requires t c =
-    let M = c.args.missions.now in
+    let M = c.args.chart.now.missions.now in
     let r = c.args.way.now in
     let here = c.at-next-items.result.now in
     let k = c.loop-next.next-index in
     let is : here ≡ standing_at M c.in-Some.wanted =
-    looked_up M (length c.args.levels.now) c.in-Some.wanted c.args.standing.now here
-    (wanted_below M (length c.args.levels.now) r c.in-Some.wanted c.requires.points (sym c.next_point_of.ensures ∙ c.in-Some.is)) c.requires.standing c.at-next-items.ensures in
+    wanted_here M r c.in-Some.wanted c.args.chart.now.standing.now c.args.chart.now.levels.now here c.requires.chart (sym c.next_point_of.ensures ∙ c.in-Some.is) c.at-next-items.ensures in
     let longer : c.deref.result.now ≡ r ++ slice_index_or here k (0, 0) ∷ [] = c.deref.ensures.value ∙ c.in_ok-way.ensures in
-    let some : 0 < length r = c.requires.some in (
+    let some : 0 < length r = c.requires.some in
+    let first : pair_at c.deref.result.now 0 ≡ pair_at r 0 = ap (λ (rs : List Pair). pair_at rs 0) longer ∙ at_old r (slice_index_or here k (0, 0) ∷ []) 0 some in (
       omega (arith, c.decreases),
       (
-        c.requires.points,
+        subst (λ (v : Pair). IsChart M c.args.chart.now.standing.now c.args.chart.now.levels.now v) (sym first) c.requires.chart,
         (
-          c.requires.standing,
+          subst (λ (rs : List Pair). 0 < length rs) (sym longer) (omega (arith, length-append r (slice_index_or here k (0, 0) ∷ []))),
           (
-            subst (λ (v : Pair). AreLevels M v c.args.levels.now) (sym (ap (λ (rs : List Pair). pair_at rs 0) longer ∙ at_old r (slice_index_or here k (0, 0) ∷ []) 0 some)) c.requires.levels,
-            (
-              subst (λ (rs : List Pair). 0 < length rs) (sym longer) (omega (arith, length-append r (slice_index_or here k (0, 0) ∷ []))),
-              (
-                valid_longer M r c.deref.result.now here c.in-Some.wanted k c.requires.way is c.loop-next-test.true longer,
-                c.loop-next.invariant.few,
-              ),
-            ),
+            valid_longer M r c.deref.result.now here c.in-Some.wanted k c.requires.way is c.loop-next-test.true longer,
+            c.loop-next.invariant.few,
           ),
         ),
       ),
@@ -120,15 +119,14 @@ extend-requires t c =
 
 pub returns-in_err-extend : goal.returns-in_err-extend
 returns-in_err-extend t c =
-    let M = c.args.missions.now in
+    let M = c.args.chart.now.missions.now in
     let r = c.args.way.now in
     let here = c.at-next-items.result.now in
     let k = c.loop-next.next-index in
     let w : Pair = slice_index_or here k (0, 0) in
     let wants : next_point M (pair_at r (length r - 1)) ≡ Some c.in-Some.wanted = sym c.next_point_of.ensures ∙ c.in-Some.is in
     let is : here ≡ standing_at M c.in-Some.wanted =
-    looked_up M (length c.args.levels.now) c.in-Some.wanted c.args.standing.now here
-    (wanted_below M (length c.args.levels.now) r c.in-Some.wanted c.requires.points wants) c.requires.standing c.at-next-items.ensures in
+    wanted_here M r c.in-Some.wanted c.args.chart.now.standing.now c.args.chart.now.levels.now here c.requires.chart wants c.at-next-items.ensures in
     let longer : c.deref.result.now ≡ r ++ w ∷ [] = c.deref.ensures.value ∙ c.in_ok-way.ensures in
     failed_part (λ v. rings_from M (r ++ v ∷ []) (c.args.left - 1)) here k w c.args.found.now.items (own_ring M r) c.loop-next.found.items c.extend.new.found.items
     (rings_from M r c.args.left) c.from_residual-in_err-extend.result c.in_err-extend.field-0.0
@@ -139,7 +137,7 @@ returns-in_err-extend t c =
 
 pub loop-next-preserved : goal.loop-next-preserved
 loop-next-preserved t c =
-    let M = c.args.missions.now in
+    let M = c.args.chart.now.missions.now in
     let r = c.args.way.now in
     let here = c.at-next-items.result.now in
     let k = c.loop-next.next-index in
@@ -171,13 +169,12 @@ loop-next-preserved t c =
 
 pub returns : goal.returns
 returns t c =
-    let M = c.args.missions.now in
+    let M = c.args.chart.now.missions.now in
     let r = c.args.way.now in
     let here = c.at-next-items.result.now in
     let wants : next_point M (pair_at r (length r - 1)) ≡ Some c.in-Some.wanted = sym c.next_point_of.ensures ∙ c.in-Some.is in
     let is : here ≡ standing_at M c.in-Some.wanted =
-    looked_up M (length c.args.levels.now) c.in-Some.wanted c.args.standing.now here
-    (wanted_below M (length c.args.levels.now) r c.in-Some.wanted c.requires.points wants) c.requires.standing c.at-next-items.ensures in (
+    wanted_here M r c.in-Some.wanted c.args.chart.now.standing.now c.args.chart.now.levels.now here c.requires.chart wants c.at-next-items.ensures in (
       added_all (λ v. rings_from M (r ++ v ∷ []) (c.args.left - 1)) here c.loop-next.next-index c.args.found.now.items (own_ring M r) c.loop-next.found.items
           (rings_from M r c.args.left) (omega arith) c.loop-next.invariant.found
           (by_here M r here c.args.left c.in-Some.wanted (omega arith) c.requires.some wants is),

@@ -9,7 +9,7 @@ decreases-extend l = l.left
 
 abbrev pub invariant-loop-next : goal.invariant-loop-next
 invariant-loop-next l = record {
-  found : l.found.items ≡ l.fn.found.items ++ (own_ring l.missions l.way ++ flat_map (λ w. rings_from l.missions (l.way ++ w ∷ []) (l.left - 1)) (take l.next-index l.next-items));
+  found : l.found.items ≡ l.fn.found.items ++ (own_ring l.chart.missions.now l.way ++ flat_map (λ w. rings_from l.chart.missions.now (l.way ++ w ∷ []) (l.left - 1)) (take l.next-index l.next-items));
   few : length l.found.items ≤ 64;
-  lost : All (IsLost l.missions l.way l.wanted) l.lost.items;
+  lost : All (IsLost l.chart.missions.now l.way l.wanted) l.lost.items;
 }
