@@ -34,7 +34,7 @@ LeadsBack M way shut q [] = point_at M (pair_at way 0) ≡ Some q
 LeadsBack M way shut q (w ∷ later) =
     MayStand M way shut q w × All (λ v. v.0 ≢ w.0) later × ((b : ℕ) × (next_point M w ≡ Some b) × LeadsBack M way shut b later)
 
--- From the point no pairs lead back, as few as are left, without the used trains.
+-- No pairs lead back from the point that are as few as are left and avoid the used trains.
 abbrev pub IsLost : List Mission → List Pair → ℕ → Reach → Type 0
 IsLost M way shut from = (later : List Pair) → length later ≤ from.left → LeadsBack M way shut from.point later → Avoids from.used later → ⊥
 
@@ -56,7 +56,7 @@ IsFurther from other = (other.point ≡ from.point) × (from.left ≤ other.left
 abbrev pub IsKnown : List Reach → Reach → TrainSet → Type 0
 IsKnown known from used = (other : Reach) × Contains known other × IsFurther from other × (other.used ≡ used)
 
--- Whatever pairs avoid the used trains, at most n of them outside `hit`, avoid those of one that is known as well.
+-- Whatever pairs avoid the used trains, at most n of them of trains that aren't hit, avoid the used trains of one that is known as well.
 abbrev pub IsCovered : List Reach → Reach → TrainSet → ℕ → Type 0
 IsCovered known from hit n = (later : List Pair) → count_outside hit later ≤ n → Avoids from.used later →
     (other : Reach) × Contains known other × IsFurther from other × Avoids other.used later

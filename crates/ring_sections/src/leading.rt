@@ -11,7 +11,7 @@ use crate::placed::{fits, is_taken, next_point_of, point_of};
 use crate::train_set::TrainSet;
 use std::alloc::{AllocError, Global};
 
-/// A point that was reached by some trains, with so many pairs left to lead back from it.
+/// A point that was reached by some trains, with so many pairs left to lead back from it. Not all of the trains need be known.
 #[derive(Clone, Copy)]
 pub(crate) struct Reach {
     pub point: u32,
@@ -34,8 +34,8 @@ fn find_unhit(known: &[Reach], from: Reach, hit: TrainSet) -> Option<TrainSet>
     None
 }
 
-// Whether those that are known show that nothing leads back from one: so it is, if whatever at most `left` trains are hit beside
-// these, none of them its own, one of those that are known has none of the trains that are hit.
+// Whether what is known to be lost shows that one more is. So it does, if whatever trains come later, one of those that are known
+// has used none of them: `hit` are trains that come later, and at most `left` more do, which this one hasn't used.
 fn is_covered(known: &[Reach], from: Reach, hit: TrainSet, left: u32) -> bool
     ensures { result ≡ true → IsCovered known.now from hit left }
 {
@@ -76,8 +76,8 @@ fn is_lost(chart: &Chart<'_>, way: &[(u32, u32)], shut: u32, from: Reach, lost: 
     is_covered(lost, from, TrainSet::none(), from.left)
 }
 
-// What is reached by one of the pairs that stand at a point, if its train may be used. The train needn't be counted where there are
-// enough others.
+// What is reached by one of the pairs that stand at a point, if its train may be used. Where enough others make the same step, it
+// isn't counted as used: then one of them is always left.
 fn onward(
     chart: &Chart<'_>,
     way: &[(u32, u32)],
@@ -105,7 +105,8 @@ fn onward(
     Some(Reach { point, left, used })
 }
 
-// Whether pairs may lead back to the first of the way, at most as many as are left. Adds what is found to be lost.
+// Whether pairs may lead back to the first of the way, at most as many as are left, none of them at a point of the way or the one
+// that is shut. Adds what is found to be lost: for each point and number of pairs left at most 35, since none covers a later one.
 fn may_lead(
     alloc: Global,
     chart: &Chart<'_>,
@@ -139,8 +140,8 @@ fn may_lead(
     Ok(false)
 }
 
-// Whether a circular wait may begin with a way and a pair at the point that it wants, with at most `left` more. Adds what is found to
-// be lost.
+// Whether a circular wait may begin with a way and a pair at the point that it wants, which is then shut to others, with at most
+// `left` more. Adds what is found to be lost.
 pub(crate) fn may_follow(
     alloc: Global,
     chart: &Chart<'_>,

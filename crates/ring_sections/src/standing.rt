@@ -14,7 +14,7 @@ use std::marker::Model;
 #[derive(Drop)]
 struct Standers {
     pairs: Vec<(u32, u32)>,
-    // For each pair the least of the last trains that make its step, if these are many.
+    // For each pair the least of the last so many trains that make its step; 0 where there are fewer.
     lasts: Vec<u32>,
 }
 
@@ -59,7 +59,7 @@ impl Standing {
     }
 
     // Whether there are so many trains above the first that make the step of the pair at an index that some train is left for it,
-    // whichever others stand in a circular wait.
+    // whichever others stand in a circular wait. It only saves time: what is found doesn't depend on it.
     pub(crate) fn are_many(&self, point: u32, index: usize, first: u32) -> bool {
         match self.points.get(point as usize) {
             Some(standers) => standers.lasts.get(index).copied().unwrap_or(0) > first,
@@ -119,7 +119,7 @@ fn last_of_many(missions: &Missions, pairs: &[(u32, u32)], to: Option<u32>, many
     0
 }
 
-// For each pair the least of the last `many` trains that make its step.
+// For each pair the least of the last `many` trains that make its step; 0 where there are fewer.
 fn lasts_of(
     alloc: Global,
     missions: &Missions,
