@@ -117,9 +117,10 @@ fn add_from(
 /// All circular waits of at most `most` trains, in the order of their pairs: train before place, and a list before those that
 /// begin with it.
 ///
-/// From each place of each train the search goes along later trains, and only to points from which steps of later trains lead back
-/// in time. It ends at the 65th. It may take long only where there are few circular waits and many trains on closed ways of at most
-/// `most` points, each of which would need one train twice.
+/// From each place of each train the search goes along later trains, and takes a pair only where others of different trains may lead
+/// back to the first in time. It ends at the 65th. Where a point was reached in vain, the trains used until then are kept, at most 35
+/// sets for a point and a number of pairs left, so that no document takes long; those take longest in which many steps are made by a
+/// few trains each and none leads round.
 ///
 /// # Errors
 ///
