@@ -1,5 +1,6 @@
 // The generated document.
-ghost use Rattle.std.specs.Prelude.{◌≡◌, ◌≤◌, ◌++◌, ◌∷◌, [], IfOk, OnOk, flat_map, map, replicate, string_bytes};
+ghost use Rattle.std.specs.Prelude.{◌≡◌, ◌≤◌, ◌++◌, ◌∷◌, [], Ok, IfOk, OnOk, flat_map, map, replicate, string_bytes};
+ghost use Rattle.document_shapes.specs.Raw.{members_of};
 ghost use Rattle.document_shapes.specs.Seen.{names_seen, seen_document, seen_table};
 ghost use Rattle.document_generator.specs.Generated as whole;
 ghost use Rattle.document_generator.specs.Generated.{generated, document_of, table_of, train_names};
@@ -106,7 +107,8 @@ fn document(alloc: Global, count: u32, pairs: &[Pair]) -> Result<DocMembers, All
 /// Want of memory.
 pub fn generate(alloc: Global, seed: u32, trains: u32) -> Result<Vec<u8>, AllocError>
     requires { trains ≤ 32 }
-    ensures { IfOk result (λ b. b.items ≡ generated seed trains) }
+    ensures text { IfOk result (λ b. b.items ≡ generated seed trains) }
+    ensures reads_back { IfOk result (λ b. members_of b.items ≡ Ok (document_of trains (all_pairs seed trains))) }
 {
     let pairs = draw_pairs(alloc, seed, trains)?;
     let document = document(alloc, trains, &pairs)?;
