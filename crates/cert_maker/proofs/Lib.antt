@@ -2,10 +2,11 @@ pub mod Accept
 pub mod Boxes
 pub mod Exists
 pub mod First
+pub mod Forks
 pub mod Grown
 pub mod Loop
-pub mod Marks
 pub mod Meaning
+pub mod Rivals
 pub mod Rows
 pub mod StuckFound
 pub mod Unique

@@ -1,3 +1,4 @@
 pub mod Claims
+pub mod Path
 pub mod Rule
 pub mod Steps

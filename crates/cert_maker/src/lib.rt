@@ -6,6 +6,7 @@ mod laws;
 mod leaves;
 mod made;
 mod maker;
+mod path;
 
 pub use laws::each_budget_has_one_answer;
 pub use made::Made;
