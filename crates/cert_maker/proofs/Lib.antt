@@ -4,6 +4,7 @@ pub mod Exists
 pub mod First
 pub mod Forks
 pub mod Grown
+pub mod Kept
 pub mod Loop
 pub mod Meaning
 pub mod Rivals

@@ -1,4 +1,5 @@
 pub mod Claims
+pub mod Kept
 pub mod Path
 pub mod Rule
 pub mod Steps

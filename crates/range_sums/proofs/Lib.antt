@@ -2,6 +2,7 @@ pub mod Clash
 pub mod Counts
 pub mod Each
 pub mod From
+pub mod HeldBack
 pub mod InWay
 pub mod Joins
 pub mod Summed

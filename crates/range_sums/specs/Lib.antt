@@ -1,5 +1,6 @@
 pub mod Each
 pub mod Extremes
 pub mod Places
+pub mod Reasons
 pub mod Sums
 pub mod Ways

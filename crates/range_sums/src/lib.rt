@@ -17,7 +17,7 @@ pub use extremes::{Extremes, Row};
 pub use firsts::{first_away, first_holder, is_at_end};
 pub use levels::{Shares, TrainShares};
 pub use lists::Lists;
-pub use moves::{surely_moves, surely_moves_past};
+pub use moves::{Reason, surely_moves, surely_moves_past};
 pub use places::{may_be_held, stays_at};
 pub use ranges::{Ranges, Span, full_box};
 pub use rises::{Rise, Rises, TrainRises, first_without_room, rises_of};

@@ -224,24 +224,12 @@ pub struct Block {
     pub spot: Spot,
 }
 
-impl Block {
-    /// What is no block of the train in any box, since a train doesn't block itself.
-    pub fn of_none(train: u32) -> Block
-        ensures { result ≡ record { place = 0; spot = record { train = train; place = 0 } } }
-    {
-        Block {
-            place: 0,
-            spot: Spot { train, place: 0 },
-        }
-    }
-}
-
 /// The first block of a train from its first place on.
 pub fn first_block(ways: &Ways, table: &Table, ranges: &Ranges, train: u32) -> Option<Block>
     requires ways { AreWays table.now ways.now }
     requires boxed { IsBox table.now ranges.now }
     requires train { train < trains table.now }
-    ensures { MatchOption result ((j : ℕ) → MayBlock table.now ranges.now train j → ⊥) (λ _. (j : ℕ) × MayBlock table.now ranges.now train j) }
+    ensures { MatchOption result ((j : ℕ) → MayBlock table.now ranges.now train j → ⊥) (λ block. MayBlock table.now ranges.now train block.spot.train) }
 {
     let span = ranges.span(train);
     for place in span.lo()..=span.hi() {
@@ -269,7 +257,7 @@ fn is_ahead(table: &Table, train: u32, place: u32, spot: Spot) -> bool
 pub fn is_block(table: &Table, ranges: &Ranges, train: u32, block: Block) -> bool
     requires boxed { IsBox table.now ranges.now }
     requires train { train < trains table.now }
-    ensures { IsTrue result → ((j : ℕ) × MayBlock table.now ranges.now train j) }
+    ensures { IsTrue result → MayBlock table.now ranges.now train block.spot.train }
 {
     let spot = block.spot;
     let own = Spot {

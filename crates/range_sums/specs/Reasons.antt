@@ -1,0 +1,12 @@
+-- Why a train may have no move.
+use Rattle.std.specs.Prelude.{◌≤◌, ℕ, List}
+use Rattle.rail_model.specs.Table.{Table, last}
+use Rattle.rail_model.specs.Certificate.{Range, range, MayBlock}
+use Rattle.range_sums.specs.declared.moves.Reason.{Reason}
+use Rattle.range_sums.specs.declared.moves.Reason.TheVariants.{Unknown, AtEnd, Blocked}
+
+-- The reason holds of train i in the box: it may be at its last place, or the block's train may stand at its next point.
+abbrev pub Holds : Table → List Range → ℕ → Reason → Type 0
+Holds T B i Unknown = Unit {0}
+Holds T B i AtEnd = last T i ≤ (range B i).hi
+Holds T B i (Blocked b) = MayBlock T B i b.spot.train
