@@ -1,6 +1,6 @@
 -- A train for which a reason is known doesn't surely move.
 use Rattle.std.proofs.Common.{◌≡◌, ℕ, ◌<◌, List, refl, arith}
-use Rattle.rail_model.specs.Table.{Table, trains, last}
+use Rattle.rail_model.specs.Table.{Table, last}
 use Rattle.rail_model.specs.Certificate.{Range, range, IsBox, MayBeAtEnd, SurelyMoves}
 use Rattle.range_sums.specs.declared.moves.Reason.{Reason}
 use Rattle.range_sums.specs.declared.moves.Reason.TheVariants.{Unknown, AtEnd, Blocked}

@@ -22,5 +22,5 @@ pub use places::{may_be_held, stays_at};
 pub use ranges::{Ranges, Span, full_box};
 pub use rises::{Rise, Rises, TrainRises, first_without_room, rises_of};
 pub use shares::{greatest_share, least_share};
-pub use sums::{RangeSums, Sum, halves_of, is_overfull};
+pub use sums::{RangeSums, Sum, is_overfull};
 pub use ways::{Block, Spot, Spots, TrainWays, Ways, first_block, first_in_way, is_block, ways_of};

@@ -2,7 +2,7 @@
 ghost use Rattle.std.specs.Prelude.{◌≡◌, ℕ, ◌+◌, ◌-◌, ◌<◌, ◌≤◌, pos, ◌+ℤ◌, ◌-ℤ◌, ◌≤ℤ◌, length, IfOk, IsTrue, ◌↔◌, slice_set, slice_index_or};
 ghost use Rattle.rail_model.specs.declared.types.Node.TheVariants.{Overfull as OverfullNode};
 ghost use Rattle.rail_model.specs.Table.{trains, last};
-ghost use Rattle.rail_model.specs.Certificate.{range, IsBox, IsGood, IsSplit, full_box as full_box_of, left_half, right_half};
+ghost use Rattle.rail_model.specs.Certificate.{range, IsBox, IsGood, full_box as full_box_of};
 ghost use Rattle.range_sums.specs.Each.{IsEach};
 ghost use Rattle.range_sums.specs.Extremes.{IsShares};
 ghost use Rattle.range_sums.specs.Sums.{no_sum, IsSum, IsFew, IsSmall, AreSums};
@@ -135,14 +135,6 @@ impl RangeSums {
         self.sums[section as usize]
     }
 
-    pub fn copy(&self, alloc: Global) -> Result<RangeSums, AllocError>
-        ensures { IfOk result (λ copy. copy ≡ self.now) }
-    {
-        let ranges = self.ranges.copy(alloc)?;
-        let sums = Vec::from_slice(alloc, &self.sums)?;
-        Ok(RangeSums { ranges, sums })
-    }
-
     /// Changes the span of one train.
     pub fn narrow(&mut self, table: &Table, shares: &Shares, train: u32, span: Span)
         requires shares { IsShares table.now shares.now }
@@ -168,30 +160,6 @@ fn all_sums(alloc: Global, table: &Table, ranges: &Ranges) -> Result<Vec<Sum>, A
         sums.push(sum_of(table, ranges, section))?;
     }
     Ok(sums)
-}
-
-/// A box parted at a place of a train, with the sums of both halves.
-pub fn halves_of(
-    alloc: Global,
-    table: &Table,
-    shares: &Shares,
-    whole: RangeSums,
-    train: u32,
-    place: u32,
-) -> Result<(RangeSums, RangeSums), AllocError>
-    requires shares { IsShares table.now shares.now }
-    requires sums { AreSums table.now whole }
-    requires splits { IsSplit table.now whole.ranges train place }
-    ensures ranges { IfOk result (λ parts. (parts.0.ranges ≡ left_half whole.ranges train place) × (parts.1.ranges ≡ right_half whole.ranges train place)) }
-    ensures left { IfOk result (λ parts. AreSums table.now parts.0) }
-    ensures right { IfOk result (λ parts. AreSums table.now parts.1) }
-{
-    let span = whole.ranges.span(train);
-    let mut right = whole.copy(alloc)?;
-    let mut left = whole;
-    left.narrow(table, shares, train, Span::new(span.lo(), place));
-    right.narrow(table, shares, train, Span::new(place + 1, span.hi()));
-    Ok((left, right))
 }
 
 /// Whether a section is over its limit at all positions.
