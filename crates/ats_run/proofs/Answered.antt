@@ -76,10 +76,7 @@ never (Derive m b) input e o h = never_underived input m b e o h
 never (Repair b r) input e o h = elim h [ inl none ↦ never_no_doc input e o none | inr un ↦ never_unrepaired un.0 b r e o un.2 ]
 never Simulate input e o h = outside (IsUnchecked input) (λ n. n) (λ n. n) (λ n. n) (λ n. n) e o h
 never (Generate s n) input e o h = never_unmade (generated s n) full_budget e o h
-never (Drill s n w) input e o h = elim h [
-  | inl none ↦ never_unmade (generated s n) full_budget e o none
-  | inr bad ↦ outside (IsUnchecked bad.0) (λ n. n) (λ n. n) (λ n. n) (λ n. n) e o bad.2
-]
+never (Drill s n w) input e o h = never_unmade (generated s n) full_budget e o h
 
 -- what a command comes to on the bytes that were read is the cause of the end of its call
 pub answered : (call : Call) (order : Order) (bytes : List ℕ) (e : Failure) → call.order ≡ Some order → (Reads order → call.at_end)

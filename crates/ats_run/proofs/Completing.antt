@@ -2,29 +2,24 @@
 use Rattle.std.proofs.Common.{◌≡◌, ◌≢◌, ◌⊎◌, ℕ, ◌<◌, ◌≤◌, List, length, Some, refl, sym, ◌∙◌, ap, subst, arith, inl, inr}
 use Rattle.std.specs.Prelude.{Ok, Err}
 use Rattle.rail_model.specs.Table.{Table}
-use Rattle.rail_model.specs.Certificate.{Tree, FirstBad}
+use Rattle.rail_model.specs.Certificate.{Tree}
 use Rattle.memchr.specs.Find.{OccursAt}
 use Rattle.rail_model.proofs.Decide.{same_first}
-use Rattle.rail_model.proofs.FirstBads.{not_both}
 use Rattle.cert_maker.specs.Rule.{Makes}
 use Rattle.cert_maker.specs.declared.made.Made.TheVariants.{Cert as cert, Stuck as found, Spent as spent}
 use Rattle.cert_maker.proofs.Spelled.{makes_one}
-use Rattle.cert_tree.proofs.Spell.{one_tree}
-use Rattle.cert_tree.proofs.Verdicts.{refused_not_spelled}
 use Rattle.command_words.specs.declared.orders.Order.{Order}
 use Rattle.command_words.specs.declared.orders.Order.TheVariants.{Run, Resume, Check, Verify, Migrate, Make, Derive, Repair, Simulate, Generate, Drill}
 use Rattle.move_journal.specs.declared.faults.BadText.TheVariants.{NoEnd}
-use Rattle.layout_json.specs.Doc.{Doc, table_at, nodes_at}
-use Rattle.layout_json.specs.Trees.{tree_at, IsNoTree}
+use Rattle.layout_json.specs.Doc.{Doc}
 use Rattle.layout_json.specs.Reading.{doc_of}
 use Rattle.legal_state.proofs.Verdicts.{illegal_not_legal}
 use Rattle.ats_run.specs.declared.status.Status.{Status}
 use Rattle.ats_run.specs.declared.failure.Failure.{Failure}
 use Rattle.ats_run.specs.declared.failure.Failure.TheVariants as failure
 use Rattle.ats_run.specs.Causes.{Call, Asked, IsRead, IsCause, most_bytes}
-use Rattle.ats_run.specs.Certificates.{IsBadTable}
 use Rattle.ats_run.specs.Command.{Comes, IsDocWith, IsNoDoc, IsUnchecked, IsUnverifiedInput, IsUnresumedInput, IsUnmadeInput, IsUnderivedInput, IsUnrepairedInput}
-use Rattle.ats_run.specs.Complete.{IsAcceptedInput, IsWholeText, IsRightFront, IsJournalInput, IsDerivable, IsGoodInput, IsDoneOrMemory}
+use Rattle.ats_run.specs.Complete.{IsWholeText, IsRightFront, IsJournalInput, IsDerivable, IsGoodInput, IsDoneOrMemory}
 use Rattle.ats_run.specs.Deriving.{derived, IsUnderived}
 use Rattle.ats_run.specs.Ending.{status_of}
 use Rattle.document_generator.specs.Generated.{generated}
@@ -33,41 +28,10 @@ use Rattle.ats_run.specs.Journals.{mark, IsCut, document_part, journal_part, IsU
 use Rattle.ats_run.specs.Making.{tables_in, table_in, AreMakeable, IsUnmade, MakesNone}
 use Rattle.ats_run.specs.Orders.{Reads, OnInput, Holds}
 use Rattle.ats_run.specs.Repairing.{IsUnrepaired, IsRepairable}
+use Rattle.ats_run.proofs.AcceptedInput.{same_doc, not_unchecked}
 use Rattle.ats_run.proofs.Reading.{of_input}
 use Rattle.ats_run.proofs.Repairable.{not_unrepaired}
 use Rattle.ats_run.proofs.GoodJournals.{readable, verified, begins_readable, resumed}
-
-same_doc : (input : List ℕ) (D E : Doc) → doc_of input ≡ Ok D → doc_of input ≡ Ok E → E ≡ D
-same_doc input D E d e = let both = sym e ∙ d in let same : E ≡ D = cc in same
-
--- a document whose tables accept their certificates is refused for nothing
-not_unchecked : (input : List ℕ) → IsAcceptedInput input → (e : Failure) → IsUnchecked input e → ⊥
-not_unchecked input good (failure.Document x) h = let both = sym h ∙ good.1 in cc
-not_unchecked input good (failure.Tree t x) h =
-    let accepted = good.2.1 in
-    let no = subst (λ (E : Doc). IsNoTree E t x) (same_doc input good.0 h.0 good.1 h.1) h.2 in
-    let spelled = accepted.are.spelled t no.in_range in
-    refused_not_spelled (nodes_at good.0 t) x (tree_at good.2.0 t) no.caused no.refused spelled.0 spelled.1
-not_unchecked input good (failure.Certificate t bad) h =
-    let accepted = good.2.1 in
-    let bad_table = subst (λ (E : Doc). IsBadTable E t bad) (same_doc input good.0 h.0 good.1 h.1) h.2 in
-    let within = bad_table.2.in_range in
-    let same : tree_at bad_table.0 t ≡ tree_at good.2.0 t = one_tree _ _ ((bad_table.1.spelled t within).0 ∙ sym (accepted.are.spelled t within).0) in
-    not_both (table_at good.0 t) (tree_at good.2.0 t) bad
-    (subst (λ (c : Tree). FirstBad (table_at good.0 t) c bad) same bad_table.2.first_bad) (accepted.accepted t within)
-not_unchecked input good failure.Words h = h
-not_unchecked input good failure.Memory h = h
-not_unchecked input good failure.ReadFault h = h
-not_unchecked input good failure.WriteFault h = h
-not_unchecked input good failure.TooLong h = h
-not_unchecked input good (failure.Spent t n) h = h
-not_unchecked input good (failure.Stuck t p) h = h
-not_unchecked input good (failure.Rounds t n p) h = h
-not_unchecked input good (failure.Many t n) h = h
-not_unchecked input good (failure.Connected t) h = h
-not_unchecked input good failure.NoJournal h = h
-not_unchecked input good (failure.Text x) h = h
-not_unchecked input good (failure.Line x) h = h
 
 same_cut : (input : List ℕ) (j k : ℕ) → IsCut input j → IsCut input k → j ≡ k
 same_cut input j k p q = same_first (OccursAt input mark) j k p q
@@ -191,7 +155,7 @@ not_refused (Derive m b) input good e h = not_underived input m b good.1 e h
 not_refused (Repair b r) input good e h = not_repaired input b r good.1 e h
 not_refused Simulate input good e h = not_unchecked input good.1 e h
 not_refused (Generate s n) input good e h = not_unmade (generated s n) full_budget good.1 e h
-not_refused (Drill s n w) input good e h = good
+not_refused (Drill s n w) input good e h = not_unmade (generated s n) full_budget good.1 e h
 
 short : (order : Order) (input : List ℕ) → IsGoodInput order input → length input ≤ most_bytes
 short (Run w r) input good = good.0
@@ -204,7 +168,7 @@ short (Derive m b) input good = good.0
 short (Repair b r) input good = good.0
 short Simulate input good = good.0
 short (Generate s n) input good = good.0
-short (Drill s n w) input good = absurd good
+short (Drill s n w) input good = good.0
 
 -- what a call knows of a good input
 pub record IsGoodCall (call : Call) (order : Order) (input : List ℕ) : Type 0 where

@@ -1,6 +1,6 @@
 -- Tables with the sections of their rings.
 use Rattle.std.proofs.Common.{◌≡◌, ℕ, ◌+◌, ◌<◌, ◌≤◌, List, [], ◌∷◌, ◌++◌, length, map, take, get_or, slice_get, All, Option, Some, None, sym, ◌∙◌, ap, subst, arith}
-use Rattle.std.specs.Prelude.{pos, ◌≤ℤ◌}
+use Rattle.std.specs.Prelude.{pos, ◌≤ℤ◌, Ok}
 use Rattle.std.proofs.lemmas.Int.{ints}
 use Rattle.std.proofs.lemmas.List.{get_or-map, length-map, take_more}
 use Rattle.std.proofs.lemmas.Option.{slice_get-get_or}
@@ -18,10 +18,13 @@ use Rattle.ring_sections.proofs.Excluded.{rings-stays}
 use Rattle.ring_sections.proofs.RingLists.{all-rings}
 use Rattle.layout_json.specs.Doc.{Doc, IsDoc, table_at}
 use Rattle.layout_json.specs.Keeps.{IsTaken}
+use Rattle.layout_json.specs.Reading.{doc_of}
 use Rattle.layout_json.specs.Replaced.{replaced, IsLight, IsRemarked, new_table}
+use Rattle.layout_json.specs.Written.{written}
 use Rattle.layout_json.proofs.Remade.{remarked-is-taken}
-use Rattle.ats_run.specs.Deriving.{derived_table, derived, HasFewRings, HaveFewRings}
+use Rattle.ats_run.specs.Deriving.{derived_table, derived, HasFewRings, HaveFewRings, IsDerived}
 use Rattle.ats_run.specs.Making.{table_in, HaveMade}
+use Rattle.ats_run.proofs.AcceptedText.{derived_text}
 use Rattle.ats_run.proofs.Offered.{offer_count}
 
 -- a connection looks at no section
@@ -138,3 +141,18 @@ module _ (D : Doc) (most : ℕ) where
   still_taken budget tables parts given doc taken few start are made same =
       let fit = remarked budget parts doc few start (subst (λ ts. HaveMade ts budget parts) are made) in
       subst (λ ps. IsTaken (replaced D ps)) (sym same) (remarked-is-taken D taken parts fit)
+
+  -- and the text of the document with them is what is derived
+  pub derived_is : (budget : ℕ) (tables : List Table) (parts given : List (Table × Tree)) (bytes : List ℕ) → budget ≤ 1000000 → HaveFewRings D most
+      → Legal (table_in (derived D most) 0) D.start → tables ≡ derived D most → HaveMade tables budget parts → given ≡ parts → bytes ≡ written (replaced D given)
+      → doc_of bytes ≡ Ok (replaced D given) → IsDerived D most budget bytes
+  derived_is budget tables parts given bytes enough few start are made same printed reads =
+      let have = subst (λ ts. HaveMade ts budget parts) are made in
+      record {
+        few = few;
+        start = start;
+        parts = parts;
+        made = have;
+        text = derived_text D (derived D most) budget parts bytes enough derived_count have
+            (printed ∙ ap (λ ps. written (replaced D ps)) same) (reads ∙ ap (λ ps. Ok (replaced D ps)) same);
+      }

@@ -5,25 +5,29 @@ use Rattle.rail_model.specs.Table.{trains}
 use Rattle.rail_model.specs.Certificate.{Tree}
 use Rattle.rail_model.specs.Yard.{Yard, opening, offer}
 use Rattle.rail_model.specs.Journal.{Journal, IsDone, text}
+use Rattle.plain_yard.specs.Keeps.{Keeps}
 use Rattle.plain_yard.specs.Rounds.{Finishes}
 use Rattle.move_journal.specs.Counted.{journal_of}
 use Rattle.layout_json.specs.Doc.{Doc, IsDoc, offers_of, names_of}
 use Rattle.ats_run.specs.Certificates.{AreAccepted}
 use Rattle.ats_run.specs.Checking.{nodes_below}
 use Rattle.ats_run.specs.Generating.{IsDrilled, drill_text}
+use Rattle.ats_run.proofs.OneTable.{all_moves}
 use Rattle.ats_run.proofs.Runs.{runs}
 
--- the counts of the run that a finish gives
-pub drilled : (D : Doc) (trees : List Tree) (z : Yard) (lines : List Line) (K : Journal) (count nodes : ℕ) (bytes : List ℕ) → IsDoc D → AreAccepted D trees
-    → IsDone (offers_of D) z → Finishes (offers_of D) (opening D.start) (trains (offer (offers_of D) 0).table - 1) [] z lines
+-- the counts of the run that a finish of a document with one table gives
+pub drilled : (D : Doc) (trees : List Tree) (z : Yard) (lines : List Line) (K : Journal) (count nodes : ℕ) (bytes : List ℕ) → IsDoc D → length D.tables ≡ 1
+    → AreAccepted D trees → IsDone (offers_of D) z → Keeps (offers_of D) z lines → Finishes (offers_of D) (opening D.start) (trains (offer (offers_of D) 0).table - 1) [] z lines
     → K ≡ journal_of lines → count ≡ length D.trains → nodes ≡ nodes_below trees (length trees)
     → bytes ≡ drill_text count K.moves K.tables nodes → IsDrilled D bytes
-drilled D trees z lines K count nodes bytes doc accepted done finishes is counted summed printed =
+drilled D trees z lines K count nodes bytes doc one accepted done keeps finishes is counted summed printed =
     let run = runs D trees z lines (text (names_of D) (journal_of lines)) doc accepted done finishes refl in
     record {
+      one_table = one;
       journal = journal_of lines;
       run = run.0;
       round = run.1;
+      moves = all_moves D z lines one done keeps finishes;
       trees = trees;
       accepted = accepted;
       printed = printed ∙ (λ i. drill_text (counted i) (is i).moves (is i).tables (summed i));

@@ -19,13 +19,15 @@ use Rattle.layout_json.specs.Doc.{Doc, IsDoc, table_at}
 use Rattle.layout_json.specs.Reading.{doc_of}
 use Rattle.layout_json.specs.Keeps.{IsTaken}
 use Rattle.layout_json.specs.Replaced.{replaced, IsLight, IsRemarked}
+use Rattle.layout_json.specs.Written.{written}
 use Rattle.layout_json.proofs.Remade.{remarked-is-taken}
 use Rattle.ats_run.specs.Making.{part_in}
-use Rattle.ats_run.specs.Repairing.{IsRepairedAs, EndsRepair, AreRepaired, IsUnconnected, HasConnection, IsRefusedStart, IsUnrepaired}
+use Rattle.ats_run.specs.Repairing.{IsRepairedAs, EndsRepair, AreRepaired, IsUnconnected, IsRepaired, HasConnection, IsRefusedStart, IsUnrepaired}
 use Rattle.ats_run.specs.Command.{IsUnrepairedInput}
 use Rattle.ats_run.specs.Starting.{IsBadStart}
 use Rattle.ats_run.specs.declared.failure.Failure.{Failure}
 use Rattle.ats_run.specs.declared.failure.Failure.TheVariants.{Connected, Memory}
+use Rattle.ats_run.proofs.AcceptedText.{repaired_text}
 use Rattle.ats_run.proofs.LightMarked.{listed, light}
 use Rattle.ats_run.proofs.Offered.{offer_count}
 
@@ -165,6 +167,17 @@ repaired_taken D budget rounds parts doc taken unconnected so =
       start = so.start some;
     } in
     remarked-is-taken D taken parts are
+
+-- and the text of the document with them is what is repaired
+pub repaired_is : (D : Doc) (budget rounds : ℕ) (parts given : List (Table × Tree)) (bytes : List ℕ) → budget ≤ 1000000 → IsUnconnected D (length D.tables)
+    → AreRepaired D budget rounds (length D.tables) parts → given ≡ parts → bytes ≡ written (replaced D given) → doc_of bytes ≡ Ok (replaced D given)
+    → IsRepaired D budget rounds bytes
+repaired_is D budget rounds parts given bytes enough unconnected so same printed reads = record {
+  unconnected = unconnected;
+  parts = parts;
+  repaired = so;
+  text = repaired_text D budget rounds parts bytes enough so (printed ∙ ap (λ ps. written (replaced D ps)) same) (reads ∙ ap (λ ps. Ok (replaced D ps)) same);
+}
 
 -- its refusal is the input's
 pub unrepaired_input : {A : Type 0} (input : List ℕ) (D : Doc) (budget rounds : ℕ) (result : Result A Failure) (e : Failure) → doc_of input ≡ Ok D

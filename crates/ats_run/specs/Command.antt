@@ -82,11 +82,6 @@ abbrev pub IsDrilledInput : List ℕ → List ℕ → Type 0
 IsDrilledInput input written =
     (made : List ℕ) × IsDocWith input (λ D. IsMade D full_budget made) × IsDocWith made (λ D. IsDrilled D written)
 
--- Why not: no certificates, or what was made is refused.
-abbrev pub IsUndrilledInput : List ℕ → Failure → Type 0
-IsUndrilledInput input e =
-    IsUnmadeInput input full_budget e ⊎ ((made : List ℕ) × IsDocWith input (λ D. IsMade D full_budget made) × IsUnchecked made e)
-
 abbrev pub Comes : Order → List ℕ → Result (List ℕ) Failure → Type 0
 Comes (Run workers rounds) input (Ok written) = IsDocWith input (λ D. IsRun D written × IsRoundRobin D written)
 Comes (Run workers rounds) input (Err e) = IsUnchecked input e
@@ -109,4 +104,4 @@ Comes Simulate input (Err e) = IsUnchecked input e
 Comes (Generate seed trains) input (Ok written) = IsDocWith (generated seed trains) (λ D. IsMade D full_budget written)
 Comes (Generate seed trains) input (Err e) = IsUnmadeInput (generated seed trains) full_budget e
 Comes (Drill seed trains workers) input (Ok written) = IsDrilledInput (generated seed trains) written
-Comes (Drill seed trains workers) input (Err e) = IsUndrilledInput (generated seed trains) e
+Comes (Drill seed trains workers) input (Err e) = IsUnmadeInput (generated seed trains) full_budget e

@@ -1,7 +1,7 @@
 -- Inputs that a command takes: where no device fails, its answer is its text, or there was no memory.
 use Rattle.std.specs.Prelude.{◌≡◌, ◌⊎◌, ℕ, ◌≤◌, List, length, Ok}
 use Rattle.command_words.specs.declared.orders.Order.{Order}
-use Rattle.command_words.specs.declared.orders.Order.TheVariants.{Run, Resume, Check, Verify, Migrate, Make, Derive, Repair, Simulate, Generate}
+use Rattle.command_words.specs.declared.orders.Order.TheVariants.{Run, Resume, Check, Verify, Migrate, Make, Derive, Repair, Simulate, Generate, Drill}
 use Rattle.rail_model.specs.Certificate.{Tree}
 use Rattle.rail_model.specs.State.{Legal}
 use Rattle.rail_model.specs.Yard.{opening}
@@ -48,6 +48,10 @@ abbrev pub IsDerivable : ℕ → ℕ → Doc → Type 0
 IsDerivable most budget D =
     HaveFewRings D most × Legal (table_in (derived D most) 0) D.start × AreMakeable (derived D most) budget
 
+-- The generated document's tables get certificates within the full budget.
+abbrev pub IsMakeable : ℕ → ℕ → Type 0
+IsMakeable seed trains = IsDocWith (generated seed trains) (λ D. AreMakeable (tables_in D) full_budget)
+
 -- Not too long, and what the command asks for.
 abbrev pub IsGoodInput : Order → List ℕ → Type 0
 IsGoodInput (Run workers rounds) input = (length input ≤ most_bytes) × IsAcceptedInput input
@@ -60,9 +64,8 @@ IsGoodInput Migrate input = (length input ≤ most_bytes) × IsDocument input
 IsGoodInput (Make budget) input = (length input ≤ most_bytes) × IsDocWith input (λ D. AreMakeable (tables_in D) budget)
 IsGoodInput (Derive most budget) input = (length input ≤ most_bytes) × IsDocWith input (IsDerivable most budget)
 IsGoodInput (Repair budget rounds) input = (length input ≤ most_bytes) × IsDocWith input (λ D. IsRepairable D budget rounds)
-IsGoodInput (Generate seed trains) input =
-    (length input ≤ most_bytes) × IsDocWith (generated seed trains) (λ D. AreMakeable (tables_in D) full_budget)
-IsGoodInput order input = ⊥
+IsGoodInput (Generate seed trains) input = (length input ≤ most_bytes) × IsMakeable seed trains
+IsGoodInput (Drill seed trains workers) input = (length input ≤ most_bytes) × IsMakeable seed trains
 
 abbrev pub IsDoneOrMemory : Status → Type 0
 IsDoneOrMemory status = (status ≡ Done) ⊎ (status ≡ Memory)

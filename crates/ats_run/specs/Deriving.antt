@@ -7,10 +7,10 @@ use Rattle.ring_sections.specs.Ring.{rings}
 use Rattle.ring_sections.specs.Marking.{ring_table}
 use Rattle.layout_json.specs.Doc.{Doc, table_at}
 use Rattle.layout_json.specs.Replaced.{replaced}
-use Rattle.layout_json.specs.Written.{written as text_of}
 use Rattle.ats_run.specs.declared.failure.Failure.{Failure}
 use Rattle.ats_run.specs.declared.failure.Failure.TheVariants.{Many}
-use Rattle.ats_run.specs.Making.{table_in, HaveMade, IsUnmade}
+use Rattle.ats_run.specs.Certificates.{IsAcceptedText}
+use Rattle.ats_run.specs.Making.{table_in, trees_in, HaveMade, IsUnmade}
 use Rattle.ats_run.specs.Starting.{IsBadStart}
 
 -- the table with the sections of its rings of at most so many trains in place of its own; its connections stay
@@ -29,13 +29,14 @@ HasFewRings most T = length (rings T.missions most) ≤ 64
 abbrev pub HaveFewRings : Doc → ℕ → Type 0
 HaveFewRings D most = (t : ℕ) → t < length D.tables → HasFewRings most (table_at D t)
 
--- The bytes are the document with the sections of its rings, under which its start is legal, and certificates made of them.
+-- The bytes are the document with the sections of its rings, under which its start is legal, and certificates made of them, which its
+-- tables accept.
 pub record IsDerived (D : Doc) (most budget : ℕ) (bytes : List ℕ) : Type 0 where
   pub few : HaveFewRings D most
   pub start : Legal (table_in (derived D most) 0) D.start
   pub parts : List (Table × Tree)
   pub made : HaveMade (derived D most) budget parts
-  pub printed : bytes ≡ text_of (replaced D parts)
+  pub text : IsAcceptedText (replaced D parts) (trees_in parts) bytes
 
 -- The table with this number has more than 64 rings, which are not counted any further.
 abbrev pub IsOverfull : ℕ → Table → ℕ → Failure → Type 0

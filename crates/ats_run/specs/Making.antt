@@ -8,9 +8,9 @@ use Rattle.cert_maker.specs.declared.made.Made.TheVariants.{Cert as cert, Stuck 
 use Rattle.layout_json.specs.Doc.{Doc}
 use Rattle.layout_json.specs.Trees.{tree_at}
 use Rattle.layout_json.specs.Replaced.{certified}
-use Rattle.layout_json.specs.Written.{written as text_of}
 use Rattle.ats_run.specs.declared.failure.Failure.{Failure}
 use Rattle.ats_run.specs.declared.failure.Failure.TheVariants.{Spent, Stuck}
+use Rattle.ats_run.specs.Certificates.{IsAcceptedText}
 
 -- the tables of a document
 abbrev pub tables_in : Doc → List Table
@@ -29,9 +29,12 @@ pub record AreMade (tables : List Table) (budget : ℕ) (trees : List Tree) : Ty
 abbrev pub part_in : List (Table × Tree) → ℕ → Table × Tree
 part_in parts t = slice_index_or parts t (record { missions = []; sections = []; connections = [] }, arrived)
 
+abbrev pub trees_in : List (Table × Tree) → List Tree
+trees_in parts = map (λ p. p.1) parts
+
 -- These are the tables, each with a certificate made by the rule within the budget.
 abbrev pub HaveMade : List Table → ℕ → List (Table × Tree) → Type 0
-HaveMade tables budget parts = (map (λ p. p.0) parts ≡ tables) × AreMade tables budget (map (λ p. p.1) parts)
+HaveMade tables budget parts = (map (λ p. p.0) parts ≡ tables) × AreMade tables budget (trees_in parts)
 
 -- The rule makes no certificate of the table with this number: the budget is spent, or a state is found that is stuck.
 abbrev pub MakesNone : Table → ℕ → ℕ → Failure → Type 0
@@ -50,6 +53,6 @@ pub record IsUnmade (tables : List Table) (budget : ℕ) (e : Failure) : Type 0 
 abbrev pub AreMakeable : List Table → ℕ → Type 0
 AreMakeable tables budget = (t : ℕ) → t < length tables → (tree : Tree) × Makes (table_in tables t) budget (cert tree)
 
--- The bytes are the document with each table's certificate made anew.
+-- The bytes are the document with each table's certificate made anew, which its table accepts.
 abbrev pub IsMade : Doc → ℕ → List ℕ → Type 0
-IsMade D budget bytes = (trees : List Tree) × AreMade (tables_in D) budget trees × (bytes ≡ text_of (certified D trees))
+IsMade D budget bytes = (trees : List Tree) × AreMade (tables_in D) budget trees × IsAcceptedText (certified D trees) trees bytes

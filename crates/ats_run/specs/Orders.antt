@@ -3,7 +3,7 @@ use Rattle.std.specs.Prelude.{◌≡◌, ℕ, List, [], Option, Some, IfSome}
 use Rattle.clap.specs.Words.{Text}
 use Rattle.command_words.specs.Words.{words}
 use Rattle.command_words.specs.declared.orders.Order.{Order}
-use Rattle.command_words.specs.declared.orders.Order.TheVariants.{Generate, Drill}
+use Rattle.command_words.specs.declared.orders.Order.TheVariants.{Make, Derive, Repair, Generate, Drill}
 
 -- what the words ask for, or None where they are refused
 abbrev pub order_of : List Text → Option Order
@@ -26,3 +26,11 @@ abbrev pub Holds : Order → Option (List ℕ) → List ℕ → Type 0
 Holds (Generate seed trains) held input = input ≡ []
 Holds (Drill seed trains workers) held input = input ≡ []
 Holds order held input = held ≡ Some input
+
+-- The order writes a document with its certificates.
+abbrev pub WritesDocument : Order → Type 0
+WritesDocument (Make budget) = Unit {0}
+WritesDocument (Derive most budget) = Unit {0}
+WritesDocument (Repair budget rounds) = Unit {0}
+WritesDocument (Generate seed trains) = Unit {0}
+WritesDocument order = ⊥

@@ -9,10 +9,10 @@ use Rattle.section_repair.specs.declared.repaired.Repair.{Repair}
 use Rattle.section_repair.specs.declared.repaired.Repair.TheVariants as repair
 use Rattle.layout_json.specs.Doc.{Doc, table_at}
 use Rattle.layout_json.specs.Replaced.{replaced}
-use Rattle.layout_json.specs.Written.{written as text_of}
 use Rattle.ats_run.specs.declared.failure.Failure.{Failure}
 use Rattle.ats_run.specs.declared.failure.Failure.TheVariants.{Spent, Rounds, Many, Connected}
-use Rattle.ats_run.specs.Making.{part_in}
+use Rattle.ats_run.specs.Certificates.{IsAcceptedText}
+use Rattle.ats_run.specs.Making.{part_in, trees_in}
 use Rattle.ats_run.specs.Starting.{IsBadStart}
 
 -- A repair of the missions of T ends with the table U and this certificate. A state with distinct points is legal under U exactly
@@ -42,12 +42,12 @@ pub record AreRepaired (D : Doc) (budget rounds : ℕ) (count : ℕ) (parts : Li
 abbrev pub IsUnconnected : Doc → ℕ → Type 0
 IsUnconnected D count = (t : ℕ) → t < count → (table_at D t).connections ≡ []
 
--- The bytes are the document with the sections that repairs made, and their certificates.
+-- The bytes are the document with the sections that repairs made, and their certificates, which its tables accept.
 pub record IsRepaired (D : Doc) (budget rounds : ℕ) (bytes : List ℕ) : Type 0 where
   pub unconnected : IsUnconnected D (length D.tables)
   pub parts : List (Table × Tree)
   pub repaired : AreRepaired D budget rounds (length D.tables) parts
-  pub printed : bytes ≡ text_of (replaced D parts)
+  pub text : IsAcceptedText (replaced D parts) (trees_in parts) bytes
 
 -- The first table with a connection.
 pub record HasConnection (D : Doc) (e : Failure) : Type 0 where

@@ -3,7 +3,8 @@ ghost use Rattle.std.specs.Prelude.{◌≡◌, ◌⊎◌, ◌≤◌, List, lengt
 ghost use Rattle.document_generator.specs.Generated.{generated};
 ghost use Rattle.layout_json.specs.Doc.{offers_of};
 ghost use Rattle.ats_run.specs.Certificates.{AreAccepted};
-ghost use Rattle.ats_run.specs.Command.{IsDocWith, IsUnchecked, IsUnmadeInput, IsDrilledInput, IsUndrilledInput};
+ghost use Rattle.ats_run.specs.Command.{IsDocWith, IsUnmadeInput, IsDrilledInput};
+ghost use Rattle.ats_run.specs.Complete.{IsAcceptedInput};
 ghost use Rattle.ats_run.specs.Generating.{IsDrilled, drill_text, full_budget};
 ghost use Rattle.ats_run.specs.Making.{IsMade};
 ghost use Rattle.ats_run.specs.declared.failure.Failure.TheVariants.{Memory as NoMemory};
@@ -25,6 +26,7 @@ const FULL_BUDGET: u32 = 1_000_000;
 pub fn generate(alloc: Global, seed: u32, trains: u32) -> Result<Vec<u8>, Failure>
     requires { trains ≤ 32 }
     ensures made { IfOk result (λ text. IsDocWith (generated seed trains) (λ D. IsMade D full_budget text.items)) }
+    ensures one_table { IfOk result (λ text. IsDocWith text.items (λ D. length D.tables ≡ 1)) }
 
     ensures unmade { IfErr result (λ e. (e ≡ NoMemory) ⊎ IsUnmadeInput (generated seed trains) full_budget e) }
 {
@@ -42,21 +44,23 @@ pub fn drill(
     requires { trains ≤ 32 }
     ensures drilled { IfOk result (λ text. IsDrilledInput (generated seed trains) text.items) }
 
-    ensures undrilled { IfErr result (λ e. (e ≡ NoMemory) ⊎ IsUndrilledInput (generated seed trains) e) }
+    ensures unmade { IfErr result (λ e. (e ≡ NoMemory) ⊎ IsUnmadeInput (generated seed trains) full_budget e) }
 {
     let document = generate(alloc, seed, trains)?;
     drill_document(rt, alloc, &document)
 }
 
-// The counts of the run of a document.
+// The counts of the run of a document whose one table accepts its certificate. The only error is want of memory.
 fn drill_document(
     rt: &(impl Threads + Sync),
     alloc: Global,
     input: &[u8],
 ) -> Result<Vec<u8>, Failure>
+    requires one_table { IsDocWith input.now (λ D. length D.tables ≡ 1) }
+    requires accepted { IsAcceptedInput input.now }
     ensures drilled { IfOk result (λ text. IsDocWith input.now (λ D. IsDrilled D text.items)) }
 
-    ensures unchecked { IfErr result (λ e. (e ≡ NoMemory) ⊎ IsUnchecked input.now e) }
+    ensures memory { IfErr result (λ e. e ≡ NoMemory) }
 {
     let checked = check_document(rt, alloc, input)?;
     let text = drill_checked(alloc, &checked)?;
@@ -68,6 +72,7 @@ fn drill_checked(alloc: Global, checked: &Checked) -> Result<Vec<u8>, AllocError
     requires tables { checked.now.tables.items ≡ offers_of checked.now.doc }
     requires accepted { AreAccepted checked.now.doc checked.now.certs.items }
     requires few { length checked.now.certs.items ≤ 16 }
+    requires one_table { length checked.now.doc.tables ≡ 1 }
     ensures { IfOk result (λ text. IsDrilled checked.now.doc text.items) }
 {
     let state = finish(alloc, &checked.doc, &checked.tables)?;

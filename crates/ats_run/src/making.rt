@@ -1,9 +1,10 @@
 // Certificates that are made anew.
-ghost use Rattle.std.specs.Prelude.{◌≡◌, ◌⊎◌, ◌<◌, ◌≤◌, List, length, IfOk, IfErr};
+ghost use Rattle.std.specs.Prelude.{◌≡◌, ◌⊎◌, ◌<◌, ◌≤◌, List, length, Ok, IfOk, IfErr};
 ghost use Rattle.rail_model.specs.Certificate.{Tree, Accepts};
 ghost use Rattle.cert_maker.specs.Rule.{Makes};
 ghost use Rattle.cert_maker.specs.declared.made.Made.TheVariants.{Cert as cert};
 ghost use Rattle.layout_json.specs.Keeps.{IsTaken};
+ghost use Rattle.layout_json.specs.Reading.{doc_of};
 ghost use Rattle.layout_json.specs.Replaced.{replaced};
 ghost use Rattle.layout_json.specs.Written.{written};
 ghost use Rattle.ats_run.specs.Command.{IsDocWith, IsUnmadeInput};
@@ -89,6 +90,7 @@ pub fn print_parts(alloc: Global, doc: &Doc, parts: &[(Table, Cert)]) -> Result<
     requires one_each { length parts.now ≡ length doc.now.tables }
     requires taken { IsTaken (replaced doc.now parts.now) }
     ensures printed { IfOk result (λ text. text.items ≡ written (replaced doc.now parts.now)) }
+    ensures reads { IfOk result (λ text. doc_of text.items ≡ Ok (replaced doc.now parts.now)) }
 
     ensures memory { IfErr result (λ e. e ≡ NoMemory) }
 {

@@ -4,11 +4,11 @@ ghost use Rattle.std.specs.Io.KnownBytes.{IsAtEnd};
 ghost use Rattle.ats_io.specs.Bytes.{Adds, AddsPrefix, ConsumesAtMost};
 ghost use Rattle.ats_io.specs.Faults.{Rose};
 ghost use Rattle.command_words.specs.Subcommands.{HasItsNumbers};
-ghost use Rattle.ats_run.specs.Orders.{order_of, Reads, OnInput, Holds};
+ghost use Rattle.ats_run.specs.Orders.{order_of, Reads, OnInput, Holds, WritesDocument};
 ghost use Rattle.command_words.specs.declared.orders.Order.{Order as OrderValue};
 ghost use Rattle.command_words.specs.declared.orders.Order.TheVariants.{Run};
 ghost use Rattle.ats_run.specs.Command.{Comes, IsDocWith};
-ghost use Rattle.ats_run.specs.Complete.{IsGoodInput, IsDoneOrMemory};
+ghost use Rattle.ats_run.specs.Complete.{IsAcceptedInput, IsGoodInput, IsDoneOrMemory};
 ghost use Rattle.ats_run.specs.Headline.{IsRun, IsRoundRobin};
 ghost use Rattle.ats_run.specs.Causes.{Call, IsCause, IsUnread, IsUnwritten, Tells, most_bytes};
 ghost use Rattle.ats_run.specs.Ending.{status_of};
@@ -186,6 +186,10 @@ pub fn ats<S: Source, K: Sink, E: Sink>(
     ensures done { result ≡ Status.Done → (order : OrderValue) × (order_of (map string_bytes line.now) ≡ Some order) × (Reads order → IsAtEnd (S.left source.new))
         × OnInput order (S.left source.old) (λ input. (written : List ℕ) × Comes order input (Ok written) × Adds (K.taken out.old) (K.taken out.new) written) }
     ensures quiet { result ≡ Status.Done → Adds (E.taken err.old) (E.taken err.new) [] }
+
+    // What make, derive, repair and gen write is a document whose every table accepts its certificate.
+    ensures documents { (order : OrderValue) → result ≡ Status.Done → order_of (map string_bytes line.now) ≡ Some order → WritesDocument order
+        → OnInput order (S.left source.old) (λ input. (written : List ℕ) × IsAcceptedInput written × Adds (K.taken out.old) (K.taken out.new) written) }
 
     // Any other status has its cause, and the line of it was told.
     ensures refused { result ≢ Status.Done → Tells (record {

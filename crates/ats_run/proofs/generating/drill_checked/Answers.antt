@@ -18,6 +18,6 @@ pub returns : goal.returns
 returns c =
     let checked = c.args.checked.now in
     let state = c.in_ok-state.state in
-    drilled checked.doc checked.certs.items state.yard state.lines c.from_lines-journal.result c.trains-trains.result c.nodes.result _ c.finish.ensures.formed c.requires.accepted
-    c.in_ok-state.ensures.done c.in_ok-state.ensures.round (c.from_lines-journal.ensures ∙ ap journal_of c.into_parts-lines.ensures.lines)
+    drilled checked.doc checked.certs.items state.yard state.lines c.from_lines-journal.result c.trains-trains.result c.nodes.result _ c.finish.ensures.formed c.requires.one_table c.requires.accepted
+    c.in_ok-state.ensures.done c.in_ok-state.ensures.keeps c.in_ok-state.ensures.round (c.from_lines-journal.ensures ∙ ap journal_of c.into_parts-lines.ensures.lines)
     (c.trains-trains.ensures.count ∙ ap (λ (N : Names). length N.trains) c.names_of.ensures.names) (c.nodes.ensures ∙ ap (λ (trees : List Tree). nodes_below trees (length trees)) c.deref-2.ensures.value) (ap (λ (v : Vec ℕ Global). v.items) c.into_bytes.ensures.value ∙ c.in_ok-line.ensures)

@@ -4,7 +4,8 @@ use Rattle.rail_model.specs.Certificate.{Tree}
 use Rattle.layout_json.specs.Keeps.{IsTaken}
 use Rattle.layout_json.specs.Replaced.{replaced}
 use Rattle.layout_json.proofs.FormedDoc.{read-is-formed}
-use Rattle.ats_run.proofs.Repaired.{repaired_taken, unrepaired_input}
+use Rattle.ats_run.proofs.AcceptedText.{on_both}
+use Rattle.ats_run.proofs.Repaired.{repaired_taken, repaired_is, unrepaired_input}
 use Rattle.ats_run.proofs.repairing.repair.Goals as goal
 
 -- src/repairing.rt:32:17
@@ -20,3 +21,15 @@ print_parts-requires-clause-taken c =
     let formed = read-is-formed c.args.input.now D c.in_ok-doc.ensures.document in
     subst (λ (parts : List (Table × Tree)). IsTaken (replaced D parts)) (sym c.deref.ensures.value)
     (repaired_taken D c.args.budget c.args.rounds c.in_ok-parts.parts.items formed.is formed.taken c.in_ok-check_connections.ensures.unconnected c.in_ok-parts.ensures.repaired)
+
+pub returns-clause-repaired : goal.returns-clause-repaired
+returns-clause-repaired c =
+    let D = c.in_ok-doc.doc in
+    on_both c.print_parts.result _ _ _
+    (λ text printed reads. (
+      D,
+      c.in_ok-doc.ensures.document,
+      repaired_is D c.args.budget c.args.rounds c.in_ok-parts.parts.items c.deref.result.now text.items c.requires.most
+          c.in_ok-check_connections.ensures.unconnected c.in_ok-parts.ensures.repaired c.deref.ensures.value printed reads,
+    ))
+    c.print_parts.ensures.printed c.print_parts.ensures.reads

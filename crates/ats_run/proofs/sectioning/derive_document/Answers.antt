@@ -6,7 +6,8 @@ use Rattle.ats_run.specs.Deriving.{IsUnderived}
 use Rattle.ats_run.specs.Starting.{IsBadStart}
 use Rattle.ats_run.specs.declared.failure.Failure.{Failure}
 use Rattle.ats_run.specs.declared.failure.Failure.TheVariants.{Memory as NoMemory}
-use Rattle.ats_run.proofs.Derived.{of_first, still_taken}
+use Rattle.ats_run.proofs.AcceptedText.{on_both}
+use Rattle.ats_run.proofs.Derived.{of_first, still_taken, derived_is}
 use Rattle.ats_run.proofs.sectioning.derive_document.Goals as goal
 
 -- src/sectioning.rt:46:5
@@ -30,3 +31,15 @@ print_parts-requires-clause-taken c =
     c.start_of.ensures.start c.in_ok-check_start.ensures.legal in
     still_taken D c.args.most c.args.budget c.in_ok-tables.tables.items c.in_ok-parts.parts.items c.deref.result.now c.start_of.ensures.formed c.requires.taken
     c.in_ok-tables.ensures.few start c.in_ok-tables.ensures.tables c.in_ok-parts.ensures.made c.deref.ensures.value
+
+pub returns-clause-derived : goal.returns-clause-derived
+returns-clause-derived c =
+    let D = c.args.doc.now in
+    let start =
+    of_first D c.args.most Legal c.in_ok-tables.tables.items c.index.result.now c.start_of.result.now c.start_of.ensures.formed c.in_ok-tables.ensures.tables c.index.ensures
+    c.start_of.ensures.start c.in_ok-check_start.ensures.legal in
+    on_both c.print_parts.result _ _ _
+    (λ text printed reads.
+    derived_is D c.args.most c.args.budget c.in_ok-tables.tables.items c.in_ok-parts.parts.items c.deref.result.now text.items c.requires.enough
+    c.in_ok-tables.ensures.few start c.in_ok-tables.ensures.tables c.in_ok-parts.ensures.made c.deref.ensures.value printed reads)
+    c.print_parts.ensures.printed c.print_parts.ensures.reads

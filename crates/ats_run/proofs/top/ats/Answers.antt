@@ -1,4 +1,5 @@
 use Rattle.ats_run.proofs.Completing.{ends}
+use Rattle.ats_run.proofs.Writing.{documents}
 use Rattle.ats_run.proofs.top.ats.Goals as goal
 
 -- src/top.rt:112:1
@@ -6,3 +7,6 @@ pub returns-in-Err-clause-complete : goal.returns-in-Err-clause-complete
 returns-in-Err-clause-complete g c = λ order input asked held good no_source no_sink.
     ends _ order input (record { asked = asked; held = held; good = good; source = no_source; sink = no_sink })
     c.in-Err.failure c.refuse.result c.status.result c.in-Err.ensures.cause c.refuse.ensures.kept c.status.ensures
+
+pub returns-in-Ok-clause-documents : goal.returns-in-Ok-clause-documents
+returns-in-Ok-clause-documents g c = λ order done asked writes. documents _ _ _ _ order asked writes c.in-Ok.ensures.done
