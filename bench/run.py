@@ -73,9 +73,18 @@ def show(columns, widths):
     print("  ".join(str(column).rjust(width) for column, width in zip(columns, widths)), flush=True)
 
 
-def size(document):
+def measured(name, document, words):
+    """The first columns of a row, the number of nodes, the least milliseconds of each phase, what else was told, and the peak memory."""
+    text, nodes = made(document)
     table = document["tables"][0]
-    return len(document["trains"]), len(table["sections"])
+    least, told, peak = timed(text, words)
+    columns = [name, len(document["trains"]), len(table["sections"]), nodes]
+    return columns, nodes, {word: time / 1000 for word, time in least.items()}, told, peak
+
+
+def print_told(lines):
+    for line in lines:
+        print("   ", line)
 
 
 def check_group():
@@ -93,29 +102,12 @@ def check_group():
         ("yard", yard(1, 16, 1, 1)),
         ("four yards", yard(4, 8, 4, 4)),
     ]:
-        text, nodes = made(document)
-        trains, sections = size(document)
-        least, told, peak = timed(text, ["json", "check", "par"])
-        cost = least["check"] * 1000 / nodes
-        load = cost / (trains + sections)
-        show(
-            [
-                name,
-                trains,
-                sections,
-                nodes,
-                f"{least['json'] / 1000:.1f}",
-                f"{least['check'] / 1000:.1f}",
-                f"{least['par'] / 1000:.1f}",
-                f"{cost:.0f}",
-                f"{load:.2f}",
-                f"{least['json'] / least['check']:.1f}",
-                f"{peak:.0f}",
-            ],
-            widths,
-        )
-        for line in told:
-            print("   ", line)
+        columns, nodes, ms, told, peak = measured(name, document, ["json", "check", "par"])
+        cost = ms["check"] * 1e6 / nodes
+        times = [f"{ms[word]:.1f}" for word in ["json", "check", "par"]]
+        ratios = [f"{cost:.0f}", f"{cost / (columns[1] + columns[2]):.2f}", f"{ms['json'] / ms['check']:.1f}"]
+        show(columns + times + ratios + [f"{peak:.0f}"], widths)
+        print_told(told)
 
 
 def make_group():
@@ -143,26 +135,11 @@ def make_group():
         ("four corridors", corridor(4, 8, 50)),
         ("four yards", yard(4, 8, 4, 4)),
     ]:
-        text, nodes = made(document)
-        trains, sections = size(document)
-        least, told, peak = timed(text, ["json", "make"])
-        show(
-            [
-                name,
-                trains,
-                sections,
-                nodes,
-                f"{least['json'] / 1000:.1f}",
-                f"{least['make'] / 1000:.1f}",
-                f"{least['make'] * 1000 / nodes:.0f}",
-                f"{nodes / least['make']:.2f}",
-                f"{least['json'] / least['make']:.2f}",
-                f"{peak:.0f}",
-            ],
-            widths,
-        )
-        for line in told:
-            print("   ", line)
+        columns, nodes, ms, told, peak = measured(name, document, ["json", "make"])
+        times = [f"{ms[word]:.1f}" for word in ["json", "make"]]
+        ratios = [f"{ms['make'] * 1e6 / nodes:.0f}", f"{nodes / ms['make'] / 1000:.2f}", f"{ms['json'] / ms['make']:.2f}"]
+        show(columns + times + ratios + [f"{peak:.0f}"], widths)
+        print_told(told)
 
 
 def stack_group():
