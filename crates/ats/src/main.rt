@@ -2,7 +2,7 @@
 #![tactic(auto)]
 
 use ats_io::{Reading, Writing};
-use ats_run::{ats, code};
+use ats_run::{Failure, ats, code, refuse};
 use std::process::ExitCode;
 use std::{env, io};
 
@@ -15,18 +15,21 @@ fn words(rt: &HostRuntime) -> io::Result<Vec<String>> {
     Ok(words)
 }
 
+// Why there are no words: no memory, or one of them isn't UTF-8.
+fn failure_of(error: &io::Error) -> Failure {
+    match error.kind() {
+        io::ErrorKind::OutOfMemory => Failure::Memory,
+        _ => Failure::Words,
+    }
+}
+
 fn main(rt: HostRuntime) -> ExitCode {
-    let words = match words(&rt) {
-        Ok(words) => words,
-        Err(error) => return ExitCode::from(if error.kind() == io::ErrorKind::OutOfMemory {
-            2
-        } else {
-            1
-        }),
-    };
     let mut source = Reading::new(rt.stdin());
     let mut out = Writing::new(rt.stdout());
     let mut err = Writing::new(rt.stderr());
-    let status = ats(&rt, rt.alloc(), &words, &mut source, &mut out, &mut err);
+    let status = match words(&rt) {
+        Ok(words) => ats(&rt, rt.alloc(), &words, &mut source, &mut out, &mut err),
+        Err(error) => refuse(rt.alloc(), failure_of(&error), &mut err).status(),
+    };
     ExitCode::from(code(status))
 }

@@ -8,11 +8,11 @@ use Rattle.ats_run.specs.Command.{Comes}
 use Rattle.ats_run.specs.Complete.{IsAcceptedInput}
 use Rattle.ats_run.specs.Generating.{full_budget}
 use Rattle.ats_run.specs.Making.{trees_in}
-use Rattle.ats_run.specs.Orders.{OnInput, WritesDocument}
+use Rattle.ats_run.specs.Orders.{OnInput, MakesCertificates}
 use Rattle.ats_run.proofs.AcceptedText.{accepted_input, made_input}
 
 -- a document whose tables accept their certificates
-pub writes_accepted : (order : Order) (input written : List ℕ) → WritesDocument order → Comes order input (Ok written) → IsAcceptedInput written
+pub writes_accepted : (order : Order) (input written : List ℕ) → MakesCertificates order → Comes order input (Ok written) → IsAcceptedInput written
 writes_accepted (Make b) input written w h = made_input h.0 b written h.2
 writes_accepted (Derive m b) input written w h = accepted_input (replaced h.0 h.2.parts) (trees_in h.2.parts) written h.2.text
 writes_accepted (Repair b r) input written w h = accepted_input (replaced h.0 h.2.parts) (trees_in h.2.parts) written h.2.text
@@ -24,7 +24,7 @@ if_weaker None P Q f h = tt
 if_weaker (Some input) P Q f h = f input h
 
 -- what holds of an input by what holds of it
-on_weaker : (order : Order) (held : Option (List ℕ)) (P Q : List ℕ → Type 0) → WritesDocument order → ((input : List ℕ) → P input → Q input) → OnInput order held P
+on_weaker : (order : Order) (held : Option (List ℕ)) (P Q : List ℕ → Type 0) → MakesCertificates order → ((input : List ℕ) → P input → Q input) → OnInput order held P
     → OnInput order held Q
 on_weaker (Make b) held P Q w f h = if_weaker held P Q f h
 on_weaker (Derive m b) held P Q w f h = if_weaker held P Q f h
@@ -33,7 +33,7 @@ on_weaker (Generate s n) held P Q w f h = f [] h
 on_weaker order held P Q w f h = absurd w
 
 -- so does what was taken
-written_of : (order : Order) (held : Option (List ℕ)) (Taken : List ℕ → Type 0) → WritesDocument order
+written_of : (order : Order) (held : Option (List ℕ)) (Taken : List ℕ → Type 0) → MakesCertificates order
     → OnInput order held (λ input. (written : List ℕ) × Comes order input (Ok written) × Taken written)
     → OnInput order held (λ input. (written : List ℕ) × IsAcceptedInput written × Taken written)
 written_of order held Taken w h =
@@ -42,7 +42,7 @@ written_of order held Taken w h =
     (λ input k. (k.0, writes_accepted order input k.0 w k.1, k.2)) h
 
 -- of the order that was asked for
-pub documents : (asked : Option Order) (held : Option (List ℕ)) (Read : Order → Type 0) (Taken : List ℕ → Type 0) (order : Order) → asked ≡ Some order → WritesDocument order
+pub documents : (asked : Option Order) (held : Option (List ℕ)) (Read : Order → Type 0) (Taken : List ℕ → Type 0) (order : Order) → asked ≡ Some order → MakesCertificates order
     → (o : Order) × (asked ≡ Some o) × Read o × OnInput o held (λ input. (written : List ℕ) × Comes o input (Ok written) × Taken written)
     → OnInput order held (λ input. (written : List ℕ) × IsAcceptedInput written × Taken written)
 documents asked held Read Taken order is w done =

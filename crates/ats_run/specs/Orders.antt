@@ -27,10 +27,10 @@ Holds (Generate seed trains) held input = input ≡ []
 Holds (Drill seed trains workers) held input = input ≡ []
 Holds order held input = held ≡ Some input
 
--- The order writes a document with its certificates.
-abbrev pub WritesDocument : Order → Type 0
-WritesDocument (Make budget) = Unit {0}
-WritesDocument (Derive most budget) = Unit {0}
-WritesDocument (Repair budget rounds) = Unit {0}
-WritesDocument (Generate seed trains) = Unit {0}
-WritesDocument order = ⊥
+-- The order makes certificates, and writes a document with them.
+abbrev pub MakesCertificates : Order → Type 0
+MakesCertificates (Make budget) = Unit {0}
+MakesCertificates (Derive most budget) = Unit {0}
+MakesCertificates (Repair budget rounds) = Unit {0}
+MakesCertificates (Generate seed trains) = Unit {0}
+MakesCertificates order = ⊥

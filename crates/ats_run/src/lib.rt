@@ -21,4 +21,4 @@ mod top;
 
 pub use failure::Failure;
 pub use status::{Status, code};
-pub use top::ats;
+pub use top::{ats, refuse};

@@ -4,7 +4,7 @@ ghost use Rattle.std.specs.Io.KnownBytes.{IsAtEnd};
 ghost use Rattle.ats_io.specs.Bytes.{Adds, AddsPrefix, ConsumesAtMost};
 ghost use Rattle.ats_io.specs.Faults.{Rose};
 ghost use Rattle.command_words.specs.Subcommands.{HasItsNumbers};
-ghost use Rattle.ats_run.specs.Orders.{order_of, Reads, OnInput, Holds, WritesDocument};
+ghost use Rattle.ats_run.specs.Orders.{order_of, Reads, OnInput, Holds, MakesCertificates};
 ghost use Rattle.command_words.specs.declared.orders.Order.{Order as OrderValue};
 ghost use Rattle.command_words.specs.declared.orders.Order.TheVariants.{Run};
 ghost use Rattle.ats_run.specs.Command.{Comes, IsDocWith};
@@ -143,8 +143,8 @@ fn tell<E: Sink>(err: &mut E, line: &str)
     }
 }
 
-// Tells a failure, or that there is no memory for its line.
-fn refuse<E: Sink>(alloc: Global, failure: Failure, err: &mut E) -> Failure
+/// Tells a failure on `err`, and gives what was told: where there is no memory for its line, that. A fault of `err` changes nothing.
+pub fn refuse<E: Sink>(alloc: Global, failure: Failure, err: &mut E) -> Failure
     ensures kept { (result ≡ failure) ⊎ (result ≡ Failure.Memory) }
     ensures prefix { AddsPrefix (E.taken err.old) (E.taken err.new) (line_of_failure result) }
     ensures whole { (Rose (E.faults err.old) (E.faults err.new) → ⊥) → Adds (E.taken err.old) (E.taken err.new) (line_of_failure result) }
@@ -188,7 +188,7 @@ pub fn ats<S: Source, K: Sink, E: Sink>(
     ensures quiet { result ≡ Status.Done → Adds (E.taken err.old) (E.taken err.new) [] }
 
     // What make, derive, repair and gen write is a document whose every table accepts its certificate.
-    ensures documents { (order : OrderValue) → result ≡ Status.Done → order_of (map string_bytes line.now) ≡ Some order → WritesDocument order
+    ensures documents { (order : OrderValue) → result ≡ Status.Done → order_of (map string_bytes line.now) ≡ Some order → MakesCertificates order
         → OnInput order (S.left source.old) (λ input. (written : List ℕ) × IsAcceptedInput written × Adds (K.taken out.old) (K.taken out.new) written) }
 
     // Any other status has its cause, and the line of it was told.
