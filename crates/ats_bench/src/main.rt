@@ -27,8 +27,9 @@ fn tell_size(rt: &impl Print, doc: &Doc) -> Result<()> {
 
 fn main(rt: HostRuntime) -> Result<()> {
     let alloc = rt.alloc();
-    let Ok(bytes) = read_all(alloc, &mut Reading::new(rt.stdin()), MOST_BYTES) else {
-        bail!("the input is too long");
+    let bytes = match read_all(alloc, &mut Reading::new(rt.stdin()), MOST_BYTES) {
+        Ok(bytes) => bytes,
+        Err(cause) => bail!("the input isn't read: {cause:?}"),
     };
     let mut words = env::args(&rt)?.skip(1).peekable();
     if words.peek().is_none() {
