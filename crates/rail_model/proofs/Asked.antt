@@ -14,13 +14,13 @@ use Rattle.rail_model.proofs.FirstPassing.{first_found, none_found, first_place,
 use Rattle.rail_model.proofs.Obstacles.{legal_advance}
 use Rattle.rail_model.proofs.Shares.{natural}
 
-Decides-blocks : (T : Table) (p : List ℕ) (i j : ℕ) → Decides (blocks T p i j) ((j ≢ i) × ((q : ℕ) × (point T i (place p i + 1) ≡ Some q) × StandsAt T p j q))
+pub Decides-blocks : (T : Table) (p : List ℕ) (i j : ℕ) → Decides (blocks T p i j) ((j ≢ i) × ((q : ℕ) × (point T i (place p i + 1) ≡ Some q) × StandsAt T p j q))
 Decides-blocks T p i j = Decides-and _ _ (Decides-not _ (Decides-eqb j i)) (Decides-same_point (point T i (place p i + 1)) (point T j (place p j)))
 
 pub Decides-over : (T : Table) (p : List ℕ) (s : ℕ) → Decides (is_over T p s) (pos (limit T s) <ℤ count T s p)
 Decides-over T p s = Decides-int_lt (pos (limit T s)) (count T s p)
 
-Decides-held : (p : List ℕ) (i : ℕ) (k : Connection) → Decides (is_held_by p i k) (((k.train ≡ i) × (k.place ≡ place p i)) × (place p k.other < k.reached))
+pub Decides-held : (p : List ℕ) (i : ℕ) (k : Connection) → Decides (is_held_by p i k) (((k.train ≡ i) × (k.place ≡ place p i)) × (place p k.other < k.reached))
 Decides-held p i k = Decides-and _ _ (Decides-and _ _ (Decides-eqb k.train i) (Decides-eqb k.place (place p i))) (Decides-ltb (place p k.other) k.reached)
 
 -- a count that isn't below 0, as a number

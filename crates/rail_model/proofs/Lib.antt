@@ -4,6 +4,7 @@ pub mod Answered
 pub mod Asked
 pub mod Asks
 pub mod Boxes
+pub mod BoxTests
 pub mod Decide
 pub mod Exchanges
 pub mod FirstBads
@@ -19,6 +20,7 @@ pub mod Places
 pub mod Rows
 pub mod Shares
 pub mod Sound
+pub mod StateTests
 pub mod Sums
 pub mod Told
 pub mod Tables

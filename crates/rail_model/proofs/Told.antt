@@ -20,7 +20,7 @@ Decides-same None (Some y) = (λ e. cc, λ e. cc)
 Decides-same (Some x) None = (λ e. cc, λ e. cc)
 Decides-same (Some x) (Some y) = (λ e. ap (λ (n : ℕ). Some n) ((Decides-eqb x y).0 e), λ e. (Decides-eqb x y).1 (let same : x ≡ y = cc in same))
 
-Decides-other : (T new : Table) (i k : ℕ) → Decides (is_other T new i k) (IsOther T new i k)
+pub Decides-other : (T new : Table) (i k : ℕ) → Decides (is_other T new i k) (IsOther T new i k)
 Decides-other T new i k = Decides-or _ _ (Decides-ltb (last new i) k) (Decides-not _ (Decides-same (point new i k) (point T i k)))
 
 -- some passed place of train i differs

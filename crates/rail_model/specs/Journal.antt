@@ -20,7 +20,7 @@ abbrev pub after_lines : Yard → List Line → Yard
 after_lines y [] = y
 after_lines y (l ∷ later) = after_lines (after_line y l) later
 
--- A move under the table in force, with its point and its next point, if there is one; or the next table, which is due, with its answer.
+-- A move under the table in force, from the point of the train to its next point, if there is one; or the next table, which is due, with its answer.
 abbrev pub IsLine : List Offer → Yard → Line → Type 0
 IsLine tables y (MoveLine i from to) =
     let T = in_force tables y in
@@ -76,7 +76,7 @@ end_text moves tables = codes "end moves=" ++ decimal moves ++ codes " tables=" 
 abbrev pub text : Names → Journal → List ℕ
 text N J = lines_text N 1 J.lines ++ end_text J.moves J.tables
 
--- Train i is the first after the last one, counted round, that has a move.
+-- Counted round from behind the last mover, no train before train i has a move.
 pub record IsNextMover (T : Table) (p : List ℕ) (last i : ℕ) : Type 0 where
   pub steps : ℕ
   pub in_round : steps < trains T

@@ -25,7 +25,7 @@ point_names L = map (λ q. q.name) L.points
 abbrev pub zone : Layout → ℕ → ℕ
 zone L q = (slice_index_or L.points q (record { name = []; zone = 0 })).zone
 
--- the zone that counts for a section
+-- the zone that a section belongs to
 abbrev pub home : Layout → ℕ → ℕ
 home L s = s % L.zones
 

@@ -11,12 +11,12 @@ is_name_byte c = (nat_le 48 c && nat_le c 57) || ((nat_le 65 c && nat_le c 90) |
 abbrev pub is_name : List ℕ → Bool
 is_name text = nat_lt 0 (length text) && nat_le (length text) 16 && list_all is_name_byte text
 
--- the first place with the name of a place, if it stands before that place; behind it the place
+-- the pair of the first earlier place with the name of place `second`, if there is one, and `second` itself
 abbrev pub double_at : List (List ℕ) → ℕ → Option (ℕ × ℕ)
 double_at names second =
     option_map (λ first. (first, second)) (position (bytes_eq (slice_index_or names second [])) (take second names))
 
--- the least place whose name an earlier place has, behind that earlier place
+-- the least place whose name an earlier place has, as the second of a pair with that earlier place
 abbrev pub first_double : List (List ℕ) → Option (ℕ × ℕ)
 first_double names = first_below (length names) (double_at names)
 

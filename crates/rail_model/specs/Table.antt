@@ -74,7 +74,7 @@ pub record AreMissions (missions : List Mission) : Type 0 where
   pub few : length missions ≤ 32
   pub each : (i : ℕ) → i < length missions → IsMission (slice_index_or missions i (record { points = []; exits = false }))
 
--- One change per train and place, so that each share is 0 to 4.
+-- A limit up to 128, and one change per train and place, so that each share is 0 to 4.
 pub record IsSection (T : Table) (s : ℕ) : Type 0 where
   pub low_limit : limit T s ≤ 128
   pub one_each : length (section T s).changes ≡ trains T

@@ -148,7 +148,7 @@ pub fn zone_of(layout: &Layout, point: u32) -> u32
     layout.points[point as usize].zone()
 }
 
-/// The zone that counts for a section.
+/// The zone that a section belongs to.
 pub fn home_of(layout: &Layout, section: u32) -> u32
     ensures home { result ≡ home layout.now section }
     ensures formed { IsLayout layout.now }
