@@ -1,34 +1,24 @@
--- Worked rows: the definitions computed on small tables.
-use Rattle.std.proofs.Common.{◌≡◌, ◌∷◌, [], pos, negsuc, true, false, Some, None, refl, lit<}
-use Rattle.std.specs.Prelude.{codes, List, ℕ}
+-- Worked examples of the definitions on small tables, called rows: a value, what a definition says of it, and the checker's computation.
+use Rattle.std.proofs.Common.{◌≡◌, ◌∷◌, [], pos, true, false, Some, None, refl, lit<}
+use Rattle.std.specs.Prelude.{codes}
 use Rattle.std.specs.List.{list_all}
 use Rattle.std.proofs.lemmas.Fmt.{decimal_digit}
 use Rattle.rail_model.specs.declared.types.Node.TheVariants.{Split, Clash, Overfull, Arrived, Move}
 use Rattle.rail_model.specs.declared.types.Ask.TheVariants.{Yes, Arrived as AtEnd, Occupied, Full, Waits}
 use Rattle.rail_model.specs.declared.types.Tried.TheVariants.{Exchanged, Differs, Over}
-use Rattle.rail_model.specs.declared.types.Reply.TheVariants.{Driver, Control}
-use Rattle.rail_model.specs.declared.types.Entry.{Entry}
 use Rattle.rail_model.specs.declared.types.Line.TheVariants.{Move as MoveLine, KeptOver}
-use Rattle.rail_model.specs.Table.{Table, share, count, last, point}
+use Rattle.rail_model.specs.Table.{share, count, last, point}
 use Rattle.rail_model.specs.State.{remaining}
 use Rattle.rail_model.specs.Move.{IsHeldBy}
-use Rattle.rail_model.specs.Certificate.{Tree, split, move, arrived, clash, preorder, full_box, range, visits, least_share, greatest_share, most_with}
+use Rattle.rail_model.specs.Certificate.{preorder, full_box, range, visits, least_share, greatest_share, most_with}
 use Rattle.rail_model.specs.Checks.{is_good, ask, admitted, is_due}
-use Rattle.rail_model.specs.Yard.{Offer, opening, after}
+use Rattle.rail_model.specs.Yard.{opening, after}
 use Rattle.rail_model.specs.Lines.{journal_of}
 use Rattle.rail_model.specs.Layout.{home}
 use Rattle.rail_model.specs.Times.{time}
 use Rattle.rail_model.specs.Naming.{is_name, first_double}
-use Rattle.rail_model.specs.Names.{Names}
 use Rattle.rail_model.specs.Journal.{text}
-
--- the corridor A M N B against C N M D, with a section
-abbrev corridor : Table
-corridor = record {
-  missions = record { points = 0 ∷ 1 ∷ 2 ∷ 3 ∷ []; exits = false } ∷ record { points = 4 ∷ 2 ∷ 1 ∷ 5 ∷ []; exits = false } ∷ [];
-  sections = record { limit = 1; changes = (pos 0 ∷ pos 1 ∷ pos 0 ∷ negsuc 0 ∷ []) ∷ (pos 0 ∷ pos 1 ∷ pos 0 ∷ negsuc 0 ∷ []) ∷ [] } ∷ [];
-  connections = [];
-}
+use Rattle.rail_model.proofs.Samples.{corridor, leaving, names, waiting, tree, loop, loop_tree, shut_corridor, one_train, offered, history}
 
 share_inside : share corridor 0 0 2 ≡ pos 1
 share_inside = refl
@@ -45,14 +35,6 @@ count_of_two = refl
 six_remain : remaining corridor (0 ∷ 0 ∷ []) ≡ 6
 six_remain = refl
 
--- two trains that leave the layout behind B
-abbrev leaving : Table
-leaving = record {
-  missions = record { points = 0 ∷ 1 ∷ []; exits = true } ∷ record { points = 2 ∷ 1 ∷ []; exits = true } ∷ [];
-  sections = [];
-  connections = [];
-}
-
 exit_place : last leaving 0 ≡ 2
 exit_place = refl
 
@@ -68,42 +50,15 @@ four_remain = refl
 full_range : range (full_box leaving) 1 ≡ record { lo = 0; hi = 2 }
 full_range = refl
 
-abbrev names : Names
-names = record { points = codes "A" ∷ codes "B" ∷ codes "C" ∷ []; trains = codes "T0" ∷ codes "T1" ∷ [] }
-
 printed : text names (record { lines = MoveLine 0 0 (Some 1) ∷ MoveLine 0 1 None ∷ []; moves = 2; tables = 0 })
     ≡ codes "1 move T0 A B\n2 move T0 B -\nend moves=2 tables=0\n"
 printed = rw (decimal_digit 1 (lit< tt), decimal_digit 2 (lit< tt), decimal_digit 0 (lit< tt)) refl
 
--- T0 may leave A only when T1 has reached D
-abbrev waiting : Table
-waiting = record {
-  missions = record { points = 0 ∷ 1 ∷ []; exits = false } ∷ record { points = 2 ∷ 3 ∷ []; exits = false } ∷ [];
-  sections = [];
-  connections = record { train = 0; place = 0; other = 1; reached = 1 } ∷ [];
-}
-
 held : IsHeldBy waiting (0 ∷ 0 ∷ []) 0 0
 held = (record { train = 0; place = 0; other = 1; reached = 1 }, refl, refl, refl, lit< tt)
 
-abbrev tree : Tree
-tree = split 0 0 (split 1 0 (move 1) (move 0)) (split 1 0 (move 1) arrived)
-
 spelled : preorder tree ≡ Split 0 0 ∷ Split 1 0 ∷ Move 1 ∷ Move 0 ∷ Split 1 0 ∷ Move 1 ∷ Arrived ∷ []
 spelled = refl
-
--- the passing loop: W L1 E against E L2 W
-abbrev loop : Table
-loop = record {
-  missions = record { points = 0 ∷ 1 ∷ 2 ∷ []; exits = false } ∷ record { points = 2 ∷ 3 ∷ 0 ∷ []; exits = false } ∷ [];
-  sections = [];
-  connections = [];
-}
-
-abbrev loop_tree : Tree
-loop_tree =
-    split 0 0 (move 0)
-    (split 1 0 (split 0 1 (move 1) (clash 0 1)) (split 0 1 (move 0) (split 1 1 (move 1) arrived)))
 
 loop_spelled : preorder loop_tree
     ≡ Split 0 0 ∷ Move 0 ∷ Split 1 0 ∷ Split 0 1 ∷ Move 1 ∷ Clash 0 1 ∷ Split 0 1 ∷ Move 0 ∷ Split 1 1 ∷ Move 1 ∷ Arrived ∷ []
@@ -133,18 +88,11 @@ asked_arrived = refl
 asked_waits : ask waiting (0 ∷ 0 ∷ []) 0 ≡ Waits 0
 asked_waits = refl
 
--- a section of the corridor that nothing fits
-abbrev shut_corridor : Table
-shut_corridor = record corridor { sections = record { limit = 0; changes = (pos 1 ∷ pos 0 ∷ pos 0 ∷ pos 0 ∷ []) ∷ (pos 0 ∷ pos 0 ∷ pos 0 ∷ pos 0 ∷ []) ∷ [] } ∷ [] }
-
 kept_over : admitted corridor shut_corridor (1 ∷ 0 ∷ []) ≡ Over 0 1
 kept_over = refl
 
 shut_node : is_good shut_corridor (full_box shut_corridor) (Overfull 0) ≡ true
 shut_node = refl
-
-abbrev one_train : List ℕ → Table
-one_train points = record { missions = record { points = points; exits = false } ∷ []; sections = []; connections = [] }
 
 -- A B A C against A D A C, behind two moves
 kept_differs : admitted (one_train (0 ∷ 1 ∷ 0 ∷ 2 ∷ [])) (one_train (0 ∷ 3 ∷ 0 ∷ 2 ∷ [])) (2 ∷ []) ≡ Differs 0 1
@@ -162,14 +110,6 @@ due_by_arrival = refl
 
 not_yet_due : is_due (one_train (0 ∷ 1 ∷ 2 ∷ [])) (1 ∷ []) 1 2 ≡ false
 not_yet_due = refl
-
--- the history of one train: a move, a table that is kept out, a question too many; and its journal
-abbrev offered : List Offer
-offered = record { table = corridor; after = 0 } ∷ record { table = shut_corridor; after = 1 } ∷ []
-
-abbrev history : List Entry
-history =
-    record { who = 0; reply = Driver Yes } ∷ record { who = 32; reply = Control (Over 0 1) } ∷ record { who = 1; reply = Driver (Full 0 1) } ∷ []
 
 after_history : after (opening (0 ∷ 0 ∷ [])) history ≡ record { positions = 1 ∷ 0 ∷ []; table = 0; tried = 1; moves = 1 }
 after_history = refl

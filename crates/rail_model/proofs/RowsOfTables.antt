@@ -1,0 +1,101 @@
+-- Rows of what sections, connections, times, layouts and names keep.
+use Rattle.std.proofs.Common.{◌≡◌, ◌≢◌, ℕ, zero, suc, ◌<◌, ◌≤◌, List, [], ◌∷◌, length, Some, refl, subst, arith, lit<, lit≤, inr}
+use Rattle.std.specs.Prelude.{codes, slice_get, slice_index_or}
+use Rattle.rail_model.specs.Table.{Table, IsConnection, last}
+use Rattle.rail_model.specs.Times.{AreTimes}
+use Rattle.rail_model.specs.Names.{AreNames}
+use Rattle.rail_model.specs.Layout.{Layout, Link, AreLinked, IsLayout, zone}
+use Rattle.rail_model.specs.Naming.{IsFirstDouble}
+use Rattle.rail_model.proofs.NameTests.{are_names, first_double-some}
+use Rattle.rail_model.proofs.Samples.{waiting, one_train}
+
+connected : IsConnection waiting (record { train = 0; place = 0; other = 1; reached = 1 })
+connected = record { train = lit< tt; other = lit< tt; two = λ e. cc; place = lit< tt; reached = lit≤ tt }
+
+-- no train waits at its last place
+not_connected : IsConnection waiting (record { train = 0; place = 1; other = 1; reached = 0 }) → ⊥
+not_connected h = omega (arith, h.place)
+
+abbrev from_A_to_C : Table
+from_A_to_C = one_train (0 ∷ 1 ∷ 2 ∷ [])
+
+abbrev ticks : List (List ℕ)
+ticks = (7 ∷ 9 ∷ []) ∷ []
+
+timed : AreTimes from_A_to_C ticks
+timed = record { one_each = refl; per_step = per_step; not_below = not_below; not_above = not_above }
+  where
+    per_step : (i : ℕ) → i < 1 → length (slice_index_or ticks i []) ≡ last from_A_to_C i
+    per_step zero lt = refl
+    per_step (suc i) lt = absurd (omega (arith, lt))
+
+    not_below : (i k : ℕ) → i < 1 → k < last from_A_to_C i → 1 ≤ slice_index_or (slice_index_or ticks i []) k 1
+    not_below zero zero lt within = lit≤ tt
+    not_below zero (suc zero) lt within = lit≤ tt
+    not_below zero (suc (suc k)) lt within = absurd (omega (arith, within))
+    not_below (suc i) k lt within = absurd (omega (arith, lt))
+
+    not_above : (i k : ℕ) → i < 1 → k < last from_A_to_C i → slice_index_or (slice_index_or ticks i []) k 1 ≤ 1000
+    not_above zero zero lt within = lit≤ tt
+    not_above zero (suc zero) lt within = lit≤ tt
+    not_above zero (suc (suc k)) lt within = absurd (omega (arith, within))
+    not_above (suc i) k lt within = absurd (omega (arith, lt))
+
+-- a step in no time
+not_timed : AreTimes from_A_to_C ((7 ∷ 0 ∷ []) ∷ []) → ⊥
+not_timed h = omega (arith, h.not_below 0 1 (lit< tt) (lit< tt))
+
+-- A in the second zone, linked to B in the first
+abbrev two_points : Layout
+two_points = record {
+  points = record { name = codes "A"; zone = 1 } ∷ record { name = codes "B"; zone = 0 } ∷ [];
+  links = record { first = 0; second = 1 } ∷ [];
+  zones = 2;
+}
+
+linked_back : AreLinked two_points 1 0
+linked_back = inr (0, lit< tt, refl)
+
+named : AreNames (codes "A" ∷ codes "B" ∷ [])
+named = are_names (codes "A" ∷ codes "B" ∷ []) refl refl
+
+laid_out : IsLayout two_points
+laid_out = record {
+  few_points = lit≤ tt;
+  few_links = lit≤ tt;
+  some_zone = lit≤ tt;
+  few_zones = lit≤ tt;
+  named = named;
+  zoned = zoned;
+  used = used;
+  joined = joined;
+}
+  where
+    zoned : (q : ℕ) → q < 2 → zone two_points q < 2
+    zoned zero lt = lit< tt
+    zoned (suc zero) lt = lit< tt
+    zoned (suc (suc q)) lt = absurd (omega (arith, lt))
+
+    used : (z : ℕ) → z < 2 → (q : ℕ) × (q < 2) × (zone two_points q ≡ z)
+    used zero lt = (1, lit< tt, refl)
+    used (suc zero) lt = (0, lit< tt, refl)
+    used (suc (suc z)) lt = absurd (omega (arith, lt))
+
+    joined : (k : ℕ) (link : Link) → slice_get two_points.links k ≡ Some link → (link.first < 2) × (link.second < 2) × (link.first ≢ link.second)
+    joined zero link there =
+        let same : record { first = 0; second = 1 } ≡ link = cc in
+        subst (λ (l : Link). (l.first < 2) × (l.second < 2) × (l.first ≢ l.second)) same (lit< tt, lit< tt, λ e. cc)
+    joined (suc k) link there = absurd cc
+
+-- a third zone would have no point
+not_laid_out : IsLayout (record two_points { zones = 3 }) → ⊥
+not_laid_out h = let w = h.used 2 (lit< tt) in none w.0 w.1 w.2
+  where
+    none : (q : ℕ) → q < 2 → zone two_points q ≡ 2 → ⊥
+    none zero lt e = cc
+    none (suc zero) lt e = cc
+    none (suc (suc q)) lt e = omega (arith, lt)
+
+-- the third name is the first one again
+doubled : IsFirstDouble (codes "A" ∷ codes "B" ∷ codes "A" ∷ []) 0 2
+doubled = first_double-some (codes "A" ∷ codes "B" ∷ codes "A" ∷ []) 0 2 refl
