@@ -57,6 +57,13 @@ impl Mission {
     {
         self.points.get(place as usize).copied()
     }
+
+    /// The points in order, by value.
+    pub fn into_points(self) -> Vec<u32>
+        ensures { result.items ≡ self.points }
+    {
+        self.points
+    }
 }
 
 /// One mission per train: at most 32, each with some point and at most 128 places.
@@ -111,6 +118,13 @@ impl Missions {
         ensures { result.now ≡ slice_index_or self.now train (record { points = []; exits = false }) }
     {
         &self.items[train as usize]
+    }
+
+    /// The missions in order, by value.
+    pub fn into_vec(self) -> Vec<Mission>
+        ensures { result.items ≡ self }
+    {
+        self.items
     }
 }
 
@@ -177,6 +191,13 @@ impl State {
     {
         self.positions[train as usize] += 1;
     }
+
+    /// The positions in order, by value.
+    pub fn into_vec(self) -> Vec<u32>
+        ensures { result.items ≡ self }
+    {
+        self.positions
+    }
 }
 
 /// The changes of one train's share, one per place.
@@ -224,6 +245,13 @@ impl Changes {
     {
         self.items[place as usize]
     }
+
+    /// The changes in order, by value.
+    pub fn into_vec(self) -> Vec<i32>
+        ensures { result.items ≡ self }
+    {
+        self.items
+    }
 }
 
 /// The nodes of a certificate.
@@ -251,5 +279,12 @@ impl Nodes {
         ensures { result.now ≡ self.now }
     {
         &self.items
+    }
+
+    /// The nodes in order, by value.
+    pub fn into_vec(self) -> Vec<Node>
+        ensures { result.items ≡ self }
+    {
+        self.items
     }
 }

@@ -30,6 +30,13 @@ impl TrainTimes {
     {
         &self.steps
     }
+
+    /// The times in order, by value.
+    pub fn into_vec(self) -> Vec<u32>
+        ensures { result.items ≡ self }
+    {
+        self.steps
+    }
 }
 
 /// The times of all trains under one table.
@@ -57,6 +64,13 @@ impl TableTimes {
         ensures { result.now ≡ self.now }
     {
         &self.trains
+    }
+
+    /// The trains' times in order, by value.
+    pub fn into_vec(self) -> Vec<TrainTimes>
+        ensures { result.items ≡ self }
+    {
+        self.trains
     }
 }
 
@@ -95,5 +109,12 @@ impl Times {
         ensures { result ≡ time self.now table train place }
     {
         self.tables[table as usize].as_slice()[train as usize].as_slice()[place as usize]
+    }
+
+    /// The tables' times in order, by value.
+    pub fn into_vec(self) -> Vec<TableTimes>
+        ensures { result.items ≡ self }
+    {
+        self.tables
     }
 }
