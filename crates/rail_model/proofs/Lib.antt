@@ -23,6 +23,7 @@ pub mod RowsOfJournals
 pub mod RowsOfMoves
 pub mod RowsOfRefusals
 pub mod RowsOfTables
+pub mod RowsOfYards
 pub mod Samples
 pub mod Shares
 pub mod Sound

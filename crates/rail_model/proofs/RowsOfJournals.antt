@@ -1,89 +1,18 @@
--- Rows of a yard with three tables: its history and its journal.
-use Rattle.std.proofs.Common.{◌≡◌, ℕ, zero, suc, ◌+◌, ◌<◌, List, [], ◌∷◌, ℤ, pos, ◌≤ℤ◌, true, Some, refl, arith, lit<, lit≤, inl, inr}
+-- Rows of the journal of a yard with three tables.
+use Rattle.std.proofs.Common.{◌≡◌, ℕ, zero, suc, ◌+◌, ◌<◌, List, [], ◌∷◌, Some, refl, arith, lit<}
 use Rattle.std.specs.Prelude.{codes, ◌%◌}
 use Rattle.std.proofs.lemmas.Bool.Decides.{not_from_Decides}
-use Rattle.std.proofs.lemmas.Int.{ints}
 use Rattle.std.proofs.lemmas.Fmt.{decimal_digit}
-use Rattle.rail_model.specs.declared.types.Ask.TheVariants.{Yes, Arrived as AtEnd}
-use Rattle.rail_model.specs.declared.types.Tried.TheVariants.{Exchanged, Differs, Early, NoMore}
-use Rattle.rail_model.specs.declared.types.Reply.TheVariants.{Driver, Control}
-use Rattle.rail_model.specs.declared.types.Entry.{Entry}
 use Rattle.rail_model.specs.declared.types.Line.{Line}
 use Rattle.rail_model.specs.declared.types.Line.TheVariants.{Move as MoveLine, Table as TableLine, KeptDiffers, KeptOver}
 use Rattle.rail_model.specs.Move.{Move, advance}
-use Rattle.rail_model.specs.Yard.{Yard, opening, in_force, IsNextDue, Tries, IsHistory}
-use Rattle.rail_model.specs.Journal.{Journal, IsRight, IsDone, IsWhole, IsNextMover, IsRound, after_lines, text}
+use Rattle.rail_model.specs.Yard.{in_force}
+use Rattle.rail_model.specs.Journal.{Journal, IsLine, IsRight, IsDone, IsWhole, IsNextMover, IsRound, after_lines, text}
 use Rattle.rail_model.specs.Lines.{journal_of}
-use Rattle.rail_model.proofs.MoveTests.{is_move, Decides-move}
+use Rattle.rail_model.proofs.MoveTests.{Decides-move}
 use Rattle.rail_model.proofs.StateTests.{Decides-arrived, due}
-use Rattle.rail_model.proofs.Told.{told}
-use Rattle.rail_model.proofs.Samples.{names, two_trains, three_tables}
-
-abbrev opened : Yard
-opened = opening (0 ∷ 0 ∷ [])
-
--- behind T0's move, behind the answer to the second table, and behind T1's move
-abbrev one_moved : Yard
-one_moved = record { positions = 1 ∷ 0 ∷ []; table = 0; tried = 0; moves = 1 }
-
-abbrev one_kept_out : Yard
-one_kept_out = record { positions = 1 ∷ 0 ∷ []; table = 0; tried = 1; moves = 1 }
-
-abbrev both_moved : Yard
-both_moved = record { positions = 1 ∷ 1 ∷ []; table = 0; tried = 1; moves = 2 }
-
--- behind the exchange, and at the end
-abbrev one_exchanged : Yard
-one_exchanged = record { positions = 1 ∷ 1 ∷ []; table = 2; tried = 2; moves = 2 }
-
-abbrev ended : Yard
-ended = record { positions = 1 ∷ 2 ∷ []; table = 2; tried = 2; moves = 3 }
-
-not_below : (z : ℤ) → z ≡ pos 0 → pos 0 ≤ℤ z
-not_below z e = omega (arith, ints)
-
-moves : (y : Yard) (i : ℕ) → is_move (in_force three_tables y) y.positions i ≡ true → Move (in_force three_tables y) y.positions i (advance y.positions i)
-moves y i h = (Decides-move (in_force three_tables y) y.positions i).0 h
-
-too_early : Tries three_tables opened (Early 0)
-too_early = (lit< tt, refl, λ d. not_from_Decides _ (due (two_trains (0 ∷ 1 ∷ []) (2 ∷ 3 ∷ [])) (0 ∷ 0 ∷ []) 0 1) refl d.1)
-
-due_by_moves : IsNextDue three_tables one_moved
-due_by_moves = (lit< tt, inl (lit≤ tt))
-
-due_by_arrival : IsNextDue three_tables both_moved
-due_by_arrival = (lit< tt, inr ((Decides-arrived (in_force three_tables both_moved) (1 ∷ 1 ∷ [])).0 refl))
-
--- the second table has E where T0 has been to B
-differs : Tries three_tables one_moved (Differs 0 1)
-differs = (due_by_moves, told (two_trains (0 ∷ 1 ∷ []) (2 ∷ 3 ∷ [])) (two_trains (0 ∷ 4 ∷ []) (2 ∷ 3 ∷ [])) (1 ∷ 0 ∷ []) (λ s. not_below _ refl))
-
-takes_over : Tries three_tables both_moved Exchanged
-takes_over = (due_by_arrival, told (two_trains (0 ∷ 1 ∷ []) (2 ∷ 3 ∷ [])) (two_trains (0 ∷ 1 ∷ []) (2 ∷ 3 ∷ 5 ∷ [])) (1 ∷ 1 ∷ []) (λ s. not_below _ refl))
-
-no_more : Tries three_tables one_exchanged NoMore
-no_more = lit≤ tt
-
-abbrev history : List Entry
-history =
-    record { who = 32; reply = Control (Early 0) } ∷ record { who = 0; reply = Driver Yes } ∷ record { who = 0; reply = Driver AtEnd }
-    ∷ record { who = 32; reply = Control (Differs 0 1) } ∷ record { who = 1; reply = Driver Yes } ∷ record { who = 32; reply = Control Exchanged }
-    ∷ record { who = 1; reply = Driver Yes } ∷ []
-
-answered : IsHistory three_tables opened history
-answered = (
-  (refl, lit< tt, too_early),
-  (
-    (lit< tt, moves opened 0 refl),
-    (
-      (lit< tt, refl),
-      (
-        (refl, lit< tt, differs),
-        ((lit< tt, moves one_kept_out 1 refl), ((refl, lit< tt, takes_over), ((lit< tt, moves one_exchanged 1 refl), tt))),
-      ),
-    ),
-  ),
-)
+use Rattle.rail_model.proofs.Samples.{names, three_tables, offered}
+use Rattle.rail_model.proofs.RowsOfYards.{opened, one_moved, one_kept_out, one_exchanged, ended, history, moves, too_early, differs, takes_over, over}
 
 abbrev lines : List Line
 lines = MoveLine 0 0 (Some 1) ∷ KeptDiffers 1 0 1 ∷ MoveLine 1 2 (Some 3) ∷ TableLine 2 ∷ MoveLine 1 3 (Some 5) ∷ []
@@ -102,6 +31,9 @@ right = (
     ((moves one_kept_out 1 refl, refl, refl), ((refl, takes_over), ((moves one_exchanged 1 refl, refl, refl), tt))),
   ),
 )
+
+kept_over : IsLine offered one_moved (KeptOver 1 0 1)
+kept_over = (refl, over)
 
 done : IsDone three_tables ended
 done = ((Decides-arrived (in_force three_tables ended) (1 ∷ 2 ∷ [])).0 refl, λ e. omega (arith, e))

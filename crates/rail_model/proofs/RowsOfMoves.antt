@@ -1,11 +1,9 @@
 -- Rows of states, moves and runs.
-use Rattle.std.proofs.Common.{[], ◌∷◌, refl, lit<}
+use Rattle.std.proofs.Common.{[], ◌∷◌, refl}
 use Rattle.std.proofs.lemmas.Bool.Decides.{not_from_Decides}
-use Rattle.rail_model.specs.declared.types.Ask.TheVariants.{Occupied}
 use Rattle.rail_model.specs.State.{Legal}
 use Rattle.rail_model.specs.Move.{Run, NoMove, Stuck, Live, Completes}
 use Rattle.rail_model.specs.Certificate.{Accepts}
-use Rattle.rail_model.specs.Yard.{StopsAfter}
 use Rattle.rail_model.proofs.Live.{completes}
 use Rattle.rail_model.proofs.Sound.{live}
 use Rattle.rail_model.proofs.TreeTests.{accepted}
@@ -52,7 +50,3 @@ loop_live = live loop loop_tree loop_accepted
 
 loop_completes : Completes loop (0 ∷ 1 ∷ [])
 loop_completes = completes loop (0 ∷ 1 ∷ []) loop_live ((Decides-legal loop (0 ∷ 1 ∷ [])).0 refl)
-
--- T0 makes one step of its block, and T1 is at N
-stopped : StopsAfter open_corridor (0 ∷ 1 ∷ []) 0 1 (Occupied 1)
-stopped = (lit< tt, lit< tt, lit< tt, run open_corridor (0 ∷ 1 ∷ []) (0 ∷ []) refl, (lit< tt, (lit< tt, (λ e. cc), (2, refl, refl))), (λ e. cc))
