@@ -1,17 +1,17 @@
 -- Rows of the journal of a yard with three tables.
-use Rattle.std.proofs.Common.{◌≡◌, ℕ, zero, suc, ◌+◌, ◌<◌, List, [], ◌∷◌, Some, refl, arith, lit<}
+use Rattle.std.proofs.Common.{◌≡◌, ℕ, zero, suc, ◌+◌, ◌<◌, List, [], ◌∷◌, Some, None, refl, arith, lit<}
 use Rattle.std.specs.Prelude.{codes, ◌%◌}
 use Rattle.std.proofs.lemmas.Bool.Decides.{not_from_Decides}
 use Rattle.std.proofs.lemmas.Fmt.{decimal_digit}
 use Rattle.rail_model.specs.declared.types.Line.{Line}
 use Rattle.rail_model.specs.declared.types.Line.TheVariants.{Move as MoveLine, Table as TableLine, KeptDiffers, KeptOver}
 use Rattle.rail_model.specs.Move.{Move, advance}
-use Rattle.rail_model.specs.Yard.{in_force}
+use Rattle.rail_model.specs.Yard.{in_force, opening}
 use Rattle.rail_model.specs.Journal.{Journal, IsLine, IsRight, IsDone, IsWhole, IsNextMover, IsRound, after_lines, text}
 use Rattle.rail_model.specs.Lines.{journal_of}
 use Rattle.rail_model.proofs.MoveTests.{Decides-move}
 use Rattle.rail_model.proofs.StateTests.{Decides-arrived, due}
-use Rattle.rail_model.proofs.Samples.{names, three_tables, offered}
+use Rattle.rail_model.proofs.Samples.{names, three_tables, offered, leaving}
 use Rattle.rail_model.proofs.RowsOfYards.{opened, one_moved, one_kept_out, one_exchanged, ended, history, moves, too_early, differs, takes_over, over}
 
 abbrev lines : List Line
@@ -34,6 +34,10 @@ right = (
 
 kept_over : IsLine offered one_moved (KeptOver 1 0 1)
 kept_over = (refl, over)
+
+-- T1 leaves the layout behind B
+exit_line : IsLine (record { table = leaving; after = 0 } ∷ []) (opening (0 ∷ 1 ∷ [])) (MoveLine 1 1 None)
+exit_line = ((Decides-move leaving (0 ∷ 1 ∷ []) 1).0 refl, refl, refl)
 
 done : IsDone three_tables ended
 done = ((Decides-arrived (in_force three_tables ended) (1 ∷ 2 ∷ [])).0 refl, λ e. omega (arith, e))

@@ -1,5 +1,5 @@
 -- Rows of certificates with a bad node, one for each cause.
-use Rattle.std.proofs.Common.{◌≡◌, ℕ, pos, List, [], ◌∷◌, ◌++◌, length, true, false, refl, ap, arith, lit<, lit≤, inr}
+use Rattle.std.proofs.Common.{◌≡◌, ℕ, List, [], ◌∷◌, ◌++◌, length, true, false, refl, ap, arith, lit<, lit≤, inr}
 use Rattle.std.specs.List.{list_any}
 use Rattle.std.proofs.lemmas.Bool.Decides.{not_from_Decides}
 use Rattle.std.proofs.lemmas.Int.{ints}
@@ -13,17 +13,7 @@ use Rattle.rail_model.proofs.Agree.{Decides-at_end, Decides-clash, Decides-any_b
 use Rattle.rail_model.proofs.BoxTests.{block, full, held}
 use Rattle.rail_model.proofs.TreeTests.{all_pass}
 use Rattle.rail_model.proofs.Visits.{Visit}
-use Rattle.rail_model.proofs.Samples.{corridor, loop, waiting}
-
--- A B C beside D E, with a section that is always empty and one for four
-abbrev beside : Table
-beside = record {
-  missions = record { points = 0 ∷ 1 ∷ 2 ∷ []; exits = false } ∷ record { points = 3 ∷ 4 ∷ []; exits = false } ∷ [];
-  sections =
-      record { limit = 9; changes = (pos 0 ∷ pos 0 ∷ pos 0 ∷ []) ∷ (pos 0 ∷ pos 0 ∷ []) ∷ [] }
-      ∷ record { limit = 4; changes = (pos 0 ∷ pos 2 ∷ pos 0 ∷ []) ∷ (pos 1 ∷ pos 0 ∷ []) ∷ [] } ∷ [];
-  connections = [];
-}
+use Rattle.rail_model.proofs.Samples.{corridor, beside, loop, waiting}
 
 -- at A the first train has a move; from B on the tree stands at the other node
 abbrev tree_with : Tree → Tree

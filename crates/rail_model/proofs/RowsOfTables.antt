@@ -1,13 +1,53 @@
 -- Rows of what sections, connections, times, layouts and names keep.
-use Rattle.std.proofs.Common.{◌≡◌, ◌≢◌, ℕ, zero, suc, ◌<◌, ◌≤◌, List, [], ◌∷◌, length, Some, refl, subst, arith, lit<, lit≤, inr}
-use Rattle.std.specs.Prelude.{codes, slice_get, slice_index_or}
-use Rattle.rail_model.specs.Table.{Table, IsConnection, last}
+use Rattle.std.proofs.Common.{◌≡◌, ◌≢◌, ℕ, zero, suc, ◌+◌, ◌<◌, ◌≤◌, ℤ, pos, ◌≤ℤ◌, ◌<ℤ◌, Bool, true, not, ◌&&◌, List, [], ◌∷◌, length, Some, refl, subst, arith, lit<, lit≤, inl, inr}
+use Rattle.std.specs.Prelude.{codes, slice_get, slice_index_or, int_lt, Decides}
+use Rattle.std.specs.List.{list_all}
+use Rattle.std.proofs.lemmas.Bool.Decides.{Decides-not, Decides-and}
+use Rattle.rail_model.specs.Table.{Table, section as section_of, share, IsSection, IsConnection, last}
 use Rattle.rail_model.specs.Times.{AreTimes}
 use Rattle.rail_model.specs.Names.{AreNames}
 use Rattle.rail_model.specs.Layout.{Layout, Link, AreLinked, IsLayout, zone}
 use Rattle.rail_model.specs.Naming.{IsFirstDouble}
+use Rattle.rail_model.specs.Checks.{below}
+use Rattle.rail_model.proofs.Agree.{Decides-all_below, Decides-int_lt}
+use Rattle.rail_model.proofs.Decide.{cases_≤ℤ}
 use Rattle.rail_model.proofs.NameTests.{are_names, first_double-some}
-use Rattle.rail_model.proofs.Samples.{waiting, one_train}
+use Rattle.rail_model.proofs.Samples.{beside, waiting, one_train}
+
+-- whether numbers are 0 to 4
+abbrev are_low : (ℕ → ℤ) → ℕ → Bool
+are_low f n = list_all (λ k. not (int_lt (f k) (pos 0)) && not (int_lt (pos 4) (f k))) (below n)
+
+Decides-low : (f : ℕ → ℤ) (n : ℕ) → Decides (are_low f n) ((k : ℕ) → k < n → (f k <ℤ pos 0 → ⊥) × (pos 4 <ℤ f k → ⊥))
+Decides-low f n =
+    Decides-all_below _ (λ k. (f k <ℤ pos 0 → ⊥) × (pos 4 <ℤ f k → ⊥))
+    (λ k. Decides-and _ _ (Decides-not _ (Decides-int_lt _ _)) (Decides-not _ (Decides-int_lt _ _))) n
+
+low_from : (f : ℕ → ℤ) (n : ℕ) → are_low f n ≡ true → (k : ℕ) → k < n → (pos 0 ≤ℤ f k) × (f k ≤ℤ pos 4)
+low_from f n h k lt = let both = (Decides-low f n).0 h k lt in (not_over (f k) (pos 0) both.0, not_over (pos 4) (f k) both.1)
+  where
+    not_over : (a b : ℤ) → (a <ℤ b → ⊥) → b ≤ℤ a
+    not_over a b fails = elim (cases_≤ℤ b a) [ inl le ↦ le | inr lt ↦ absurd (fails lt) ]
+
+-- T0 has a share of 2 from its second place on, and T1 a share of 1
+section : IsSection beside 1
+section = record {
+  low_limit = lit≤ tt;
+  one_each = refl;
+  per_place = per_place;
+  not_below = λ i k lt within. (low i k lt within).0;
+  not_above = λ i k lt within. (low i k lt within).1;
+}
+  where
+    per_place : (i : ℕ) → i < 2 → length (slice_index_or (section_of beside 1).changes i []) ≡ last beside i + 1
+    per_place zero lt = refl
+    per_place (suc zero) lt = refl
+    per_place (suc (suc i)) lt = absurd (omega (arith, lt))
+
+    low : (i k : ℕ) → i < 2 → k ≤ last beside i → (pos 0 ≤ℤ share beside i 1 k) × (share beside i 1 k ≤ℤ pos 4)
+    low zero k lt within = low_from (share beside 0 1) 3 refl k (omega (arith, within))
+    low (suc zero) k lt within = low_from (share beside 1 1) 2 refl k (omega (arith, within))
+    low (suc (suc i)) k lt within = absurd (omega (arith, lt))
 
 connected : IsConnection waiting (record { train = 0; place = 0; other = 1; reached = 1 })
 connected = record { train = lit< tt; other = lit< tt; two = λ e. cc; place = lit< tt; reached = lit≤ tt }

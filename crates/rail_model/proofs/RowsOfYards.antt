@@ -81,7 +81,7 @@ answered = (
   ),
 )
 
--- the corridor, and a table that a state can never fit
+-- a table whose section has no room for T0
 pub over : Tries offered one_moved (Over 0 1)
 over = ((lit< tt, inl (lit≤ tt)), told corridor shut_corridor (1 ∷ 0 ∷ []) low)
   where

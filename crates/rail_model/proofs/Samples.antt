@@ -22,6 +22,16 @@ corridor = record {
 abbrev pub open_corridor : Table
 open_corridor = record corridor { sections = [] }
 
+-- A B C beside D E, with a section that is always empty and one for four
+abbrev pub beside : Table
+beside = record {
+  missions = record { points = 0 ∷ 1 ∷ 2 ∷ []; exits = false } ∷ record { points = 3 ∷ 4 ∷ []; exits = false } ∷ [];
+  sections =
+      record { limit = 9; changes = (pos 0 ∷ pos 0 ∷ pos 0 ∷ []) ∷ (pos 0 ∷ pos 0 ∷ []) ∷ [] }
+      ∷ record { limit = 4; changes = (pos 0 ∷ pos 2 ∷ pos 0 ∷ []) ∷ (pos 1 ∷ pos 0 ∷ []) ∷ [] } ∷ [];
+  connections = [];
+}
+
 -- two trains that leave the layout behind B
 abbrev pub leaving : Table
 leaving = record {
