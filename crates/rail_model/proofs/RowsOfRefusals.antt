@@ -1,14 +1,14 @@
 -- Rows of certificates with a bad node, one for each cause.
 use Rattle.std.proofs.Common.{◌≡◌, ℕ, List, [], ◌∷◌, ◌++◌, length, true, false, refl, ap, arith, lit<, lit≤, inr}
-use Rattle.std.specs.List.{list_any}
+use Rattle.std.specs.List.{list_any, list_all}
 use Rattle.std.proofs.lemmas.Bool.Decides.{not_from_Decides}
 use Rattle.std.proofs.lemmas.Int.{ints}
 use Rattle.rail_model.specs.declared.types.Node.TheVariants.{Split, Move}
 use Rattle.rail_model.specs.declared.types.Bad.{Bad}
 use Rattle.rail_model.specs.declared.types.Bad.TheVariants as bad
-use Rattle.rail_model.specs.Table.{Table, trains}
+use Rattle.rail_model.specs.Table.{Table, trains, last}
 use Rattle.rail_model.specs.Certificate.{Range, full_box, Tree, clash, overfull, arrived, move, split, root, visits, MayBlock, MayBeFull, Refuses, index_of, FirstBad}
-use Rattle.rail_model.specs.Checks.{below, may_block, may_be_full}
+use Rattle.rail_model.specs.Checks.{below, is_good, may_block, may_be_full}
 use Rattle.rail_model.proofs.Agree.{Decides-at_end, Decides-clash, Decides-any_below}
 use Rattle.rail_model.proofs.BoxTests.{block, full, held}
 use Rattle.rail_model.proofs.TreeTests.{all_pass}
@@ -84,37 +84,59 @@ none_is_full T B i h s m =
     not_from_Decides _ (Decides-any_below (may_be_full T B i) (λ k. may_be_full T B i k ≡ true) (λ k. (λ e. e, λ e. e)) (length T.sections)) h
     (s, m.0, (full T B i s m.0).1 m)
 
--- T0 is one place on, and T1 at its start
-abbrev one_on : List Range
-one_on = record { lo = 1; hi = 1 } ∷ record { lo = 0; hi = 0 } ∷ []
+-- T1 at its start, and T0 at the places 0 to m: there train i is to move
+abbrev move_at_start : ℕ → ℕ → Tree
+move_at_start m i = split 1 0 (split 0 m (move i) arrived) arrived
+
+abbrev at_start : ℕ → List Range
+at_start m = record { lo = 0; hi = m } ∷ record { lo = 0; hi = 0 } ∷ []
+
+-- the two splits above it
+abbrev two_splits : Table → ℕ → List Visit
+two_splits T m = (full_box T, Split 1 0) ∷ (record { lo = 0; hi = last T 0 } ∷ record { lo = 0; hi = 0 } ∷ [], Split 0 m) ∷ []
+
+first_bad_move : (T : Table) (m i : ℕ) (rest : List Visit) (fault : Bad)
+    → visits (full_box T) (move_at_start m i) ≡ two_splits T m ++ (at_start m, Move i) ∷ rest → list_all (λ v. is_good T v.0 v.1) (two_splits T m) ≡ true
+    → index_of fault ≡ 2 → Refuses T (at_start m) (Move i) fault → FirstBad T (move_at_start m i) fault
+first_bad_move T m i rest fault spelled pass index refused = record {
+  box = at_start m;
+  node = Move i;
+  front = two_splits T m;
+  rest = rest;
+  spelled = spelled;
+  index = index;
+  earlier = all_pass T (two_splits T m) pass;
+  refused = refused;
+}
 
 -- T0 at L1 wants E, where T1 is
-may_be_blocked : Refuses loop one_on (Move 0) (bad.MovePoint 7 0 1)
-may_be_blocked = (refl, lit< tt, (λ e. omega (arith, e.1, e.2)), ((block loop one_on 0 1 (lit< tt)).0 refl, λ j lt m. m.1 (omega arith)))
+may_be_blocked : FirstBad loop (move_at_start 1 0) (bad.MovePoint 2 0 1)
+may_be_blocked =
+    first_bad_move loop 1 0 _ (bad.MovePoint 2 0 1) refl refl refl
+    (refl, lit< tt, (λ e. omega (arith, e.1, e.2)), ((block loop (at_start 1) 0 1 (lit< tt)).0 refl, λ j lt m. m.1 (omega arith)))
 
--- T1 wants the corridor, where T0 is
-may_be_full_inside : Refuses corridor one_on (Move 1) (bad.MoveRoom 7 1 0)
-may_be_full_inside = (
-  refl,
-  lit< tt,
-  (λ e. omega (arith, e.1, e.2)),
-  none_blocks corridor one_on 1 refl,
-  ((full corridor one_on 1 0 (lit< tt)).0 refl, λ j lt. absurd (omega (arith, lt))),
-)
+-- T1 wants the corridor, and T0 may be there
+may_be_full_inside : FirstBad corridor (move_at_start 1 1) (bad.MoveRoom 2 1 0)
+may_be_full_inside =
+    first_bad_move corridor 1 1 _ (bad.MoveRoom 2 1 0) refl refl refl (
+      refl,
+      lit< tt,
+      (λ e. omega (arith, e.1, e.2)),
+      none_blocks corridor (at_start 1) 1 refl,
+      ((full corridor (at_start 1) 1 0 (lit< tt)).0 refl, λ j lt. absurd (omega (arith, lt))),
+    )
 
--- T1 may leave its start only when T0 is at its end, and T0 may still be at its start
+-- T1 may leave its start only when T0 is at its end
 abbrev second_waits : Table
 second_waits = record waiting { connections = record { train = 1; place = 0; other = 0; reached = 1 } ∷ [] }
 
-abbrev at_start : List Range
-at_start = record { lo = 0; hi = 1 } ∷ record { lo = 0; hi = 0 } ∷ []
-
-may_wait : Refuses second_waits at_start (Move 1) (bad.MoveWait 7 1 0)
-may_wait = (
-  refl,
-  lit< tt,
-  (λ e. omega (arith, e.1, e.2)),
-  none_blocks second_waits at_start 1 refl,
-  none_is_full second_waits at_start 1 refl,
-  ((held second_waits at_start 1 0 (record { train = 1; place = 0; other = 0; reached = 1 }) refl).0 refl, λ j lt. absurd (omega (arith, lt))),
-)
+may_wait : FirstBad second_waits (move_at_start 0 1) (bad.MoveWait 2 1 0)
+may_wait =
+    first_bad_move second_waits 0 1 _ (bad.MoveWait 2 1 0) refl refl refl (
+      refl,
+      lit< tt,
+      (λ e. omega (arith, e.1, e.2)),
+      none_blocks second_waits (at_start 0) 1 refl,
+      none_is_full second_waits (at_start 0) 1 refl,
+      ((held second_waits (at_start 0) 1 0 (record { train = 1; place = 0; other = 0; reached = 1 }) refl).0 refl, λ j lt. absurd (omega (arith, lt))),
+    )
