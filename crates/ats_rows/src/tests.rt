@@ -5,18 +5,13 @@ use std::alloc::{AllocError, Global};
 use std::test::Fail;
 use std::thread::Threads;
 
-const FIRST_PATH: &str =
-    r#"{"version":1,"points":[["A",0],["B",0],["C",0]],"links":[["A","B"],["B","C"]],"zones":1,"trains":["T0"],"start":[0],"tables":[{"missions":[["A","B","C"]],"certificate":[[0,0,1],[4,0],[3]]}]}"#;
+mod documents;
 
-// The first path with a number of zones, a version and a start that later members of the same name take the place of.
-const NAMED_TWICE: &str =
-    r#"{"zones":9,"version":7,"start":[2],"version":1,"points":[["A",0],["B",0],["C",0]],"links":[["A","B"],["B","C"]],"zones":1,"trains":["T0"],"start":[0],"tables":[{"missions":[["A","B","C"]],"certificate":[[3]],"certificate":[[0,0,1],[4,0],[3]]}]}"#;
-
-const PASSING_LOOP: &str =
-    r#"{"version":1,"points":[["W",0],["L1",0],["E",0],["L2",0]],"links":[["W","L1"],["L1","E"],["E","L2"],["L2","W"]],"zones":1,"trains":["T0","T1"],"start":[0,0],"tables":[{"missions":[["W","L1","E"],["E","L2","W"]],"certificate":[[0,0,0],[4,0],[0,1,0],[0,0,1],[4,1],[1,0,1],[0,0,1],[4,0],[0,1,1],[4,1],[3]]}]}"#;
-
-const HEAD_ON: &str =
-    r#"{"version":1,"points":[["A",0],["B",0]],"links":[["A","B"]],"zones":1,"trains":["T0","T1"],"start":[0,0],"tables":[{"missions":[["A","B"],["B","A"]]}]}"#;
+use documents::{
+    BAD_MOVE, BAD_WAIT, CONNECTED, CORRIDOR, CORRIDOR_MARKED, EXITS, FIRST_PATH, FIRST_PATH_LATER,
+    GENERATED, GOES_ON, HEAD_ON, LOOP_MADE, NAMED_TWICE, NEVER_LEGAL, ONE_NODE_MORE, PASSING_LOOP,
+    SHARES, UNMARKED_CORRIDOR,
+};
 
 const RUN: &str = "1 move T0 A B\n2 move T0 B C\nend moves=2 tables=0\n";
 
@@ -38,6 +33,15 @@ fn joined(alloc: Global, parts: &[&str]) -> Result<Vec<u8>, AllocError> {
     Ok(bytes)
 }
 
+// The words of a command line, parted by spaces.
+fn line(alloc: Global, words: &str) -> Result<Vec<String>, AllocError> {
+    let mut line = Vec::new(alloc);
+    for word in words.split_whitespace() {
+        line.push(String::from_str(alloc, word)?)?;
+    }
+    Ok(line)
+}
+
 // A call by devices that never fail.
 fn played(
     rt: &(impl Threads + Sync),
@@ -45,7 +49,12 @@ fn played(
     words: &str,
     input: &[&str],
 ) -> Result<Played, AllocError> {
-    play(rt, alloc, words, joined(alloc, input)?, SURE)
+    play(rt, alloc, &line(alloc, words)?, joined(alloc, input)?, SURE)
+}
+
+// Whether this was told, and nothing else.
+fn is_told(played: &Played, told: &str) -> bool {
+    matches!(&played.told, Some(bytes) if bytes.as_slice() == told.as_bytes())
 }
 
 #[test]
@@ -61,32 +70,13 @@ fn what_is_written_ends_well(rt: HostRuntime) -> Result<(), Fail> {
     ] {
         let played = played(&rt, alloc, words, &[input])?;
         assert_eq!(rt; code(played.status), 0, "{words}");
-        assert!(rt; played.written.as_slice() == written.as_bytes() && played.told.is_empty());
+        assert!(rt; played.written.as_slice() == written.as_bytes() && is_told(&played, ""));
     }
     Ok(())
 }
 
-const LOOP_MADE: &str =
-    r#"{"links":[["W","L1"],["L1","E"],["E","L2"],["L2","W"]],"points":[["W",0],["L1",0],["E",0],["L2",0]],"start":[0,0],"tables":[{"after":0,"certificate":[[0,0,1],[0,0,0],[4,0],[0,1,1],[4,1],[4,0],[0,1,1],[4,1],[3]],"missions":[["W","L1","E"],["E","L2","W"]],"sections":[],"times":[[1,1],[1,1]]}],"trains":["T0","T1"],"version":1,"zones":1}
-"#;
-
-const FIRST_PATH_LATER: &str =
-    r#"{"links":[["A","B"],["B","C"]],"points":[["A",0],["B",0],["C",0]],"start":[0],"tables":[{"after":0,"certificate":[[0,0,1],[4,0],[3]],"exits":[false],"missions":[["A","B","C"]],"sections":[],"times":[[1,1]]}],"trains":["T0"],"version":2,"zones":1}
-"#;
-
 const LOOP_TIMED: &str =
     "0 move T0 W L1\n0 move T1 E L2\n1 move T0 L1 E\n1 move T1 L2 W\nend moves=4 tables=0 last=1\n";
-
-const UNMARKED_CORRIDOR: &str =
-    r#"{"version":1,"points":[["A",0],["M",0],["N",0],["B",0],["C",0],["D",0]],"links":[["A","M"],["M","N"],["N","B"],["C","N"],["M","D"]],"zones":1,"trains":["T0","T1"],"start":[0,0],"tables":[{"missions":[["A","M","N","B"],["C","N","M","D"]]}]}"#;
-
-const CORRIDOR_MARKED: &str =
-    r#"{"links":[["A","M"],["M","N"],["N","B"],["C","N"],["M","D"]],"points":[["A",0],["M",0],["N",0],["B",0],["C",0],["D",0]],"start":[0,0],"tables":[{"after":0,"certificate":[[0,0,1],[0,0,0],[0,1,1],[4,1],[0,1,2],[4,1],[4,0],[0,1,1],[0,1,0],[4,0],[2,0],[4,0],[0,0,2],[4,0],[0,1,1],[4,1],[0,1,2],[4,1],[3]],"missions":[["A","M","N","B"],["C","N","M","D"]],"sections":[{"changes":[[0,1,-1,0],[0,1,-1,0]],"limit":1}],"times":[[1,1,1],[1,1,1]]}],"trains":["T0","T1"],"version":1,"zones":1}
-"#;
-
-const GENERATED: &str =
-    r#"{"links":[["P0J0","P0U0"],["P0U0","P0J1"],["P0J1","P0L0"],["P0L0","P0J0"]],"points":[["P0J0",0],["P0U0",1],["P0L0",2],["P0J1",3]],"start":[0,0],"tables":[{"after":0,"certificate":[[0,0,1],[0,0,0],[4,0],[0,1,1],[4,1],[4,0],[0,1,1],[4,1],[3]],"missions":[["P0J0","P0U0","P0J1"],["P0J1","P0L0","P0J0"]],"sections":[{"changes":[[0,1,-1],[0,1,-1]],"limit":2}],"times":[[9,1],[8,6]]}],"trains":["T0","T1"],"version":1,"zones":4}
-"#;
 
 #[test]
 fn sections_are_made_and_documents_drawn(rt: HostRuntime) -> Result<(), Fail> {
@@ -113,7 +103,7 @@ fn sections_are_made_and_documents_drawn(rt: HostRuntime) -> Result<(), Fail> {
         let played = played(&rt, alloc, words, &[input])?;
         assert_eq!(rt; code(played.status), status, "{words}");
         assert!(rt; played.written.as_slice() == written.as_bytes());
-        assert!(rt; played.told.as_slice() == told.as_bytes());
+        assert!(rt; is_told(&played, told));
     }
     Ok(())
 }
@@ -137,7 +127,7 @@ fn documents_are_made_and_runs_are_timed(rt: HostRuntime) -> Result<(), Fail> {
         let played = played(&rt, alloc, words, &[input])?;
         assert_eq!(rt; code(played.status), status, "{words}");
         assert!(rt; played.written.as_slice() == written.as_bytes());
-        assert!(rt; played.told.as_slice() == told.as_bytes());
+        assert!(rt; is_told(&played, told));
     }
     Ok(())
 }
@@ -162,7 +152,7 @@ fn a_journal_is_verified_and_gone_on_from(rt: HostRuntime) -> Result<(), Fail> {
         let played = played(&rt, alloc, words, &[PASSING_LOOP, "\njournal\n", journal])?;
         assert_eq!(rt; code(played.status), status, "{words}");
         assert!(rt; played.written.as_slice() == written.as_bytes());
-        assert!(rt; played.told.as_slice() == told.as_bytes());
+        assert!(rt; is_told(&played, told));
     }
     Ok(())
 }
@@ -180,7 +170,7 @@ fn what_is_refused_is_told(rt: HostRuntime) -> Result<(), Fail> {
     ] {
         let played = played(&rt, alloc, words, &[input])?;
         assert_eq!(rt; code(played.status), status, "{words}");
-        assert!(rt; played.written.is_empty() && played.told.as_slice() == told.as_bytes());
+        assert!(rt; played.written.is_empty() && is_told(&played, told));
     }
     Ok(())
 }
@@ -202,7 +192,8 @@ fn a_device_that_fails_ends_the_call(rt: HostRuntime) -> Result<(), Fail> {
             reads,
             writes,
         };
-        let played = play(&rt, alloc, "run", joined(alloc, &[FIRST_PATH])?, faults)?;
+        let input = joined(alloc, &[FIRST_PATH])?;
+        let played = play(&rt, alloc, &line(alloc, "run")?, input, faults)?;
         assert!(rt; played.status == status);
         assert!(rt; Some(played.written.as_slice()) == RUN.as_bytes().get(..taken));
     }
@@ -217,8 +208,99 @@ fn an_input_has_a_greatest_length(rt: HostRuntime) -> Result<(), Fail> {
         (16_777_217, "ats: 104 TooLong limit=16777216\n"),
     ] {
         let spaces = vec![in alloc; b' '; length]?;
-        let played = play(&rt, alloc, "check", spaces, SURE)?;
-        assert!(rt; played.status == Status::Refused && played.told.as_slice() == told.as_bytes());
+        let played = play(&rt, alloc, &line(alloc, "check")?, spaces, SURE)?;
+        assert!(rt; played.status == Status::Refused && is_told(&played, told));
+    }
+    Ok(())
+}
+
+#[test]
+fn tables_exits_shares_and_connections_count(rt: HostRuntime) -> Result<(), Fail> {
+    let alloc = rt.alloc();
+    for (words, input, status, written, told) in [
+        (
+            "run",
+            CORRIDOR,
+            0,
+            "1 move T0 A M\n2 move T0 M N\n3 move T0 N B\n4 move T1 C N\n5 move T1 N M\n6 move T1 M D\nend moves=6 tables=0\n",
+            "",
+        ),
+        (
+            "sim",
+            CORRIDOR,
+            0,
+            "0 move T0 A M\n1 move T0 M N\n2 move T0 N B\n2 move T1 C N\n3 move T1 N M\n4 move T1 M D\nend moves=6 tables=0 last=4\n",
+            "",
+        ),
+        (
+            "run",
+            NEVER_LEGAL,
+            0,
+            "1 move T0 A M\n2 kept 1 over 0 1\n3 move T0 M N\n4 move T0 N B\n5 move T1 C N\n6 move T1 N M\n7 move T1 M D\nend moves=6 tables=0\n",
+            "",
+        ),
+        (
+            "run",
+            GOES_ON,
+            0,
+            "1 move T0 A B\n2 move T0 B C\n3 table 1\n4 move T0 C D\nend moves=3 tables=1\n",
+            "",
+        ),
+        (
+            "run",
+            EXITS,
+            0,
+            "1 move T0 A B\n2 move T0 B -\n3 move T1 C B\n4 move T1 B -\nend moves=4 tables=0\n",
+            "",
+        ),
+        (
+            "run",
+            SHARES,
+            0,
+            "1 move T0 A M\n2 move T0 M B\n3 move T1 C N\n4 move T1 N D\nend moves=4 tables=0\n",
+            "",
+        ),
+        (
+            "run",
+            CONNECTED,
+            0,
+            "1 move T1 C D\n2 move T0 A B\nend moves=2 tables=0\n",
+            "",
+        ),
+        (
+            "check",
+            BAD_MOVE,
+            4,
+            "",
+            "ats: 56 MovePoint table=0 index=4 train=0 other=1\n",
+        ),
+        (
+            "check",
+            BAD_WAIT,
+            4,
+            "",
+            "ats: 59 MoveWait table=0 index=2 train=0 connection=0\n",
+        ),
+        (
+            "run",
+            ONE_NODE_MORE,
+            3,
+            "",
+            "ats: 42 Over table=0 used=11\n",
+        ),
+        (
+            "make",
+            UNMARKED_CORRIDOR,
+            6,
+            "",
+            "ats: 206 Stuck table=0 at=1,1\n",
+        ),
+        ("repair", CONNECTED, 3, "", "ats: 210 Connected table=0\n"),
+    ] {
+        let played = played(&rt, alloc, words, &[input])?;
+        assert_eq!(rt; code(played.status), status, "{words}");
+        assert!(rt; played.written.as_slice() == written.as_bytes());
+        assert!(rt; is_told(&played, told));
     }
     Ok(())
 }
