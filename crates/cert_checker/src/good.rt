@@ -3,7 +3,7 @@ ghost use Rattle.std.specs.Prelude.{◌<◌, ◌↔◌, IsTrue};
 ghost use Rattle.rail_model.specs.Certificate.{IsGood};
 ghost use Rattle.range_sums.specs.Sums.{AreLists, AreSums};
 
-use crate::places::clashes;
+use crate::places::{clashes, splits};
 use rail_model::{Node, Table, sections_of, trains_of};
 use range_sums::{Lists, RangeSums, first_away, is_overfull, surely_moves};
 
@@ -15,11 +15,7 @@ pub fn is_good(table: &Table, lists: &Lists, sums: &RangeSums, node: Node) -> bo
 {
     let ranges = sums.ranges();
     match node {
-        Node::Split { train, place } => {
-            train < trains_of(table)
-                && ranges.span(train).lo() <= place
-                && place < ranges.span(train).hi()
-        }
+        Node::Split { train, place } => splits(table, ranges, train, place),
         Node::Clash { first, second } => {
             first < trains_of(table)
                 && second < trains_of(table)

@@ -1,13 +1,13 @@
 // Whether a node is good in a box; else why not.
 ghost use Rattle.std.specs.Prelude.{◌≡◌, ℕ, ◌+◌, ◌<◌, ◌≤◌, length, IsTrue, ◌↔◌};
-ghost use Rattle.rail_model.specs.declared.types.Node.TheVariants.{Move as MoveNode};
+ghost use Rattle.rail_model.specs.declared.types.Node.TheVariants.{Move as MoveNode, Overfull as OverfullNode};
 ghost use Rattle.rail_model.specs.Table.{IsTable, trains, last};
 ghost use Rattle.rail_model.specs.Move.{IsFirstOrNone};
 ghost use Rattle.rail_model.specs.Certificate.{range, IsBox, MayBlock, MayBeFull, MayBeHeld};
 ghost use Rattle.range_sums.specs.Places.{IsAway};
 ghost use Rattle.cert_checker.specs.Faults.{Judges};
 
-use crate::places::{clashes, may_be_full, may_block};
+use crate::places::{clashes, may_be_full, may_block, splits};
 use crate::shares::least_count;
 use rail_model::{Bad, Node, Table, last_of, limit_of, sections_of, trains_of};
 use range_sums::{Ranges, first_away, first_holder};
@@ -41,6 +41,26 @@ fn first_full(table: &Table, ranges: &Ranges, train: u32) -> Option<u32>
     None
 }
 
+// Whether a section is overfull in a box; else why not.
+fn check_overfull(table: &Table, ranges: &Ranges, section: u32, index: u32) -> Result<(), Bad>
+    requires boxed { IsBox table.now ranges.now }
+    ensures { Judges table.now ranges.now (OverfullNode section) index result }
+{
+    if section >= sections_of(table) {
+        return Err(Bad::Name { index });
+    }
+    let least = least_count(table, ranges, section);
+    if least <= limit_of(table, section) {
+        return Err(Bad::Overfull {
+            index,
+            section,
+            least,
+        });
+    }
+    Ok(())
+}
+
+// Whether a train surely moves in a box; else why not.
 fn check_move(table: &Table, ranges: &Ranges, train: u32, index: u32) -> Result<(), Bad>
     requires boxed { IsBox table.now ranges.now }
     ensures { Judges table.now ranges.now (MoveNode train) index result }
@@ -82,10 +102,7 @@ pub fn check_node(table: &Table, ranges: &Ranges, node: Node, index: u32) -> Res
 {
     match node {
         Node::Split { train, place } => {
-            if train < trains_of(table)
-                && ranges.span(train).lo() <= place
-                && place < ranges.span(train).hi()
-            {
+            if splits(table, ranges, train, place) {
                 Ok(())
             } else {
                 Err(Bad::Split { index })
@@ -100,21 +117,7 @@ pub fn check_node(table: &Table, ranges: &Ranges, node: Node, index: u32) -> Res
                 Err(Bad::Clash { index })
             }
         }
-        Node::Overfull { section } => {
-            if section >= sections_of(table) {
-                return Err(Bad::Name { index });
-            }
-            let least = least_count(table, ranges, section);
-            if limit_of(table, section) < least {
-                Ok(())
-            } else {
-                Err(Bad::Overfull {
-                    index,
-                    section,
-                    least,
-                })
-            }
-        }
+        Node::Overfull { section } => check_overfull(table, ranges, section, index),
         Node::Arrived => match first_away(table, ranges) {
             Some(train) => Err(Bad::Arrived { index, train }),
             None => Ok(()),

@@ -6,7 +6,8 @@ ghost use Rattle.cert_checker.specs.Cut.{Visited, wanted_behind, IsEnd, IsPart, 
 ghost use Rattle.cert_checker.specs.Walked.{walked};
 
 use crate::halves::halves;
-use rail_model::{Node, Table, trains_of};
+use crate::places::splits;
+use rail_model::{Node, Table};
 use range_sums::{Ranges, full_box};
 use std::alloc::{AllocError, Global};
 
@@ -63,11 +64,7 @@ fn division(table: &Table, nodes: &[Node], part: &Part) -> Option<(u32, u32)>
     let Node::Split { train, place } = nodes[part.first] else {
         return None;
     };
-    if train >= trains_of(table) {
-        return None;
-    }
-    let span = part.ranges.span(train);
-    if span.lo() <= place && place < span.hi() {
+    if splits(table, &part.ranges, train, place) {
         Some((train, place))
     } else {
         None
@@ -125,8 +122,8 @@ fn divided(
     ensures parts { IfOk result (λ finer. All (λ p. IsPart table.now nodes.now p) finer.items) }
 {
     let mut finer = Vec::new(alloc);
-    for k in 0..parts.len() {
-        divide(alloc, table, nodes, &parts[k], &mut finer)?;
+    for part in parts {
+        divide(alloc, table, nodes, part, &mut finer)?;
     }
     Ok(finer)
 }

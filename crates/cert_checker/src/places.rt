@@ -1,12 +1,12 @@
 // Tests of a box that leaves make.
 ghost use Rattle.std.specs.Prelude.{◌≡◌, ◌≢◌, ℕ, ◌+◌, ◌<◌, ◌≤◌, Some, length, IsTrue, ◌↔◌};
 ghost use Rattle.rail_model.specs.Table.{IsTable, trains, last, point};
-ghost use Rattle.rail_model.specs.Certificate.{range, IsIn, IsBox, IsClash, MayBlock, MayBeFull};
+ghost use Rattle.rail_model.specs.Certificate.{range, IsIn, IsBox, IsSplit, IsClash, MayBlock, MayBeFull};
 ghost use Rattle.range_sums.specs.Places.{IsAhead};
 ghost use Rattle.cert_checker.specs.Places.{Passes};
 
 use crate::shares::others_count;
-use rail_model::{Table, change_at, has_point, limit_of, point_of, share_at};
+use rail_model::{Table, change_at, has_point, limit_of, point_of, share_at, trains_of};
 use range_sums::{Ranges, Span, stays_at};
 
 // Whether a train has the point at some place of a span.
@@ -22,7 +22,19 @@ fn passes(table: &Table, train: u32, span: Span, at: u32) -> bool
     false
 }
 
-// Whether two trains have one point at all places of their ranges.
+/// Whether a train is one of the table's, and a place parts its range in two.
+pub fn splits(table: &Table, ranges: &Ranges, train: u32, place: u32) -> bool
+    requires boxed { IsBox table.now ranges.now }
+    ensures { IsTrue result ↔ IsSplit table.now ranges.now train place }
+{
+    if train >= trains_of(table) {
+        return false;
+    }
+    let span = ranges.span(train);
+    span.lo() <= place && place < span.hi()
+}
+
+/// Whether two trains have one point at all places of their ranges.
 pub fn clashes(table: &Table, ranges: &Ranges, first: u32, second: u32) -> bool
     requires boxed { IsBox table.now ranges.now }
     requires first { first < trains table.now }
@@ -56,7 +68,7 @@ fn is_ahead(table: &Table, ranges: &Ranges, train: u32, other: u32, place: u32) 
     }
 }
 
-// Whether another train may stand at a train's next point.
+/// Whether another train may stand at a train's next point.
 pub fn may_block(table: &Table, ranges: &Ranges, train: u32, other: u32) -> bool
     requires formed { IsTable table.now }
     requires boxed { IsBox table.now ranges.now }
@@ -76,7 +88,7 @@ pub fn may_block(table: &Table, ranges: &Ranges, train: u32, other: u32) -> bool
     false
 }
 
-// Whether a section may have no room for a train's move.
+/// Whether a section may have no room for a train's move.
 pub fn may_be_full(table: &Table, ranges: &Ranges, train: u32, section: u32) -> bool
     requires boxed { IsBox table.now ranges.now }
     requires train { train < trains table.now }

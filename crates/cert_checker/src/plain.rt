@@ -45,11 +45,10 @@ pub fn check_plain(alloc: Global, table: &Table, cert: &Cert) -> Result<(), Chec
     let nodes = cert.as_slice();
     let mut stack = Vec::new(alloc);
     stack.push(full_box(alloc, table)?)?;
-    for index in 0..nodes.len() {
+    for (index, &node) in nodes.iter().enumerate() {
         let Some(ranges) = stack.pop() else {
             unreachable!()
         };
-        let node = nodes[index];
         match check_node(table, &ranges, node, index as u32) {
             Ok(()) => {}
             Err(bad) => return Err(CheckFault::Bad(bad)),

@@ -3,8 +3,8 @@ use Rattle.std.specs.Prelude.{All}
 use Rattle.cert_checker.specs.Cut.{IsCut, IsPart, Visited}
 use Rattle.cert_checker.proofs.parts.divided.Given as goal
 
-abbrev pub invariant-loop-k : goal.invariant-loop-k
-invariant-loop-k l = record {
-  cut : (visits : List Visited) → IsCut l.table l.nodes 0 l.parts visits → IsCut l.table l.nodes 0 (l.finer.items ++ drop l.k l.parts) visits;
+abbrev pub invariant-loop-part : goal.invariant-loop-part
+invariant-loop-part l = record {
+  cut : (visits : List Visited) → IsCut l.table l.nodes 0 l.parts visits → IsCut l.table l.nodes 0 (l.finer.items ++ drop l.part-index l.parts) visits;
   parts : All (λ p. IsPart l.table l.nodes p) l.finer.items;
 }
