@@ -13,5 +13,8 @@ pub mod Outcomes
 mod ReplayRows
 mod Rows
 pub mod Samples
+pub mod SomeAnswer
+pub mod SomeBadLine
+pub mod SomeLack
 pub mod Splitting
 pub mod Written

@@ -14,10 +14,10 @@ use Rattle.move_journal.proofs.Once.{Ending, bad, ended, Ends, same_front, same_
 use Rattle.move_journal.proofs.Fronts.{no_end}
 
 -- a way to read the bytes
-record Way (N : Names) (bytes : List ℕ) (lines : List Line) (e : Ending) : Type 0 where
-  rest : List ℕ
-  reads : Reads N bytes lines rest
-  ends : Ends N (length lines + 1) rest e
+pub record Way (N : Names) (bytes : List ℕ) (lines : List Line) (e : Ending) : Type 0 where
+  pub rest : List ℕ
+  pub reads : Reads N bytes lines rest
+  pub ends : Ends N (length lines + 1) rest e
 
 one_way : (N : Names) (bytes : List ℕ) (xs ys : List Line) (a b : Ending) → IsNames N → Way N bytes xs a → Way N bytes ys b → (xs ≡ ys) × (a ≡ b)
 one_way N bytes xs ys a b names v w =

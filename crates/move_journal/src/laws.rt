@@ -1,8 +1,9 @@
 // What holds of every text: laws of the definitions, with no code.
-ghost use Rattle.std.specs.Prelude.{◌≡◌, ℕ, ◌+◌, List, ◌++◌, length, Result, Err};
+ghost use Rattle.std.specs.Prelude.{◌≡◌, ◌⊎◌, ℕ, ◌+◌, ◌<◌, List, ◌++◌, length, Result, Err};
 ghost use Rattle.rail_model.specs.declared.types.Line.{Line as LineValue};
 ghost use Rattle.rail_model.specs.Names.{Names, IsNames};
-ghost use Rattle.rail_model.specs.Yard.{Offer, Yard};
+ghost use Rattle.rail_model.specs.Table.{IsTable};
+ghost use Rattle.rail_model.specs.Yard.{Offer, Yard, offer};
 ghost use Rattle.rail_model.specs.Journal.{Journal, IsRight, IsWhole, text, lines_text, end_text};
 ghost use Rattle.move_journal.specs.declared.faults.BadText.{BadText as BadTextValue};
 ghost use Rattle.move_journal.specs.declared.faults.BadText.TheVariants.{Memory};
@@ -18,8 +19,12 @@ pub fn one_journal_per_text()
     ensures { (N : Names) (a b : Journal) → IsNames N → HasText N a → HasText N b → text N a ≡ text N b → a ≡ b }
 {}
 
-/// For each text a reader has one answer.
+/// For each text a reader has exactly one answer other than want of memory.
 pub fn one_answer_per_text()
+    ensures some_whole { (N : Names) (bytes : List ℕ) → IsNames N
+        → (a : Result Journal BadTextValue) × (a ≡ Err Memory → ⊥) × Answers N bytes a }
+    ensures some_front { (N : Names) (bytes : List ℕ) → IsNames N
+        → (a : Result PartValue BadTextValue) × (a ≡ Err Memory → ⊥) × AnswersPrefix N bytes a }
     ensures whole { (N : Names) (bytes : List ℕ) (a b : Result Journal BadTextValue) → IsNames N
         → (a ≡ Err Memory → ⊥) → (b ≡ Err Memory → ⊥) → Answers N bytes a → Answers N bytes b → a ≡ b }
     ensures front { (N : Names) (bytes : List ℕ) (a b : Result PartValue BadTextValue) → IsNames N
@@ -32,15 +37,21 @@ pub fn longer_text_keeps_its_front()
         → text N whole ≡ bytes ++ (lines_text N (length front.lines + 1) added ++ end_text whole.moves whole.tables) }
 {}
 
-/// Lines are right, or there is one first line that isn't, for one cause.
+/// Lines are right, or there is exactly one first line that isn't, for one cause.
 pub fn right_or_one_bad_line()
+    ensures some { (tables : List Offer) (y : Yard) (lines : List LineValue) → AreTables tables → Stands tables y
+        → ((t : ℕ) → t < length tables → IsTable (offer tables t).table)
+        → IsRight tables y lines ⊎ ((e : BadLineValue) × HasBadLine tables y lines e) }
     ensures not_both { (tables : List Offer) (y : Yard) (lines : List LineValue) (e : BadLineValue) → IsRight tables y lines → HasBadLine tables y lines e → ⊥ }
     ensures one { (tables : List Offer) (y : Yard) (lines : List LineValue) (e f : BadLineValue) → AreTables tables → Stands tables y
         → HasBadLine tables y lines e → HasBadLine tables y lines f → e ≡ f }
 {}
 
-/// A journal is whole, or isn't for one cause.
+/// A journal is whole, or isn't for exactly one cause.
 pub fn whole_or_one_cause()
+    ensures some { (tables : List Offer) (y : Yard) (J : Journal) → AreTables tables → Stands tables y
+        → ((t : ℕ) → t < length tables → IsTable (offer tables t).table)
+        → IsWhole tables y J ⊎ ((e : BadLineValue) × IsNotWhole tables y J e) }
     ensures not_both { (tables : List Offer) (y : Yard) (J : Journal) (e : BadLineValue) → IsWhole tables y J → IsNotWhole tables y J e → ⊥ }
     ensures one { (tables : List Offer) (y : Yard) (J : Journal) (e f : BadLineValue) → AreTables tables → Stands tables y
         → IsNotWhole tables y J e → IsNotWhole tables y J f → e ≡ f }

@@ -12,6 +12,11 @@ use rail_model::{Line, Names};
 use std::alloc::Global;
 
 /// The journal that the bytes are the text of.
+///
+/// # Errors
+///
+/// The first fault of the bytes, from the front: a line of no form, a line whose number isn't its place, bytes
+/// behind the end line, or no end line. `Memory` where memory runs out, whatever the bytes are.
 pub fn read(alloc: Global, names: &Names, bytes: &[u8]) -> Result<Journal, BadText>
     // The text of a journal, or its first fault.
     ensures exact { Answers names.now bytes.now result }
@@ -23,6 +28,10 @@ pub fn read(alloc: Global, names: &Names, bytes: &[u8]) -> Result<Journal, BadTe
 }
 
 /// The journal that the bytes are the text of, or the front of one, where the end line is missing.
+///
+/// # Errors
+///
+/// Those of `read` but `NoEnd`: the missing end line is no fault here.
 pub fn read_prefix(alloc: Global, names: &Names, bytes: &[u8]) -> Result<Part, BadText>
     // A text or its front, or the first fault.
     ensures exact { AnswersPrefix names.now bytes.now result }

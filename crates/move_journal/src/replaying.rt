@@ -34,12 +34,8 @@ pub fn replay<A: HasTable>(
     let all = journal.lines();
     let lines = Vec::from_slice(alloc, all)?;
     let mut yard = Standing::new(positions, 0, 0, 0);
-    let mut number: u64 = 1;
-    for line in all {
-        if let Err(fault) = replay_line(tables, &mut yard, number, line) {
-            return Err(fault);
-        }
-        number += 1;
+    for (index, line) in all.iter().enumerate() {
+        replay_line(tables, &mut yard, index as u64 + 1, line)?;
     }
     Ok(PlainState::new(yard, lines))
 }
@@ -57,37 +53,26 @@ fn replay_line<A: HasTable>(
     ensures bad { IfErr result (IsBad (map A.offer tables.now) yard.old number line.now) }
     ensures stands { Stands (map A.offer tables.now) yard.new }
 {
-    match *line {
-        Line::Move { train, from, to } => replay_move(tables, yard, number, train, from, to),
-        Line::Table { table } => {
-            if replay_table(tables, yard, table, Tried::Exchanged) {
-                Ok(())
-            } else {
-                Err(BadLine::Table { line: number })
-            }
+    let (table, wanted) = match *line {
+        Line::Move { train, from, to } => {
+            return replay_move(tables, yard, number, train, from, to);
         }
+        Line::Table { table } => (table, Tried::Exchanged),
         Line::KeptDiffers {
             table,
             train,
             place,
-        } => {
-            if replay_table(tables, yard, table, Tried::Differs { train, place }) {
-                Ok(())
-            } else {
-                Err(BadLine::Table { line: number })
-            }
-        }
+        } => (table, Tried::Differs { train, place }),
         Line::KeptOver {
             table,
             section,
             count,
-        } => {
-            if replay_table(tables, yard, table, Tried::Over { section, count }) {
-                Ok(())
-            } else {
-                Err(BadLine::Table { line: number })
-            }
-        }
+        } => (table, Tried::Over { section, count }),
+    };
+    if replay_table(tables, yard, table, wanted) {
+        Ok(())
+    } else {
+        Err(BadLine::Table { line: number })
     }
 }
 

@@ -27,10 +27,8 @@ pub fn verify<A: HasTable>(
     requires legal { Legal (offer (map A.offer tables.now) 0).table start.now }
     ensures { Verifies (map A.offer tables.now) (opening start.now) journal.now result }
 {
-    match replay(alloc, tables, start, journal) {
-        Ok(state) => check_end(tables, state.yard(), journal),
-        Err(fault) => Err(fault),
-    }
+    let state = replay(alloc, tables, start, journal)?;
+    check_end(tables, state.yard(), journal)
 }
 
 // What a journal lacks where its lines end.

@@ -19,10 +19,8 @@ pub fn text(alloc: Global, names: &Names, journal: &Journal) -> Result<Vec<u8>, 
 {
     let mut out = String::new(alloc);
     let lines = journal.lines();
-    let mut number: u64 = 1;
-    for line in lines {
-        push_line(&mut out, names, number, line)?;
-        number += 1;
+    for (index, line) in lines.iter().enumerate() {
+        push_line(&mut out, names, index as u64 + 1, line)?;
     }
     push_end(&mut out, journal.moves(), journal.tables())?;
     Ok(out.into_bytes())
