@@ -5,5 +5,7 @@ pub mod Leading
 pub mod Played
 pub mod Righting
 pub mod Rows
+pub mod SimulatedRows
 pub mod Sooner
+pub mod StepRows
 pub mod Waiting

@@ -50,7 +50,7 @@ MovesFirst T p due k (Some i) =
 abbrev pub not_before : ℕ → ℕ → ℕ → ℕ
 not_before i tick j = if nat_lt j i then tick + 1 else tick
 
--- The trains that asked in vain until train i asks at its due tick are due behind that.
+-- The trains that asked in vain until train i asks at its due tick are due at that tick, or behind it where their number is less.
 abbrev pub PutsOff : List ℕ → ℕ → List ℕ → Type 0
 PutsOff due i later =
     (length later ≡ length due)
