@@ -6,11 +6,15 @@ pub mod Covering
 pub mod Excluded
 pub mod Growing
 pub mod LeadingBack
+pub mod LeadingRows
+pub mod LevelRows
 pub mod OwnRing
 pub mod PointBounds
 pub mod Pruned
 pub mod RingLists
+pub mod RingRows
 pub mod RingTests
 pub mod Rows
+pub mod SearchRows
 pub mod StepLists
 pub mod TrainSets

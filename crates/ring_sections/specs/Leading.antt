@@ -34,11 +34,11 @@ LeadsBack M way shut q [] = point_at M (pair_at way 0) ≡ Some q
 LeadsBack M way shut q (w ∷ later) =
     MayStand M way shut q w × All (λ v. v.0 ≢ w.0) later × ((b : ℕ) × (next_point M w ≡ Some b) × LeadsBack M way shut b later)
 
--- No pairs lead back from the point that are as few as are left and avoid the used trains.
+-- No way leads back from the point with at most as many pairs as are left, none of them of a used train.
 abbrev pub IsLost : List Mission → List Pair → ℕ → Reach → Type 0
 IsLost M way shut from = (later : List Pair) → length later ≤ from.left → LeadsBack M way shut from.point later → Avoids from.used later → ⊥
 
--- Nothing leads back from it by the pair.
+-- No such way begins with this pair.
 abbrev pub IsLostBy : List Mission → List Pair → ℕ → Reach → Pair → Type 0
 IsLostBy M way shut from w = (later : List Pair) → length later < from.left → LeadsBack M way shut from.point (w ∷ later) → Avoids from.used (w ∷ later) → ⊥
 
@@ -56,7 +56,8 @@ IsFurther from other = (other.point ≡ from.point) × (from.left ≤ other.left
 abbrev pub IsKnown : List Reach → Reach → TrainSet → Type 0
 IsKnown known from used = (other : Reach) × Contains known other × IsFurther from other × (other.used ≡ used)
 
--- Whatever pairs avoid the used trains, at most n of them of trains that aren't hit, avoid the used trains of one that is known as well.
+-- Take pairs that avoid the used trains, at most n of them of trains that aren't hit: they also avoid the used trains of
+-- some known one that is further.
 abbrev pub IsCovered : List Reach → Reach → TrainSet → ℕ → Type 0
 IsCovered known from hit n = (later : List Pair) → count_outside hit later ≤ n → Avoids from.used later →
     (other : Reach) × Contains known other × IsFurther from other × Avoids other.used later

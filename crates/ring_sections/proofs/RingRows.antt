@@ -1,0 +1,110 @@
+-- Worked rows: a circular wait of two trains at different places, its section, and answers that add.
+use Rattle.std.proofs.Common.{◌≡◌, ◌≢◌, ℕ, zero, suc, ◌<◌, ◌≤◌, ◌%◌, ◌+◌, List, [], ◌∷◌, ℤ, pos, ◌≤ℤ◌, false, Some, None, Ok, Err, refl, ◌∙◌, ap, sym, subst, lit<, lit≤, arith, inl, inr}
+use Rattle.std.specs.Prelude.{replicate, ◌+ℤ◌}
+use Rattle.std.proofs.lemmas.Int.{ints}
+use Rattle.rail_model.specs.Table.{Mission, last, place, share, count}
+use Rattle.forbidden_states.specs.Forbid.{unmarked}
+use Rattle.ring_sections.specs.declared.refused.Rings.TheVariants.{Many, Memory}
+use Rattle.ring_sections.specs.Answer.{too_many, Adds}
+use Rattle.ring_sections.specs.Marking.{ring_table, HasRing, Excludes}
+use Rattle.ring_sections.specs.Ring.{Pair, IsRing, pair_at, point_at, next_point}
+
+-- a corridor between points 1 and 2: T0 enters it with its first step, T1 with its second
+abbrev pub uneven : List Mission
+uneven = (record { points = 0 ∷ 1 ∷ 2 ∷ 3 ∷ []; exits = false }) ∷ (record { points = 4 ∷ 5 ∷ 2 ∷ 1 ∷ 6 ∷ []; exits = false }) ∷ []
+
+abbrev pub ring : List Pair
+ring = (0, 1) ∷ (1, 2) ∷ []
+
+is_ring : IsRing uneven ring
+is_ring = record {
+  several = lit≤ tt;
+  train = train;
+  unfinished = unfinished;
+  one_each = one_each;
+  apart = apart;
+  waits = waits;
+  least_first = least_first;
+}
+  where
+    train : (k : ℕ) → k < 2 → (pair_at ring k).0 < 2
+    train zero lt = lit< tt
+    train (suc zero) lt = lit< tt
+    train (suc (suc k)) lt = absurd (omega (arith, lt))
+
+    unfinished : (k : ℕ) → k < 2 → (pair_at ring k).1 < last (unmarked uneven) (pair_at ring k).0
+    unfinished zero lt = lit< tt
+    unfinished (suc zero) lt = lit< tt
+    unfinished (suc (suc k)) lt = absurd (omega (arith, lt))
+
+    one_each : (j k : ℕ) → j < k → k < 2 → (pair_at ring j).0 ≢ (pair_at ring k).0
+    one_each zero (suc zero) less lt same = cc
+    one_each zero zero less lt same = omega (arith, less)
+    one_each (suc j) (suc zero) less lt same = omega (arith, less)
+    one_each (suc j) zero less lt same = omega (arith, less)
+    one_each j (suc (suc k)) less lt same = omega (arith, lt)
+
+    apart : (j k q : ℕ) → j < k → k < 2 → point_at uneven (pair_at ring j) ≡ Some q → point_at uneven (pair_at ring k) ≡ Some q → ⊥
+    apart zero (suc zero) q less lt here there = cc
+    apart zero zero q less lt here there = omega (arith, less)
+    apart (suc j) (suc zero) q less lt here there = omega (arith, less)
+    apart (suc j) zero q less lt here there = omega (arith, less)
+    apart j (suc (suc k)) q less lt here there = omega (arith, lt)
+
+    waits : (k : ℕ) → k < 2 → (q : ℕ) × (next_point uneven (pair_at ring k) ≡ Some q) × (point_at uneven (pair_at ring ((k + 1) % 2)) ≡ Some q)
+    waits zero lt = (2, refl, refl)
+    waits (suc zero) lt = (1, refl, refl)
+    waits (suc (suc k)) lt = absurd (omega (arith, lt))
+
+    least_first : (k : ℕ) → 0 < k → k < 2 → 0 < (pair_at ring k).0
+    least_first zero some lt = absurd (omega (arith, some))
+    least_first (suc zero) some lt = lit< tt
+    least_first (suc (suc k)) some lt = absurd (omega (arith, lt))
+
+-- not from its greater train on
+not_from_T1 : IsRing uneven ((1, 2) ∷ (0, 1) ∷ []) → ⊥
+not_from_T1 r = let less : 1 < 0 = r.least_first 1 (lit< tt) (lit< tt) in omega arith
+
+-- nor with the places exchanged: T0 wants point 3 there, and T1 stands at 5
+not_exchanged : IsRing uneven ((0, 2) ∷ (1, 1) ∷ []) → ⊥
+not_exchanged r = let w = r.waits 0 (lit< tt) in let wants = w.1 in let stands = w.2 in cc
+
+has_ring : HasRing (1 ∷ 2 ∷ []) ring
+has_ring = (refl, (refl, tt))
+
+has_ring_not : HasRing (2 ∷ 1 ∷ []) ring → ⊥
+has_ring_not h = let one = h.0 in cc
+
+-- its section counts two where the ring is, and its limit is 1
+excludes : Excludes (ring_table uneven (ring ∷ [])) (ring ∷ [])
+excludes p r legal (zero, lt, same) has = let two : 2 ≤ 1 = at_most_one (subst (HasRing p) (sym same) has) in omega arith
+  where
+    at_most_one : HasRing p ring → 2 ≤ 1
+    at_most_one has =
+        let T0 : place p 0 ≡ 1 = has.0 in
+        let T1 : place p 1 ≡ 2 = has.1.0 in
+        let in_section : ℕ → ℕ → ℤ = λ i k. share (ring_table uneven (ring ∷ [])) i 0 k in
+        let counted : count (ring_table uneven (ring ∷ [])) 0 p ≡ pos 2 =
+        ap (λ k. (pos 0 +ℤ in_section 0 k) +ℤ in_section 1 (place p 1)) T0 ∙ ap (λ k. (pos 0 +ℤ in_section 0 1) +ℤ in_section 1 k) T1 in
+        let limited : count (ring_table uneven (ring ∷ [])) 0 p ≤ℤ pos 1 = legal.within 0 (lit< tt) in
+        grind (arith, ints)
+excludes p r legal (suc k, lt, same) has = omega (arith, lt)
+
+added : Adds {U = Unit {0}} (ring ∷ []) (ring ∷ ((0, 0) ∷ []) ∷ []) (((0, 0) ∷ []) ∷ []) (Ok tt)
+added = (refl, lit≤ tt)
+
+full : Adds {U = Unit {0}} (replicate 64 ring) [] (ring ∷ []) (Err (Many 65))
+full = inr (refl, lit< tt)
+
+no_memory : Adds {U = Unit {0}} (ring ∷ []) [] (ring ∷ []) (Err Memory)
+no_memory = inl refl
+
+not_full : Adds {U = Unit {0}} (replicate 63 ring) [] (ring ∷ []) (Err (Many 65)) → ⊥
+not_full (inl e) = cc
+not_full (inr many) = let more : 64 < 64 = many.1 in omega arith
+
+few_enough : too_many 64 ≡ None
+few_enough = refl
+
+one_too_many : too_many 65 ≡ Some (Many 65)
+one_too_many = refl
