@@ -1,16 +1,18 @@
 -- Worked rows: two trains, the first of which asks once in vain, as a simulation from its definitions.
-use Rattle.std.proofs.Common.{◌≡◌, ◌≢◌, ℕ, zero, suc, ◌≤◌, ◌<◌, List, [], ◌∷◌, false, Some, refl, lit<, lit≤, arith}
+use Rattle.std.proofs.Common.{◌≡◌, ◌≢◌, ℕ, zero, suc, ◌≤◌, ◌<◌, List, [], ◌∷◌, false, Some, refl, lit<, lit≤, arith, inl, inr}
 use Rattle.rail_model.specs.declared.types.Ask.TheVariants.{Yes, Occupied}
 use Rattle.rail_model.specs.declared.types.Line.TheVariants.{Move as MoveLine, Table as TableLine}
-use Rattle.rail_model.specs.declared.types.Reply.TheVariants.{Driver}
+use Rattle.rail_model.specs.declared.types.Reply.TheVariants.{Driver, Control}
+use Rattle.rail_model.specs.declared.types.Tried.TheVariants.{Exchanged}
 use Rattle.rail_model.specs.Checks.{same_point}
+use Rattle.rail_model.specs.Exchange.{Agrees}
 use Rattle.rail_model.specs.Move.{Move, advance}
 use Rattle.rail_model.specs.State.{Legal, Arrived}
 use Rattle.rail_model.specs.Table.{Table, last, point, place}
 use Rattle.rail_model.specs.Yard.{Offer, opening}
 use Rattle.rail_model.proofs.Agree.{Decides-same_point}
 use Rattle.train_sim.specs.Report.{Simulates}
-use Rattle.train_sim.specs.Timed.{Stamped, IsTimed, starting}
+use Rattle.train_sim.specs.Timed.{Stamped, IsNext, IsTimed, starting}
 use Rattle.train_sim.proofs.Played.{played}
 
 -- T0 wants the point that T1 leaves
@@ -102,3 +104,27 @@ timed = (
 simulated : Simulates offers times (opening (both 0 0)) (TableLine 7 ∷ []) (TableLine 7 ∷ MoveLine 1 0 (Some 2) ∷ MoveLine 0 1 (Some 0) ∷ MoveLine 1 2 (Some 3) ∷ [])
     (0 ∷ 0 ∷ 1 ∷ 4 ∷ []) 4 (record { positions = both 1 2; table = 0; tried = 0; moves = 3 })
 simulated = record { entries = entries; timed = timed; lines_are = refl; ticks_are = refl; last_is = refl; end_is = refl }
+
+-- one train with these points
+abbrev alone : List ℕ → Table
+alone points = record { missions = (record { points = points; exits = false }) ∷ []; sections = []; connections = [] }
+
+abbrev onward : List Offer
+onward = (record { table = alone (0 ∷ 1 ∷ 2 ∷ []); after = 0 }) ∷ (record { table = alone (0 ∷ 1 ∷ 2 ∷ 3 ∷ []); after = 99 }) ∷ []
+
+-- it has arrived by its ask at tick 1, so a longer table is exchanged at that tick, and not when it asks next
+exchange_next : IsNext onward (record { yard = record { positions = 2 ∷ []; table = 0; tried = 0; moves = 2 }; due = 6 ∷ []; now = 1 })
+    (record { tick = 1; entry = record { who = 32; reply = Control Exchanged } })
+exchange_next = ((lit< tt, inr at_2), refl, (refl, lit< tt, ((lit< tt, inr at_2), (agrees, λ s over. omega (arith, over.0)))))
+  where
+    at_2 : Arrived (alone (0 ∷ 1 ∷ 2 ∷ [])) (2 ∷ [])
+    at_2 zero lt = refl
+    at_2 (suc i) lt = absurd (omega (arith, lt))
+
+    agrees : Agrees (alone (0 ∷ 1 ∷ 2 ∷ [])) (alone (0 ∷ 1 ∷ 2 ∷ 3 ∷ [])) (2 ∷ [])
+    agrees zero k (lt, passed, inl short) = omega (arith, passed, short)
+    agrees zero zero (lt, passed, inr ne) = ne refl
+    agrees zero (suc zero) (lt, passed, inr ne) = ne refl
+    agrees zero (suc (suc zero)) (lt, passed, inr ne) = ne refl
+    agrees zero (suc (suc (suc k))) (lt, passed, inr ne) = omega (arith, passed)
+    agrees (suc i) k (lt, passed, other) = omega (arith, lt)

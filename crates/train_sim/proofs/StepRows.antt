@@ -1,12 +1,12 @@
 -- Worked rows: travel times, who moves next, and the ticks behind a move.
-use Rattle.std.proofs.Common.{◌≡◌, ◌⊎◌, ℕ, zero, suc, ◌<◌, ◌≤◌, List, [], ◌∷◌, refl, lit<, lit≤, arith, inl, inr}
+use Rattle.std.proofs.Common.{◌≡◌, ◌⊎◌, ℕ, zero, suc, ◌<◌, ◌≤◌, List, [], ◌∷◌, None, refl, lit<, lit≤, arith, inl, inr}
 use Rattle.std.specs.Prelude.{length, max, slice_index, slice_index_or}
 use Rattle.rail_model.specs.Move.{Move, advance}
 use Rattle.rail_model.specs.Table.{trains, last}
 use Rattle.rail_model.specs.Times.{AreTimes, time}
 use Rattle.rail_model.specs.Yard.{offer}
 use Rattle.train_sim.specs.Report.{HaveTimes, TakeAtMost, IsSoon}
-use Rattle.train_sim.specs.Steps.{MovesNext, PutsOff, Grants, not_before}
+use Rattle.train_sim.specs.Steps.{MovesNext, MovesFirst, PutsOff, Grants, not_before}
 use Rattle.train_sim.proofs.SimulatedRows.{table, offers, times, both, moves, at_0_0, at_0_1, at_0_2, at_1_1}
 
 abbrev of_table : List (List ℕ)
@@ -74,6 +74,10 @@ T1_moves = record { move = moves (both 0 0) 1 (lit< tt) at_0_0 at_0_1; first = f
     first zero move = absurd (move.after.apart 0 1 0 (lit< tt) (lit< tt) (λ e. cc) refl refl)
     first (suc zero) move = inr (refl, lit≤ tt)
     first (suc (suc j)) move = absurd (omega (arith, move.train))
+
+no_lesser_moves : MovesFirst table (both 0 0) (3 ∷ 8 ∷ []) 1 None
+no_lesser_moves zero lt move = move.after.apart 0 1 0 (lit< tt) (lit< tt) (λ e. cc) refl refl
+no_lesser_moves (suc j) lt move = omega (arith, lt)
 
 -- of two that may move and are due together it is the lesser
 T0_moves : MovesNext table (both 0 1) (4 ∷ 4 ∷ []) 0
