@@ -1,5 +1,5 @@
 -- What a run keeps: right lines from a legal start, a yard that stands, and counts that are true.
-use Rattle.std.proofs.Common.{◌≡◌, ℕ, ◌+◌, ◌≤◌, List, [], ◌∷◌, ◌++◌, length, cond, refl, sym, ap, ◌∙◌, subst, arith}
+use Rattle.std.proofs.Common.{◌≡◌, ℕ, ◌+◌, ◌<◌, ◌≤◌, List, [], ◌∷◌, ◌++◌, length, length-append, cond, refl, sym, ap, ◌∙◌, subst, arith}
 use Rattle.std.specs.Prelude.{count_by}
 use Rattle.std.proofs.lemmas.List.Sums.{sum_by-cons}
 use Rattle.rail_model.specs.declared.types.Ask.{Ask}
@@ -84,6 +84,27 @@ keeps_ready tables y lines capacity k room = record {
       omega (arith, line_counts (opening k.start) lines);
   room = room;
 }
+
+-- a line comes only of a table that is due
+pub line_of_due : (tables : List Offer) (y : Yard) (tried : Tried) (l : Line) → Tries tables y tried → l ∷ [] ≡ tried_lines tables y tried → y.tried + 1 < length tables
+line_of_due tables y Exchanged l tries e = tries.0.0
+line_of_due tables y (Differs i k) l tries e = tries.0.0
+line_of_due tables y (Over s n) l tries e = tries.0.0
+line_of_due tables y (Early m) l tries e = absurd cc
+line_of_due tables y NoMore l tries e = absurd cc
+
+-- each table that has its answer is a line
+pub counted_tried : (tables : List Offer) (y z : Yard) (tried : Tried) (lines longer : List Line) → length lines ≡ y.moves + y.tried
+    → z ≡ after_tried y tried → longer ≡ lines ++ tried_lines tables y tried → length longer ≡ z.moves + z.tried
+counted_tried tables y z tried lines longer counted after adds =
+    ap (λ (ls : List Line). length ls) adds ∙ by_answer tried ∙ ap (λ (w : Yard). w.moves + w.tried) (sym after)
+  where
+    by_answer : (tried : Tried) → length (lines ++ tried_lines tables y tried) ≡ (after_tried y tried).moves + (after_tried y tried).tried
+    by_answer Exchanged = omega (arith, counted, length-append lines (tried_lines tables y Exchanged))
+    by_answer (Differs i k) = omega (arith, counted, length-append lines (tried_lines tables y (Differs i k)))
+    by_answer (Over s n) = omega (arith, counted, length-append lines (tried_lines tables y (Over s n)))
+    by_answer (Early m) = omega (arith, counted, length-append lines [])
+    by_answer NoMore = omega (arith, counted, length-append lines [])
 
 pub few_moves : (tables : List Offer) (y : Yard) → Stands tables y → IsTable (in_force tables y) → y.moves ≤ 4064
 few_moves tables y s t = omega (arith, s.moves, few_places (in_force tables y) y.positions t s.legal)

@@ -1,19 +1,46 @@
-use Rattle.std.proofs.Common.{map, subst, arith}
+use Rattle.std.proofs.Common.{◌++◌, List, map, subst, sym, ap, ◌∙◌, arith}
+use Rattle.std.proofs.lemmas.List.{append-nil}
+use Rattle.rail_model.specs.declared.types.Line.{Line}
 use Rattle.rail_model.specs.Table.{IsTable}
-use Rattle.plain_yard.proofs.Keeping.{few_moves}
+use Rattle.plain_yard.proofs.Keeping.{counted_tried, few_moves, line_of_due}
 use Rattle.plain_yard.proofs.lines.try_line.Goals as goal
 
 pub push_line-requires : goal.push_line-requires
 push_line-requires g c =
-    let few = few_moves (map g.A.HasTable.offer c.args.tables.now) c.args.yard.now c.requires.stands (subst IsTable c.in_force-table.ensures.given c.in_force-table.ensures.formed) in
-    omega (arith, few, c.requires.counted, c.requires.are.few, c.requires.room, c.in-Exchanged.ensures.answer.0.0)
+    let tables = map g.A.HasTable.offer c.args.tables.now in
+    let y = c.args.yard.now in
+    let few = few_moves tables y c.requires.stands (subst IsTable c.in_force-table.ensures.given c.in_force-table.ensures.formed) in
+    let due = line_of_due tables y c.try_table-tried.result c.in-Some.line c.try_table-tried.ensures.answer (c.in-Some.ensures tables y (omega (arith, c.tried-table.ensures))) in
+    omega (arith, few, due, c.requires.counted, c.requires.are.few, c.requires.room)
 
-pub push_line-requires-in-Differs : goal.push_line-requires-in-Differs
-push_line-requires-in-Differs g c =
-    let few = few_moves (map g.A.HasTable.offer c.args.tables.now) c.args.yard.now c.requires.stands (subst IsTable c.in_force-table.ensures.given c.in_force-table.ensures.formed) in
-    omega (arith, few, c.requires.counted, c.requires.are.few, c.requires.room, c.in-Differs.ensures.answer.0.0)
+pub returns-in-Some-clause-adds : goal.returns-in-Some-clause-adds
+returns-in-Some-clause-adds g c =
+    let tables = map g.A.HasTable.offer c.args.tables.now in
+    c.push_line.ensures.items ∙ ap (λ (ls : List Line). c.args.lines.now.items ++ ls) (c.in-Some.ensures tables c.args.yard.now (omega (arith, c.tried-table.ensures)))
 
-pub push_line-requires-in-Over : goal.push_line-requires-in-Over
-push_line-requires-in-Over g c =
-    let few = few_moves (map g.A.HasTable.offer c.args.tables.now) c.args.yard.now c.requires.stands (subst IsTable c.in_force-table.ensures.given c.in_force-table.ensures.formed) in
-    omega (arith, few, c.requires.counted, c.requires.are.few, c.requires.room, c.in-Over.ensures.answer.0.0)
+pub returns-in-Some-clause-ready : goal.returns-in-Some-clause-ready
+returns-in-Some-clause-ready g c =
+    let tables = map g.A.HasTable.offer c.args.tables.now in
+    let adds = c.push_line.ensures.items ∙ ap (λ (ls : List Line). c.args.lines.now.items ++ ls) (c.in-Some.ensures tables c.args.yard.now (omega (arith, c.tried-table.ensures))) in
+    record {
+      are = c.requires.are;
+      stands = c.try_table-tried.ensures.stands;
+      counted = counted_tried tables c.args.yard.now c.try_table-tried.new.yard c.try_table-tried.result c.args.lines.now.items _ c.requires.counted c.try_table-tried.ensures.after adds;
+      room = omega (arith, c.push_line.ensures.capacity, c.requires.room);
+    }
+
+pub returns-in_default-clause-adds : goal.returns-in_default-clause-adds
+returns-in_default-clause-adds g c =
+    let tables = map g.A.HasTable.offer c.args.tables.now in
+    sym (append-nil c.args.lines.now.items) ∙ ap (λ (ls : List Line). c.args.lines.now.items ++ ls) (c.in_default.ensures tables c.args.yard.now (omega (arith, c.tried-table.ensures)))
+
+pub returns-in_default-clause-ready : goal.returns-in_default-clause-ready
+returns-in_default-clause-ready g c =
+    let tables = map g.A.HasTable.offer c.args.tables.now in
+    let adds = sym (append-nil c.args.lines.now.items) ∙ ap (λ (ls : List Line). c.args.lines.now.items ++ ls) (c.in_default.ensures tables c.args.yard.now (omega (arith, c.tried-table.ensures))) in
+    record {
+      are = c.requires.are;
+      stands = c.try_table-tried.ensures.stands;
+      counted = counted_tried tables c.args.yard.now c.try_table-tried.new.yard c.try_table-tried.result c.args.lines.now.items _ c.requires.counted c.try_table-tried.ensures.after adds;
+      room = c.requires.room;
+    }
