@@ -113,12 +113,42 @@ impl PlainState {
         PlainState { yard, lines }
     }
 
+    /// The state of the yard: positions, tables and moves in one.
     pub fn yard(&self) -> &Standing
         ensures { result.now ≡ self.now.yard }
     {
         &self.yard
     }
 
+    /// The positions, in order of the trains: each the place in the train's mission at which it stands, from 0 on.
+    pub fn positions(&self) -> &State
+        ensures { result.now ≡ self.now.yard.positions }
+    {
+        self.yard.positions()
+    }
+
+    /// The table in force, counted from 0.
+    pub fn table(&self) -> u32
+        ensures { result ≡ self.now.yard.table }
+    {
+        self.yard.table()
+    }
+
+    /// The last table that has its answer, counted from 0; at first table 0.
+    pub fn tried(&self) -> u32
+        ensures { result ≡ self.now.yard.tried }
+    {
+        self.yard.tried()
+    }
+
+    /// How many moves were made, of all trains under all tables.
+    pub fn moves(&self) -> u32
+        ensures { result ≡ self.now.yard.moves }
+    {
+        self.yard.moves()
+    }
+
+    /// The journal's lines so far.
     pub fn lines(&self) -> &[Line]
         ensures { result.now ≡ self.now.lines }
     {
