@@ -8,9 +8,9 @@ use Rattle.command_words.specs.declared.orders.Order.TheVariants.{Run, Resume, C
 use Rattle.layout_json.specs.Doc.{Doc, table_at}
 use Rattle.ats_run.specs.declared.failure.Failure.{Failure}
 use Rattle.ats_run.specs.declared.failure.Failure.TheVariants as failure
-use Rattle.ats_run.specs.Causes.{Call, IsCause, IsUnread, IsUnwritten}
+use Rattle.ats_run.specs.Causes.{Call, IsRead, IsCause, IsUnread, IsUnwritten}
 use Rattle.ats_run.specs.Command.{Comes, IsUnchecked, IsUnverifiedInput, IsUnresumedInput, IsNoDoc, IsUnmadeInput, IsUnderivedInput}
-use Rattle.ats_run.specs.Deriving.{derived, IsOverfull}
+use Rattle.ats_run.specs.Deriving.{derived, HasTooManyRings}
 use Rattle.document_generator.specs.Generated.{generated}
 use Rattle.ats_run.specs.Generating.{full_budget}
 use Rattle.ats_run.specs.Making.{MakesNone, tables_in, table_in}
@@ -45,7 +45,7 @@ never_underived : (input : List ℕ) (most budget : ℕ) (e : Failure) → IsOut
 never_underived input most budget e o (inl none) = never_no_doc input e o none
 never_underived input most budget e o (inr h) = elim h.2 [
   | inl many ↦
-      outside (IsOverfull most (table_at h.0 many.table) many.table) (λ n. let is = n.0 in cc) (λ n. let is = n.0 in cc) (λ n. let is = n.0 in cc) (λ n. let is = n.0 in cc) e o
+      outside (HasTooManyRings most (table_at h.0 many.table) many.table) (λ n. let is = n.0 in cc) (λ n. let is = n.0 in cc) (λ n. let is = n.0 in cc) (λ n. let is = n.0 in cc) e o
       many.many
   | inr (inl bad) ↦
       outside (IsBadStart (table_in (derived h.0 most) 0) h.0.start) (λ n. let is = n.1 in cc) (λ n. let is = n.1 in cc) (λ n. let is = n.1 in cc) (λ n. let is = n.1 in cc) e o
@@ -79,24 +79,24 @@ never (Generate s n) input e o h = never_unmade (generated s n) full_budget e o 
 never (Drill s n w) input e o h = never_unmade (generated s n) full_budget e o h
 
 -- what a command comes to on the bytes that were read is the cause of the end of its call
-pub answered : (call : Call) (order : Order) (bytes : List ℕ) (e : Failure) → call.order ≡ Some order → (Reads order → call.at_end)
+pub answered : (call : Call) (order : Order) (bytes : List ℕ) (e : Failure) → call.order ≡ Some order → IsRead call order
     → OnInput order call.held (λ input. bytes ≡ input) → Comes order bytes (Err e) → IsCause call e
-answered call order bytes failure.Words asked end same h = absurd (never order bytes failure.Words (inl refl) h)
-answered call order bytes failure.ReadFault asked end same h = absurd (never order bytes failure.ReadFault (inr (inl refl)) h)
-answered call order bytes failure.WriteFault asked end same h = absurd (never order bytes failure.WriteFault (inr (inr (inl refl))) h)
-answered call order bytes failure.TooLong asked end same h = absurd (never order bytes failure.TooLong (inr (inr (inr refl))) h)
-answered call order bytes failure.Memory asked end same h = tt
-answered call order bytes (failure.Document x) asked end same h = (order, asked, (end, of_bytes order call.held bytes (λ input. Comes order input (Err (failure.Document x))) same h))
-answered call order bytes (failure.Tree t x) asked end same h = (order, asked, (end, of_bytes order call.held bytes (λ input. Comes order input (Err (failure.Tree t x))) same h))
-answered call order bytes (failure.Certificate t x) asked end same h = (order, asked, (end, of_bytes order call.held bytes (λ input. Comes order input (Err (failure.Certificate t x))) same h))
-answered call order bytes (failure.Spent t n) asked end same h = (order, asked, (end, of_bytes order call.held bytes (λ input. Comes order input (Err (failure.Spent t n))) same h))
-answered call order bytes (failure.Stuck t p) asked end same h = (order, asked, (end, of_bytes order call.held bytes (λ input. Comes order input (Err (failure.Stuck t p))) same h))
-answered call order bytes (failure.Rounds t n p) asked end same h = (order, asked, (end, of_bytes order call.held bytes (λ input. Comes order input (Err (failure.Rounds t n p))) same h))
-answered call order bytes (failure.Many t n) asked end same h = (order, asked, (end, of_bytes order call.held bytes (λ input. Comes order input (Err (failure.Many t n))) same h))
-answered call order bytes (failure.Connected t) asked end same h = (order, asked, (end, of_bytes order call.held bytes (λ input. Comes order input (Err (failure.Connected t))) same h))
-answered call order bytes failure.NoJournal asked end same h = (order, asked, (end, of_bytes order call.held bytes (λ input. Comes order input (Err failure.NoJournal)) same h))
-answered call order bytes (failure.Text x) asked end same h = (order, asked, (end, of_bytes order call.held bytes (λ input. Comes order input (Err (failure.Text x))) same h))
-answered call order bytes (failure.Line x) asked end same h = (order, asked, (end, of_bytes order call.held bytes (λ input. Comes order input (Err (failure.Line x))) same h))
+answered call order bytes failure.Words asked whole same h = absurd (never order bytes failure.Words (inl refl) h)
+answered call order bytes failure.ReadFault asked whole same h = absurd (never order bytes failure.ReadFault (inr (inl refl)) h)
+answered call order bytes failure.WriteFault asked whole same h = absurd (never order bytes failure.WriteFault (inr (inr (inl refl))) h)
+answered call order bytes failure.TooLong asked whole same h = absurd (never order bytes failure.TooLong (inr (inr (inr refl))) h)
+answered call order bytes failure.Memory asked whole same h = tt
+answered call order bytes (failure.Document x) asked whole same h = (order, asked, (whole, of_bytes order call.held bytes (λ input. Comes order input (Err (failure.Document x))) same h))
+answered call order bytes (failure.Tree t x) asked whole same h = (order, asked, (whole, of_bytes order call.held bytes (λ input. Comes order input (Err (failure.Tree t x))) same h))
+answered call order bytes (failure.Certificate t x) asked whole same h = (order, asked, (whole, of_bytes order call.held bytes (λ input. Comes order input (Err (failure.Certificate t x))) same h))
+answered call order bytes (failure.Spent t n) asked whole same h = (order, asked, (whole, of_bytes order call.held bytes (λ input. Comes order input (Err (failure.Spent t n))) same h))
+answered call order bytes (failure.Stuck t p) asked whole same h = (order, asked, (whole, of_bytes order call.held bytes (λ input. Comes order input (Err (failure.Stuck t p))) same h))
+answered call order bytes (failure.Rounds t n p) asked whole same h = (order, asked, (whole, of_bytes order call.held bytes (λ input. Comes order input (Err (failure.Rounds t n p))) same h))
+answered call order bytes (failure.Many t n) asked whole same h = (order, asked, (whole, of_bytes order call.held bytes (λ input. Comes order input (Err (failure.Many t n))) same h))
+answered call order bytes (failure.Connected t) asked whole same h = (order, asked, (whole, of_bytes order call.held bytes (λ input. Comes order input (Err (failure.Connected t))) same h))
+answered call order bytes failure.NoJournal asked whole same h = (order, asked, (whole, of_bytes order call.held bytes (λ input. Comes order input (Err failure.NoJournal)) same h))
+answered call order bytes (failure.Text x) asked whole same h = (order, asked, (whole, of_bytes order call.held bytes (λ input. Comes order input (Err (failure.Text x))) same h))
+answered call order bytes (failure.Line x) asked whole same h = (order, asked, (whole, of_bytes order call.held bytes (λ input. Comes order input (Err (failure.Line x))) same h))
 
 -- why an input was not read is the cause
 pub unread : (call : Call) (order : Order) (e : Failure) → call.order ≡ Some order → Reads order → IsUnread call.held call.source_failed e → IsCause call e
@@ -107,10 +107,10 @@ unread call order e asked reads h = elim h [
 ]
 
 -- why it was not written is the cause
-pub unwritten : (call : Call) (order : Order) (bytes : List ℕ) (e : Failure) → call.order ≡ Some order → (Reads order → call.at_end)
+pub unwritten : (call : Call) (order : Order) (bytes : List ℕ) (e : Failure) → call.order ≡ Some order → IsRead call order
     → OnInput order call.held (λ input. bytes ≡ input) → IsUnwritten order bytes call.sink_failed e → IsCause call e
-unwritten call order bytes e asked end same h = elim h [
+unwritten call order bytes e asked whole same h = elim h [
   | inl is ↦ subst (IsCause call) (sym is) tt
-  | inr (inl (is, failed)) ↦ subst (IsCause call) (sym is) (order, asked, (end, failed))
-  | inr (inr comes) ↦ answered call order bytes e asked end same comes
+  | inr (inl (is, failed)) ↦ subst (IsCause call) (sym is) (order, asked, (whole, failed))
+  | inr (inr comes) ↦ answered call order bytes e asked whole same comes
 ]

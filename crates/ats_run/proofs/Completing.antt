@@ -28,6 +28,7 @@ use Rattle.ats_run.specs.Journals.{mark, IsCut, document_part, journal_part, IsU
 use Rattle.ats_run.specs.Making.{tables_in, table_in, AreMakeable, IsUnmade, MakesNone}
 use Rattle.ats_run.specs.Orders.{Reads, OnInput, Holds}
 use Rattle.ats_run.specs.Repairing.{IsUnrepaired, IsRepairable}
+use Rattle.ats_run.specs.Report.{IsLineMade}
 use Rattle.ats_run.proofs.AcceptedInput.{same_doc, not_unchecked}
 use Rattle.ats_run.proofs.Reading.{of_input}
 use Rattle.ats_run.proofs.Repairable.{not_unrepaired}
@@ -220,7 +221,7 @@ only_memory call order input g (failure.Line x) h = absurd (refused call order i
 
 -- a good call that fails tells want of memory
 pub ends : (call : Call) (order : Order) (input : List ℕ) → IsGoodCall call order input → (cause told : Failure) (s : Status) → IsCause call cause
-    → (told ≡ cause) ⊎ (told ≡ failure.Memory) → s ≡ status_of told → IsDoneOrMemory s
+    → (told ≡ cause) ⊎ ((told ≡ failure.Memory) × IsLineMade cause) → s ≡ status_of told → IsDoneOrMemory s
 ends call order input g cause told s h kept is =
-    let memory : told ≡ failure.Memory = elim kept [ inl same ↦ same ∙ only_memory call order input g cause h | inr memory ↦ memory ] in
+    let memory : told ≡ failure.Memory = elim kept [ inl same ↦ same ∙ only_memory call order input g cause h | inr (memory, made) ↦ memory ] in
     inr (is ∙ ap status_of memory)

@@ -20,15 +20,14 @@ pub drilled : (D : Doc) (trees : List Tree) (z : Yard) (lines : List Line) (K : 
     → AreAccepted D trees → IsDone (offers_of D) z → Keeps (offers_of D) z lines → Finishes (offers_of D) (opening D.start) (trains (offer (offers_of D) 0).table - 1) [] z lines
     → K ≡ journal_of lines → count ≡ length D.trains → nodes ≡ nodes_below trees (length trees)
     → bytes ≡ drill_text count K.moves K.tables nodes → IsDrilled D bytes
+unfolding runs
 drilled D trees z lines K count nodes bytes doc one accepted done keeps finishes is counted summed printed =
     let run = runs D trees z lines (text (names_of D) (journal_of lines)) doc accepted done finishes refl in
     record {
       one_table = one;
-      journal = journal_of lines;
+      text = text (names_of D) (journal_of lines);
       run = run.0;
       round = run.1;
       moves = all_moves D z lines one done keeps finishes;
-      trees = trees;
-      accepted = accepted;
       printed = printed ∙ (λ i. drill_text (counted i) (is i).moves (is i).tables (summed i));
     }

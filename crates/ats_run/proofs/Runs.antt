@@ -54,9 +54,9 @@ goes_on_well D trees lines doc accepted right front later split =
     completes (in_force (offers_of D) z) z.positions (live_in_force D trees z accepted stands) stands.legal
 
 -- what the finish of a document's run gives
-pub runs : (D : Doc) (trees : List Tree) (z : Yard) (lines : List Line) (written : List ℕ) → IsDoc D → AreAccepted D trees → IsDone (offers_of D) z
+unfoldable pub runs : (D : Doc) (trees : List Tree) (z : Yard) (lines : List Line) (written : List ℕ) → IsDoc D → AreAccepted D trees → IsDone (offers_of D) z
     → Finishes (offers_of D) (opening D.start) (trains (offer (offers_of D) 0).table - 1) [] z lines → written ≡ text (names_of D) (journal_of lines)
-    → IsRun D written × IsRoundRobin D written
+    → (run : IsRun D written) × IsRoundRobin D run.journal
 runs D trees z lines written doc accepted done finishes printed =
     let run : Keeps (offers_of D) z lines = record {
       are = doc.tables;
@@ -73,7 +73,7 @@ runs D trees z lines written doc accepted done finishes printed =
         goes_on_well = goes_on_well D trees lines doc accepted run.right;
         printed = printed;
       },
-      record { journal = journal_of lines; round = round_begun (offers_of D) (opening D.start) z _ lines finishes; printed = printed },
+      round_begun (offers_of D) (opening D.start) z _ lines finishes,
     )
 
 -- a run has few lines

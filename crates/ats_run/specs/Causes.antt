@@ -1,5 +1,5 @@
 -- Why a call may end with a refusal, and what it then tells.
-use Rattle.std.specs.Prelude.{◌≡◌, ◌⊎◌, ℕ, ◌<◌, List, length, Option, Some, None, Err, IfSome}
+use Rattle.std.specs.Prelude.{◌≡◌, ◌⊎◌, ℕ, ◌<◌, ◌≤◌, List, length, Option, Some, None, Err, IfSome}
 use Rattle.ats_io.specs.Bytes.{Adds, AddsPrefix}
 use Rattle.command_words.specs.declared.orders.Order.{Order}
 use Rattle.ats_run.specs.declared.status.Status.{Status}
@@ -27,12 +27,15 @@ pub record Call : Type 1 where
 abbrev pub Asked : Call → (Order → Type 0) → Type 0
 Asked call P = (order : Order) × (call.order ≡ Some order) × P order
 
--- What the order reads was read to its end.
-abbrev pub IsRead : Call → Order → Type 0
-IsRead call order = Reads order → call.at_end
+-- What the order reads was read to its end, and is not too long.
+abbrev pub IsReadWhole : Order → Option (List ℕ) → Type 0 → Type 0
+IsReadWhole order held at_end = Reads order → at_end × IfSome held (λ input. length input ≤ most_bytes)
 
--- The cause of a refusal. Want of memory alone is free. What isn't of the words or of the source comes only after the source was
--- read to its end.
+abbrev pub IsRead : Call → Order → Type 0
+IsRead call order = IsReadWhole order call.held call.at_end
+
+-- The cause of a refusal. Want of memory alone is free. What isn't of the words or of the source comes only after the input was read
+-- whole.
 abbrev pub IsCause : Call → Failure → Type 0
 IsCause call Words = call.order ≡ None
 IsCause call Memory = Unit {0}

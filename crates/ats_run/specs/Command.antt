@@ -7,8 +7,6 @@ use Rattle.document_generator.specs.Generated.{generated}
 use Rattle.layout_json.specs.Doc.{Doc}
 use Rattle.layout_json.specs.Trees.{IsNoTree}
 use Rattle.layout_json.specs.Reading.{doc_of}
-use Rattle.layout_json.specs.Migrated.{migrated}
-use Rattle.layout_json.specs.Written.{written as text_of}
 use Rattle.layout_json.specs.declared.refused.DocRefused.{DocRefused}
 use Rattle.ats_run.specs.declared.failure.Failure.{Failure}
 use Rattle.ats_run.specs.declared.failure.Failure.TheVariants.{Document, Tree, Certificate, NoJournal, Text, Line}
@@ -19,6 +17,7 @@ use Rattle.ats_run.specs.Generating.{full_budget, IsDrilled}
 use Rattle.ats_run.specs.Headline.{IsRun, IsRoundRobin}
 use Rattle.ats_run.specs.Deriving.{IsDerived, IsUnderived}
 use Rattle.ats_run.specs.Making.{tables_in, IsMade, IsUnmade}
+use Rattle.ats_run.specs.Migrating.{IsMigratedText}
 use Rattle.ats_run.specs.Repairing.{IsRepaired, IsUnrepaired}
 use Rattle.ats_run.specs.Simulating.{IsSimulated}
 
@@ -83,7 +82,7 @@ IsDrilledInput input written =
     (made : List ℕ) × IsDocWith input (λ D. IsMade D full_budget made) × IsDocWith made (λ D. IsDrilled D written)
 
 abbrev pub Comes : Order → List ℕ → Result (List ℕ) Failure → Type 0
-Comes (Run workers rounds) input (Ok written) = IsDocWith input (λ D. IsRun D written × IsRoundRobin D written)
+Comes (Run workers rounds) input (Ok written) = IsDocWith input (λ D. (run : IsRun D written) × IsRoundRobin D run.journal)
 Comes (Run workers rounds) input (Err e) = IsUnchecked input e
 Comes Check input (Ok written) = IsDocWith input (λ D. IsChecked D written)
 Comes Check input (Err e) = IsUnchecked input e
@@ -91,7 +90,7 @@ Comes Verify input (Ok written) = IsVerifiedInput input written
 Comes Verify input (Err e) = IsUnverifiedInput input e
 Comes (Resume workers rounds) input (Ok written) = IsResumedInput input written
 Comes (Resume workers rounds) input (Err e) = IsUnresumedInput input e
-Comes Migrate input (Ok written) = IsDocWith input (λ D. written ≡ text_of (migrated D))
+Comes Migrate input (Ok written) = IsDocWith input (λ D. IsMigratedText D written)
 Comes Migrate input (Err e) = IsNoDoc input e
 Comes (Make budget) input (Ok written) = IsDocWith input (λ D. IsMade D budget written)
 Comes (Make budget) input (Err e) = IsUnmadeInput input budget e

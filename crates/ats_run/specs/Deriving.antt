@@ -39,15 +39,15 @@ pub record IsDerived (D : Doc) (most budget : ℕ) (bytes : List ℕ) : Type 0 w
   pub text : IsAcceptedText (replaced D parts) (trees_in parts) bytes
 
 -- The table with this number has more than 64 rings, which are not counted any further.
-abbrev pub IsOverfull : ℕ → Table → ℕ → Failure → Type 0
-IsOverfull most T t e = (e ≡ Many t 65) × (64 < length (rings T.missions most))
+abbrev pub HasTooManyRings : ℕ → Table → ℕ → Failure → Type 0
+HasTooManyRings most T t e = (e ≡ Many t 65) × (64 < length (rings T.missions most))
 
--- The first table of the document that has.
+-- The first table with more than 64 rings.
 pub record HasManyRings (D : Doc) (most : ℕ) (e : Failure) : Type 0 where
   pub table : ℕ
   pub in_range : table < length D.tables
   pub earlier : (u : ℕ) → u < table → HasFewRings most (table_at D u)
-  pub many : IsOverfull most (table_at D table) table e
+  pub many : HasTooManyRings most (table_at D table) table e
 
 -- Why there is no such document: too many rings, then the start, then the making.
 abbrev pub IsUnderived : Doc → ℕ → ℕ → Failure → Type 0

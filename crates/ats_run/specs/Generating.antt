@@ -1,10 +1,7 @@
 -- What generating a document, and drilling its run, comes to.
 use Rattle.std.specs.Prelude.{◌≡◌, ℕ, List, ◌++◌, length, codes, decimal}
-use Rattle.rail_model.specs.Certificate.{Tree}
-use Rattle.rail_model.specs.Journal.{Journal, text}
 use Rattle.rail_model.specs.State.{remaining}
-use Rattle.layout_json.specs.Doc.{Doc, table_at, names_of}
-use Rattle.ats_run.specs.Certificates.{AreAccepted}
+use Rattle.layout_json.specs.Doc.{Doc, table_at}
 use Rattle.ats_run.specs.Checking.{nodes_below}
 use Rattle.ats_run.specs.Headline.{IsRun, IsRoundRobin}
 
@@ -18,14 +15,12 @@ drill_text trains moves tables nodes =
     codes "trains=" ++ decimal trains ++ codes " moves=" ++ decimal moves ++ codes " tables=" ++ decimal tables
     ++ codes " nodes=" ++ decimal nodes ++ codes "\n"
 
--- The bytes say the counts of the journal whose text is that of the document's run, and of the certificates. The document has one
--- table, and the moves are those that remain at the start.
+-- The bytes count the moves and exchanges of the document's run, and the nodes of its certificates. The document has one table, and
+-- the moves of the run are those that remain at the start.
 pub record IsDrilled (D : Doc) (bytes : List ℕ) : Type 0 where
   pub one_table : length D.tables ≡ 1
-  pub journal : Journal
-  pub run : IsRun D (text (names_of D) journal)
-  pub round : IsRoundRobin D (text (names_of D) journal)
-  pub moves : journal.moves ≡ remaining (table_at D 0) D.start
-  pub trees : List Tree
-  pub accepted : AreAccepted D trees
-  pub printed : bytes ≡ drill_text (length D.trains) journal.moves journal.tables (nodes_below trees (length trees))
+  pub text : List ℕ
+  pub run : IsRun D text
+  pub round : IsRoundRobin D run.journal
+  pub moves : run.journal.moves ≡ remaining (table_at D 0) D.start
+  pub printed : bytes ≡ drill_text (length D.trains) run.journal.moves run.journal.tables (nodes_below run.trees (length run.trees))

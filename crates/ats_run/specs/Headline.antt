@@ -24,8 +24,6 @@ pub record IsRun (D : Doc) (written : List ℕ) : Type 0 where
   pub goes_on_well : GoesOnWell (offers_of D) (opening D.start) journal.lines
   pub printed : written ≡ text (names_of D) journal
 
--- The lines are those of the round robin from the start.
-pub record IsRoundRobin (D : Doc) (written : List ℕ) : Type 0 where
-  pub journal : Journal
-  pub round : IsRound (offers_of D) (opening D.start) (trains (offer (offers_of D) 0).table - 1) journal.lines
-  pub printed : written ≡ text (names_of D) journal
+-- The lines of the journal are those of the round robin from the start.
+abbrev pub IsRoundRobin : Doc → Journal → Type 0
+IsRoundRobin D journal = IsRound (offers_of D) (opening D.start) (trains (offer (offers_of D) 0).table - 1) journal.lines

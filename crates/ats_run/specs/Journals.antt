@@ -93,10 +93,10 @@ pub record GoesOnFrom (D : Doc) (front : Journal) (written : List ℕ) : Type 0 
   pub round : IsRound (offers_of D) (after_lines (opening D.start) front.lines) (trains (offer (offers_of D) 0).table - 1) added
   pub printed : written ≡ text (names_of D) (journal_of (front.lines ++ added))
 
--- The given text is whole and was written as it is, or it is a front, from whose state the round robin goes on.
+-- The given bytes are a journal's text and were written as they are, or they are a front, from whose state the round robin goes on.
 abbrev pub IsContinued : Doc → List ℕ → List ℕ → Type 0
 IsContinued D given written =
-    (((whole : Journal) × IsTextOf (names_of D) given whole) × (written ≡ given))
+    (((journal : Journal) × IsTextOf (names_of D) given journal) × (written ≡ given))
     ⊎ ((front : Journal) × IsFrontOf (names_of D) given front × GoesOnFrom D front written)
 
 -- What `resume` writes: the text of one whole run of the document, that begins with the given text.
@@ -106,7 +106,7 @@ pub record IsResumed (D : Doc) (given written : List ℕ) : Type 0 where
   pub begins : written ≡ given ++ rest
   pub continued : IsContinued D given written
 
--- The bytes are a whole journal's text or a front, with a first line that isn't right, or lacking an end that is.
+-- The bytes are the text of a journal that isn't whole, for the first cause, or a front with a first line that isn't right.
 pub record IsUnresumed (D : Doc) (given : List ℕ) (cause : BadLine) : Type 0 where
   pub formed : IsDoc D
   pub journal : Journal

@@ -9,6 +9,7 @@ pub mod Generating
 pub mod Headline
 pub mod Journals
 pub mod Making
+pub mod Migrating
 pub mod Orders
 pub mod Repairing
 pub mod Report

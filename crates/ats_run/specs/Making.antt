@@ -25,7 +25,7 @@ pub record AreMade (tables : List Table) (budget : ℕ) (trees : List Tree) : Ty
   pub made : (t : ℕ) → t < length tables → Makes (table_in tables t) budget (cert (tree_at trees t))
   pub accepted : (t : ℕ) → t < length tables → Accepts (table_in tables t) (tree_at trees t)
 
--- each table with its certificate
+-- the table and certificate with a number
 abbrev pub part_in : List (Table × Tree) → ℕ → Table × Tree
 part_in parts t = slice_index_or parts t (record { missions = []; sections = []; connections = [] }, arrived)
 

@@ -15,13 +15,13 @@ Reads (Generate seed trains) = ⊥
 Reads (Drill seed trains workers) = ⊥
 Reads order = Unit {0}
 
--- The fact of the bytes that the source held, where it tells them; an order that reads nothing has no other input.
+-- The fact of the bytes that the source held, where it tells them; an order that reads nothing has the empty input.
 abbrev pub OnInput : Order → Option (List ℕ) → (List ℕ → Type 0) → Type 0
 OnInput (Generate seed trains) held P = P []
 OnInput (Drill seed trains workers) held P = P []
 OnInput order held P = IfSome held P
 
--- The input is what the source held; where nothing is read there is none.
+-- The input is what the source held, or the empty one where nothing is read.
 abbrev pub Holds : Order → Option (List ℕ) → List ℕ → Type 0
 Holds (Generate seed trains) held input = input ≡ []
 Holds (Drill seed trains workers) held input = input ≡ []

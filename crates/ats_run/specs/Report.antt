@@ -30,16 +30,16 @@ words_of (Line e) = line_words e
 abbrev pub line_of : Failure → List ℕ
 line_of e = line (words_of e)
 
--- The refusal has fields, so that its line is made.
-abbrev pub HasFields : Failure → Type 0
-HasFields (Document e) = Unit {0}
-HasFields (Tree t e) = Unit {0}
-HasFields (Certificate t bad) = Unit {0}
-HasFields (Spent t n) = Unit {0}
-HasFields (Stuck t p) = Unit {0}
-HasFields (Rounds t n p) = Unit {0}
-HasFields (Many t n) = Unit {0}
-HasFields (Connected t) = Unit {0}
-HasFields (Text e) = Unit {0}
-HasFields (Line e) = Unit {0}
-HasFields e = ⊥
+-- The line is made, which takes memory.
+abbrev pub IsLineMade : Failure → Type 0
+IsLineMade (Document e) = Unit {0}
+IsLineMade (Tree t e) = Unit {0}
+IsLineMade (Certificate t bad) = Unit {0}
+IsLineMade (Spent t n) = Unit {0}
+IsLineMade (Stuck t p) = Unit {0}
+IsLineMade (Rounds t n p) = Unit {0}
+IsLineMade (Many t n) = Unit {0}
+IsLineMade (Connected t) = Unit {0}
+IsLineMade (Text e) = Unit {0}
+IsLineMade (Line e) = Unit {0}
+IsLineMade e = ⊥

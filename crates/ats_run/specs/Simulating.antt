@@ -22,8 +22,8 @@ last_text lines tick =
     codes "end moves=" ++ decimal (journal_of lines).moves ++ codes " tables=" ++ decimal (journal_of lines).tables
     ++ codes " last=" ++ decimal tick ++ codes "\n"
 
--- The bytes are the timed journal of one whole run of the document by its travel times, whose tables accept their certificates. Each
--- way of going on from a state of it ends well, and its last move comes soon.
+-- The bytes are the timed journal of one whole run by the document's travel times, under tables that accept their certificates. From
+-- every state of the run each way of going on ends well, and its last move comes soon.
 pub record IsSimulated (D : Doc) (bytes : List ℕ) : Type 0 where
   pub trees : List Tree
   pub accepted : AreAccepted D trees

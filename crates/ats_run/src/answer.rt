@@ -19,7 +19,7 @@ use command_words::Order;
 use std::alloc::Global;
 use std::thread::Threads;
 
-/// The bytes that an order prints for its input, or why there are none. An order that reads nothing has no input.
+/// The bytes that an order prints for its input, or why there are none. An order that reads nothing has the empty input.
 pub fn answer(
     rt: &(impl Threads + Sync),
     alloc: Global,

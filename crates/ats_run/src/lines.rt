@@ -1,6 +1,6 @@
 // The line that is told of a failure.
 ghost use Rattle.std.specs.Prelude.{◌≡◌, IfOk, IfSome, IfNone, string_bytes};
-ghost use Rattle.ats_run.specs.Report.{line_of, HasFields};
+ghost use Rattle.ats_run.specs.Report.{line_of, IsLineMade};
 
 use crate::Failure;
 use refusal_lines::{
@@ -9,10 +9,10 @@ use refusal_lines::{
 };
 use std::alloc::{AllocError, Global};
 
-/// The line of a failure that has no fields: it takes no memory.
+/// The line of a failure whose line is fixed: it takes no memory.
 pub fn fixed_line(failure: &Failure) -> Option<&'static str>
     ensures line { IfSome result (λ line. line.now ≡ line_of failure.now) }
-    ensures made { IfNone result (HasFields failure.now) }
+    ensures made { IfNone result (IsLineMade failure.now) }
 {
     match failure {
         Failure::Words => Some("ats: 201 Words\n"),
@@ -25,9 +25,9 @@ pub fn fixed_line(failure: &Failure) -> Option<&'static str>
     }
 }
 
-/// The line of a failure that has fields.
+/// The line of a failure whose line is made.
 pub fn line_of(alloc: Global, failure: &Failure) -> Result<String, AllocError>
-    requires { HasFields failure.now }
+    requires { IsLineMade failure.now }
     ensures { IfOk result (λ line. string_bytes line ≡ line_of failure.now) }
 {
     match failure {

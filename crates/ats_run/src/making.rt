@@ -86,7 +86,7 @@ pub fn make_each(
 }
 
 /// The text of a document with these tables and certificates in place of its own.
-pub fn print_parts(alloc: Global, doc: &Doc, parts: &[(Table, Cert)]) -> Result<Vec<u8>, Failure>
+pub fn text_of_parts(alloc: Global, doc: &Doc, parts: &[(Table, Cert)]) -> Result<Vec<u8>, Failure>
     requires one_each { length parts.now ≡ length doc.now.tables }
     requires taken { IsTaken (replaced doc.now parts.now) }
     ensures printed { IfOk result (λ text. text.items ≡ written (replaced doc.now parts.now)) }

@@ -1,8 +1,7 @@
 // Documents that are brought to version 2.
 ghost use Rattle.std.specs.Prelude.{◌≡◌, ◌⊎◌, IfOk, IfErr};
-ghost use Rattle.layout_json.specs.Migrated.{migrated};
-ghost use Rattle.layout_json.specs.Written.{written};
 ghost use Rattle.ats_run.specs.Command.{IsDocWith, IsNoDoc};
+ghost use Rattle.ats_run.specs.Migrating.{IsMigratedText};
 ghost use Rattle.ats_run.specs.declared.failure.Failure.TheVariants.{Memory as NoMemory};
 
 use crate::Failure;
@@ -12,7 +11,7 @@ use std::alloc::Global;
 
 /// The text of a document of version 1 as one of version 2, and of any other as it is read.
 pub fn migrate(alloc: Global, input: &[u8]) -> Result<Vec<u8>, Failure>
-    ensures migrated { IfOk result (λ text. IsDocWith input.now (λ D. text.items ≡ written (migrated D))) }
+    ensures migrated { IfOk result (λ text. IsDocWith input.now (λ D. IsMigratedText D text.items)) }
 
     ensures refused { IfErr result (λ e. (e ≡ NoMemory) ⊎ IsNoDoc input.now e) }
 {

@@ -10,7 +10,7 @@ ghost use Rattle.ats_run.specs.declared.failure.Failure.TheVariants.{Memory as N
 
 use crate::Failure;
 use crate::checked::read_document;
-use crate::making::print_parts;
+use crate::making::text_of_parts;
 use crate::starting::check_start;
 use cert_tree::Cert;
 use layout_json::{Doc, layout_of, start_of, table_of, tables_of};
@@ -30,7 +30,7 @@ pub fn repair(alloc: Global, input: &[u8], budget: u32, rounds: u32) -> Result<V
     let doc = read_document(alloc, input)?;
     check_connections(&doc)?;
     let parts = repair_all(alloc, &doc, budget, rounds)?;
-    print_parts(alloc, &doc, &parts)
+    text_of_parts(alloc, &doc, &parts)
 }
 
 // Refuses the first table with a connection.

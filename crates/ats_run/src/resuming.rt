@@ -14,7 +14,7 @@ ghost use Rattle.ats_run.specs.declared.failure.Failure.TheVariants.{Memory as N
 use crate::Failure;
 use crate::checked::{Checked, check_document};
 use crate::journals::{cut, verify_lines};
-use crate::running::{finish_from, print};
+use crate::running::{finish_from, text_of_run};
 use cert_checker::Accepted;
 use layout_json::{Doc, names_of, start_of};
 use move_journal::{Journal, Part, read_prefix, replay};
@@ -86,7 +86,7 @@ fn go_on(
 {
     let state = replay_front(alloc, doc, tables, front)?;
     let end = finish_from(doc, tables, state)?;
-    Ok(print(alloc, doc, end)?)
+    Ok(text_of_run(alloc, doc, end)?)
 }
 
 // The state that a front leads to.

@@ -25,7 +25,7 @@ use std::thread::Threads;
 
 /// The text of the journal of a document's run on one thread.
 pub fn run(rt: &(impl Threads + Sync), alloc: Global, input: &[u8]) -> Result<Vec<u8>, Failure>
-    ensures run { IfOk result (λ text. IsDocWith input.now (λ D. IsRun D text.items × IsRoundRobin D text.items)) }
+    ensures run { IfOk result (λ text. IsDocWith input.now (λ D. (run : IsRun D text.items) × IsRoundRobin D run.journal)) }
 
     ensures unchecked { IfErr result (λ e. (e ≡ NoMemory) ⊎ IsUnchecked input.now e) }
 {
@@ -37,10 +37,10 @@ pub fn run(rt: &(impl Threads + Sync), alloc: Global, input: &[u8]) -> Result<Ve
 // The run of a document under its tables, each of which accepts its certificate.
 fn run_checked(alloc: Global, doc: &Doc, tables: &[Accepted]) -> Result<Vec<u8>, AllocError>
     requires { tables.now ≡ offers_of doc.now }
-    ensures run { IfOk result (λ text. (trees : List Tree) → AreAccepted doc.now trees → IsRun doc.now text.items × IsRoundRobin doc.now text.items) }
+    ensures run { IfOk result (λ text. (trees : List Tree) → AreAccepted doc.now trees → (run : IsRun doc.now text.items) × IsRoundRobin doc.now run.journal) }
 {
     let state = finish(alloc, doc, tables)?;
-    print(alloc, doc, state)
+    text_of_run(alloc, doc, state)
 }
 
 /// The state and the lines in which the round robin from a document's start ends.
@@ -75,7 +75,7 @@ pub fn finish_from(
 }
 
 /// The text of the lines that a run of a document has.
-pub fn print(alloc: Global, doc: &Doc, state: PlainState) -> Result<Vec<u8>, AllocError>
+pub fn text_of_run(alloc: Global, doc: &Doc, state: PlainState) -> Result<Vec<u8>, AllocError>
     requires { Keeps (offers_of doc.now) state.yard state.lines }
     ensures { IfOk result (λ text. text.items ≡ text_of (names_of doc.now) (journal_of state.lines)) }
 {

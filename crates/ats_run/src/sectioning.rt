@@ -4,12 +4,12 @@ ghost use Rattle.ring_sections.specs.Ring.{IsRing};
 ghost use Rattle.ring_sections.specs.Marking.{ring_table};
 ghost use Rattle.layout_json.specs.Keeps.{IsTaken};
 ghost use Rattle.ats_run.specs.Command.{IsDocWith, IsUnderivedInput};
-ghost use Rattle.ats_run.specs.Deriving.{derived, derived_table, HasFewRings, HaveFewRings, IsOverfull, HasManyRings, IsDerived, IsUnderived};
+ghost use Rattle.ats_run.specs.Deriving.{derived, derived_table, HasFewRings, HaveFewRings, HasTooManyRings, HasManyRings, IsDerived, IsUnderived};
 ghost use Rattle.ats_run.specs.declared.failure.Failure.TheVariants.{Memory as NoMemory};
 
 use crate::Failure;
 use crate::checked::read_document;
-use crate::making::{make_each, print_parts};
+use crate::making::{make_each, text_of_parts};
 use crate::starting::check_start;
 use layout_json::{Doc, start_of, table_of, tables_of};
 use rail_model::{Missions, Table, copy_missions};
@@ -44,7 +44,7 @@ fn derive_document(alloc: Global, doc: &Doc, most: u32, budget: u32) -> Result<V
     let tables = derive_all(alloc, doc, most)?;
     check_start(&tables[0], start_of(doc))?;
     let parts = make_each(alloc, tables, budget)?;
-    print_parts(alloc, doc, &parts)
+    text_of_parts(alloc, doc, &parts)
 }
 
 // Each table with the sections of its rings.
@@ -70,7 +70,7 @@ fn derive_one(alloc: Global, of: &Table, table: u32, most: u32) -> Result<Table,
     ensures table { IfOk result (λ T. T ≡ derived_table most of.now) }
     ensures few { OnOk result (HasFewRings most of.now) }
 
-    ensures many { IfErr result (λ e. (e ≡ NoMemory) ⊎ IsOverfull most of.now table e) }
+    ensures many { IfErr result (λ e. (e ≡ NoMemory) ⊎ HasTooManyRings most of.now table e) }
 {
     let missions = copy_missions(alloc, of)?;
     match rings(alloc, &missions, most) {

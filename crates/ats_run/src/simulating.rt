@@ -41,7 +41,7 @@ fn simulate_checked(alloc: Global, doc: &Doc, tables: &[Accepted]) -> Result<Vec
     ensures simulated { IfOk result (λ text. (trees : List Tree) → AreAccepted doc.now trees → IsSimulated doc.now text.items) }
 {
     let report = report_of(alloc, doc, tables)?;
-    print_timed(alloc, doc, report)
+    text_of_report(alloc, doc, report)
 }
 
 // What the simulation of a document reports.
@@ -79,7 +79,7 @@ fn begin_run<'a>(
 }
 
 // The text of a report.
-fn print_timed(alloc: Global, doc: &Doc, report: SimReport) -> Result<Vec<u8>, AllocError>
+fn text_of_report(alloc: Global, doc: &Doc, report: SimReport) -> Result<Vec<u8>, AllocError>
     requires one_each { length report.ticks.items ≡ length report.state.lines }
     requires keeps { Keeps (offers_of doc.now) report.state.yard report.state.lines }
     ensures { IfOk result (λ text. text.items ≡ timed_text (names_of doc.now) report.ticks.items report.state.lines ++ last_text report.state.lines report.last_tick) }

@@ -10,9 +10,9 @@ ghost use Rattle.command_words.specs.declared.orders.Order.TheVariants.{Run};
 ghost use Rattle.ats_run.specs.Command.{Comes, IsDocWith};
 ghost use Rattle.ats_run.specs.Complete.{IsAcceptedInput, IsGoodInput, IsDoneOrMemory};
 ghost use Rattle.ats_run.specs.Headline.{IsRun, IsRoundRobin};
-ghost use Rattle.ats_run.specs.Causes.{Call, IsCause, IsUnread, IsUnwritten, Tells, most_bytes};
+ghost use Rattle.ats_run.specs.Causes.{Call, IsReadWhole, IsCause, IsUnread, IsUnwritten, Tells, most_bytes};
 ghost use Rattle.ats_run.specs.Ending.{status_of};
-ghost use Rattle.ats_run.specs.Report.{line_of as line_of_failure};
+ghost use Rattle.ats_run.specs.Report.{line_of as line_of_failure, IsLineMade};
 
 use crate::answer::answer;
 use crate::lines::{fixed_line, line_of};
@@ -28,6 +28,7 @@ const MOST_BYTES: usize = 16_777_216;
 fn read_input<S: Source>(alloc: Global, source: &mut S) -> Result<Vec<u8>, Failure>
     ensures bytes { IfOk result (λ bytes. IfSome (S.left source.old) (λ all. bytes.items ≡ all)) }
     ensures end { OnOk result (IsAtEnd (S.left source.new)) }
+    ensures within { OnOk result (IfSome (S.left source.old) (λ all. length all ≤ most_bytes)) }
 
     ensures unread { IfErr result (IsUnread (S.left source.old) (Rose (S.faults source.old) (S.faults source.new))) }
 
@@ -73,7 +74,7 @@ fn serve<S: Source, K: Sink>(
 ) -> Result<(), Failure>
     requires reads { Reads order }
     requires numbers { HasItsNumbers order }
-    ensures end { OnOk result (IsAtEnd (S.left source.new)) }
+    ensures read { OnOk result (IsReadWhole order (S.left source.old) (IsAtEnd (S.left source.new))) }
     ensures done { OnOk result (OnInput order (S.left source.old)
         (λ input. (written : List ℕ) × Comes order input (Ok written) × Adds (K.taken out.old) (K.taken out.new) written)) }
 
@@ -85,7 +86,7 @@ fn serve<S: Source, K: Sink>(
       sink_failed = Rose (K.faults out.old) (K.faults out.new);
     })) }
     ensures nothing { IfErr result (λ e. e ≢ Failure.WriteFault → Adds (K.taken out.old) (K.taken out.new) []) }
-    ensures prefix { result ≡ Err Failure.WriteFault → OnInput order (S.left source.old)
+    ensures prefix { result ≡ Err Failure.WriteFault → IsReadWhole order (S.left source.old) (IsAtEnd (S.left source.new)) × OnInput order (S.left source.old)
         (λ input. (written : List ℕ) × Comes order input (Ok written) × AddsPrefix (K.taken out.old) (K.taken out.new) written) }
 
     ensures at_most { ConsumesAtMost (most_bytes + 1) (S.left source.old) (S.left source.new) }
@@ -101,7 +102,7 @@ fn is_reading(order: Order) -> bool
     !matches!(order, Order::Generate { .. } | Order::Drill { .. })
 }
 
-// The same for the words of a command line.
+// What the words of a command line ask for, on what the source holds, written to the sink.
 fn serve_words<S: Source, K: Sink>(
     rt: &(impl Threads + Sync),
     alloc: Global,
@@ -109,7 +110,7 @@ fn serve_words<S: Source, K: Sink>(
     source: &mut S,
     out: &mut K,
 ) -> Result<(), Failure>
-    ensures done { OnOk result ((order : OrderValue) × (order_of (map string_bytes line.now) ≡ Some order) × (Reads order → IsAtEnd (S.left source.new))
+    ensures done { OnOk result ((order : OrderValue) × (order_of (map string_bytes line.now) ≡ Some order) × IsReadWhole order (S.left source.old) (IsAtEnd (S.left source.new))
         × OnInput order (S.left source.old) (λ input. (written : List ℕ) × Comes order input (Ok written) × Adds (K.taken out.old) (K.taken out.new) written)) }
 
     ensures cause { IfErr result (IsCause (record {
@@ -120,9 +121,10 @@ fn serve_words<S: Source, K: Sink>(
       sink_failed = Rose (K.faults out.old) (K.faults out.new);
     })) }
     ensures nothing { IfErr result (λ e. e ≢ Failure.WriteFault → Adds (K.taken out.old) (K.taken out.new) []) }
-    ensures prefix { result ≡ Err Failure.WriteFault → (order : OrderValue) × (order_of (map string_bytes line.now) ≡ Some order)
+    ensures prefix { result ≡ Err Failure.WriteFault → (order : OrderValue) × (order_of (map string_bytes line.now) ≡ Some order) × IsReadWhole order (S.left source.old) (IsAtEnd (S.left source.new))
         × OnInput order (S.left source.old) (λ input. (written : List ℕ) × Comes order input (Ok written) × AddsPrefix (K.taken out.old) (K.taken out.new) written) }
 
+    ensures untouched { IfSome (order_of (map string_bytes line.now)) (λ order. Reads order → ⊥) → source.new ≡ source.old }
     ensures at_most { ConsumesAtMost (most_bytes + 1) (S.left source.old) (S.left source.new) }
 {
     match words(alloc, line) {
@@ -143,9 +145,10 @@ fn tell<E: Sink>(err: &mut E, line: &str)
     }
 }
 
-/// Tells a failure on `err`, and gives what was told: where there is no memory for its line, that. A fault of `err` changes nothing.
+/// Tells a failure on `err`, and gives what was told: the failure, or, where its line is made and there is no memory for it, that. A fault
+/// of `err` changes nothing.
 pub fn refuse<E: Sink>(alloc: Global, failure: Failure, err: &mut E) -> Failure
-    ensures kept { (result ≡ failure) ⊎ (result ≡ Failure.Memory) }
+    ensures kept { (result ≡ failure) ⊎ ((result ≡ Failure.Memory) × IsLineMade failure) }
     ensures prefix { AddsPrefix (E.taken err.old) (E.taken err.new) (line_of_failure result) }
     ensures whole { (Rose (E.faults err.old) (E.faults err.new) → ⊥) → Adds (E.taken err.old) (E.taken err.new) (line_of_failure result) }
 {
@@ -179,11 +182,11 @@ pub fn ats<S: Source, K: Sink, E: Sink>(
 ) -> Status
     // A run that ends well: the text of one whole journal of checked tables, from every state of which each way of going on ends well.
     ensures headline { (workers rounds : ℕ) → result ≡ Status.Done → order_of (map string_bytes line.now) ≡ Some (Run workers rounds)
-        → IfSome (S.left source.old) (λ input. (written : List ℕ) × IsDocWith input (λ D. IsRun D written × IsRoundRobin D written)
+        → IfSome (S.left source.old) (λ input. (written : List ℕ) × IsDocWith input (λ D. (run : IsRun D written) × IsRoundRobin D run.journal)
         × Adds (K.taken out.old) (K.taken out.new) written) }
 
     // Every command that ends well has read all that it reads, has written what it comes to on these bytes, and told nothing.
-    ensures done { result ≡ Status.Done → (order : OrderValue) × (order_of (map string_bytes line.now) ≡ Some order) × (Reads order → IsAtEnd (S.left source.new))
+    ensures done { result ≡ Status.Done → (order : OrderValue) × (order_of (map string_bytes line.now) ≡ Some order) × IsReadWhole order (S.left source.old) (IsAtEnd (S.left source.new))
         × OnInput order (S.left source.old) (λ input. (written : List ℕ) × Comes order input (Ok written) × Adds (K.taken out.old) (K.taken out.new) written) }
     ensures quiet { result ≡ Status.Done → Adds (E.taken err.old) (E.taken err.new) [] }
 
@@ -199,8 +202,8 @@ pub fn ats<S: Source, K: Sink, E: Sink>(
       source_failed = Rose (S.faults source.old) (S.faults source.new);
       sink_failed = Rose (K.faults out.old) (K.faults out.new);
     }) result (Rose (E.faults err.old) (E.faults err.new)) (E.taken err.old) (E.taken err.new) }
-    ensures nothing { result ≢ Status.Done → result ≢ Status.WriteFault → result ≢ Status.Memory → Adds (K.taken out.old) (K.taken out.new) [] }
-    ensures prefix { result ≡ Status.WriteFault → (order : OrderValue) × (order_of (map string_bytes line.now) ≡ Some order)
+    ensures nothing { result ≢ Status.Done → result ≢ Status.WriteFault → Adds (K.taken out.old) (K.taken out.new) [] }
+    ensures prefix { result ≡ Status.WriteFault → (order : OrderValue) × (order_of (map string_bytes line.now) ≡ Some order) × IsReadWhole order (S.left source.old) (IsAtEnd (S.left source.new))
         × OnInput order (S.left source.old) (λ input. (written : List ℕ) × Comes order input (Ok written) × AddsPrefix (K.taken out.old) (K.taken out.new) written) }
 
     // Where no device fails, a good input ends well, or there was no memory.
@@ -208,6 +211,8 @@ pub fn ats<S: Source, K: Sink, E: Sink>(
         → IsGoodInput order input → (Rose (S.faults source.old) (S.faults source.new) → ⊥) → (Rose (K.faults out.old) (K.faults out.new) → ⊥)
         → IsDoneOrMemory result }
 
+    // The source isn't touched where the words are refused or what they ask for reads nothing.
+    ensures untouched { IfSome (order_of (map string_bytes line.now)) (λ order. Reads order → ⊥) → source.new ≡ source.old }
     ensures at_most { ConsumesAtMost (most_bytes + 1) (S.left source.old) (S.left source.new) }
 {
     match serve_words(rt, alloc, line, source, out) {

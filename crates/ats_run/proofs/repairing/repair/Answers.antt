@@ -15,8 +15,8 @@ returns-in_err-parts-clause-unrepaired c =
     c.in_ok-doc.ensures.document c.in_err-parts.ensures.unrepaired c.from_residual-in_err-parts.ensures.1
 
 -- src/repairing.rt:33:5
-pub print_parts-requires-clause-taken : goal.print_parts-requires-clause-taken
-print_parts-requires-clause-taken c =
+pub text_of_parts-requires-clause-taken : goal.text_of_parts-requires-clause-taken
+text_of_parts-requires-clause-taken c =
     let D = c.in_ok-doc.doc in
     let formed = read-is-formed c.args.input.now D c.in_ok-doc.ensures.document in
     subst (λ (parts : List (Table × Tree)). IsTaken (replaced D parts)) (sym c.deref.ensures.value)
@@ -25,11 +25,11 @@ print_parts-requires-clause-taken c =
 pub returns-clause-repaired : goal.returns-clause-repaired
 returns-clause-repaired c =
     let D = c.in_ok-doc.doc in
-    on_both c.print_parts.result _ _ _
+    on_both c.text_of_parts.result _ _ _
     (λ text printed reads. (
       D,
       c.in_ok-doc.ensures.document,
       repaired_is D c.args.budget c.args.rounds c.in_ok-parts.parts.items c.deref.result.now text.items c.requires.most
           c.in_ok-check_connections.ensures.unconnected c.in_ok-parts.ensures.repaired c.deref.ensures.value printed reads,
     ))
-    c.print_parts.ensures.printed c.print_parts.ensures.reads
+    c.text_of_parts.ensures.printed c.text_of_parts.ensures.reads

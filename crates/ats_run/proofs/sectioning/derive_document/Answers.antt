@@ -23,8 +23,8 @@ returns-in_err-check_start-clause-underived c =
     (subst (λ (e : Failure). (e ≡ NoMemory) ⊎ IsUnderived D c.args.most c.args.budget e) (sym got.2) (inr (inr (inl (c.in_ok-tables.ensures.few, bad)))))
 
 -- src/sectioning.rt:48:5
-pub print_parts-requires-clause-taken : goal.print_parts-requires-clause-taken
-print_parts-requires-clause-taken c =
+pub text_of_parts-requires-clause-taken : goal.text_of_parts-requires-clause-taken
+text_of_parts-requires-clause-taken c =
     let D = c.args.doc.now in
     let start =
     of_first D c.args.most Legal c.in_ok-tables.tables.items c.index.result.now c.start_of.result.now c.start_of.ensures.formed c.in_ok-tables.ensures.tables c.index.ensures
@@ -38,8 +38,8 @@ returns-clause-derived c =
     let start =
     of_first D c.args.most Legal c.in_ok-tables.tables.items c.index.result.now c.start_of.result.now c.start_of.ensures.formed c.in_ok-tables.ensures.tables c.index.ensures
     c.start_of.ensures.start c.in_ok-check_start.ensures.legal in
-    on_both c.print_parts.result _ _ _
+    on_both c.text_of_parts.result _ _ _
     (λ text printed reads.
     derived_is D c.args.most c.args.budget c.in_ok-tables.tables.items c.in_ok-parts.parts.items c.deref.result.now text.items c.requires.enough
     c.in_ok-tables.ensures.few start c.in_ok-tables.ensures.tables c.in_ok-parts.ensures.made c.deref.ensures.value printed reads)
-    c.print_parts.ensures.printed c.print_parts.ensures.reads
+    c.text_of_parts.ensures.printed c.text_of_parts.ensures.reads

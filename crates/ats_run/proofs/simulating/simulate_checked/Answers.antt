@@ -7,8 +7,8 @@ returns c =
     let report = c.in_ok-report.report in
     let r = c.in_ok-report.ensures in
     record {
-      simulated = IfOk-weaker c.print_timed.result _ _
+      simulated = IfOk-weaker c.text_of_report.result _ _
           (λ text printed trees accepted.
           simulated c.args.doc.now trees report.state.yard report.state.lines report.ticks.items report.last_tick text.items c.report_of.ensures.formed accepted r.done r.simulates r.soon printed)
-          c.print_timed.ensures;
+          c.text_of_report.ensures;
     }

@@ -5,7 +5,7 @@ use Rattle.rail_model.specs.Names.{Names}
 use Rattle.move_journal.specs.Printable.{IsNamed}
 use Rattle.layout_json.specs.Doc.{names_of}
 use Rattle.ats_run.proofs.Runs.{few_lines, named_lines}
-use Rattle.ats_run.proofs.simulating.print_timed.Goals as goal
+use Rattle.ats_run.proofs.simulating.text_of_report.Goals as goal
 
 pub push_timed-requires-clause-named : goal.push_timed-requires-clause-named
 push_timed-requires-clause-named c =

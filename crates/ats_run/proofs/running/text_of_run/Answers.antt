@@ -6,7 +6,7 @@ use Rattle.rail_model.specs.Journal.{Journal}
 use Rattle.move_journal.specs.Printable.{IsNamed}
 use Rattle.layout_json.specs.Doc.{names_of}
 use Rattle.ats_run.proofs.Runs.{few_lines, named_lines}
-use Rattle.ats_run.proofs.running.print.Goals as goal
+use Rattle.ats_run.proofs.running.text_of_run.Goals as goal
 
 -- src/running.rt:67:25
 pub from_lines-requires : goal.from_lines-requires
