@@ -1,10 +1,12 @@
 pub mod Asks
+pub mod ClaimRows
 pub mod Closed
 pub mod Kept
 pub mod Lists
 pub mod Lost
 pub mod OneAnswer
 pub mod Reached
+pub mod RepairRows
 pub mod Rows
 pub mod Stays
 pub mod Steps

@@ -20,7 +20,7 @@ Completable M p = (l : List ℕ) × (q : List ℕ) × Run (unmarked M) p l q × 
 abbrev pub IsApart : List Mission → List ℕ → Type 0
 IsApart M p = Legal (unmarked M) p
 
--- A state that is over a section of the table can't be completed.
+-- A state with distinct points that is over a section of the table can't be completed.
 abbrev pub ForbidsOnlyIncompletable : List Mission → Table → Type 0
 ForbidsOnlyIncompletable M T = (p : List ℕ) (s : ℕ) → IsApart M p → IsOver T p s → Completable M p → ⊥
 
@@ -35,7 +35,7 @@ table_of (Many T n) = T
 abbrev pub LosesNothing : List Mission → Repair → Type 0
 LosesNothing M r = ForbidsOnlyIncompletable M (table_of r)
 
--- Where it ends with a certificate, a state is legal exactly where it can be completed.
+-- Where it ends with a certificate, a state with distinct points is legal exactly where it can be completed.
 abbrev pub IsExact : List Mission → Repair → Type 0
 IsExact M (Done T c n) = (p : List ℕ) → IsApart M p → Legal T p ↔ Completable M p
 IsExact M _ = Unit {0}
