@@ -1,5 +1,6 @@
 // The words on a table's certificate.
 ghost use Rattle.std.specs.Prelude.{◌≡◌, ◌++◌, OnOk, string_bytes};
+ghost use Rattle.rail_model.specs.declared.types.Bad.TheVariants.{MovePoint, MoveRoom, MoveWait};
 ghost use Rattle.refusal_lines.specs.Certificates.{tree_words, bad_words};
 
 use cert_tree::CertRefused;
@@ -43,26 +44,65 @@ pub fn push_bad(out: &mut String, table: u32, bad: &Bad) -> Result<(), AllocErro
             index,
             train,
             other,
-        } => write!(
-            out,
-            "56 MovePoint table={table} index={index} train={train} other={other}"
-        ),
+        } => push_point(out, table, index, train, other),
         Bad::MoveRoom {
             index,
             train,
             section,
-        } => write!(
-            out,
-            "57 MoveRoom table={table} index={index} train={train} section={section}"
-        ),
+        } => push_room(out, table, index, train, section),
         Bad::Name { index } => write!(out, "58 Name table={table} index={index}"),
         Bad::MoveWait {
             index,
             train,
             connection,
-        } => write!(
-            out,
-            "59 MoveWait table={table} index={index} train={train} connection={connection}"
-        ),
+        } => push_wait(out, table, index, train, connection),
     }
+}
+
+// Adds a move whose point another train may hold.
+fn push_point(
+    out: &mut String,
+    table: u32,
+    index: u32,
+    train: u32,
+    other: u32,
+) -> Result<(), AllocError>
+    ensures { OnOk result (string_bytes out.new ≡ string_bytes out.old ++ bad_words table (MovePoint index train other)) }
+{
+    write!(
+        out,
+        "56 MovePoint table={table} index={index} train={train} other={other}"
+    )
+}
+
+// Adds a move for which a section may lack room.
+fn push_room(
+    out: &mut String,
+    table: u32,
+    index: u32,
+    train: u32,
+    section: u32,
+) -> Result<(), AllocError>
+    ensures { OnOk result (string_bytes out.new ≡ string_bytes out.old ++ bad_words table (MoveRoom index train section)) }
+{
+    write!(
+        out,
+        "57 MoveRoom table={table} index={index} train={train} section={section}"
+    )
+}
+
+// Adds a move that a connection may hold.
+fn push_wait(
+    out: &mut String,
+    table: u32,
+    index: u32,
+    train: u32,
+    connection: u32,
+) -> Result<(), AllocError>
+    ensures { OnOk result (string_bytes out.new ≡ string_bytes out.old ++ bad_words table (MoveWait index train connection)) }
+{
+    write!(
+        out,
+        "59 MoveWait table={table} index={index} train={train} connection={connection}"
+    )
 }

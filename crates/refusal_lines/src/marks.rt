@@ -1,5 +1,6 @@
 // The words on a table's sections and connections.
 ghost use Rattle.std.specs.Prelude.{◌≡◌, ◌++◌, OnOk, string_bytes};
+ghost use Rattle.section_marks.specs.declared.refused.MarkRefused.TheVariants.{Step, Share, ConnectionTrain, ConnectionPlace};
 ghost use Rattle.refusal_lines.specs.Marks.{marks_words, value_words};
 
 use section_marks::MarkRefused;
@@ -22,25 +23,13 @@ pub fn push_marks(out: &mut String, table: usize, refused: &MarkRefused) -> Resu
             train,
             place,
             value,
-        } => {
-            write!(
-                out,
-                "23 Step table={table} section={section} train={train} place={place}"
-            )?;
-            push_value(out, value)
-        }
+        } => push_step(out, table, section, train, place, value),
         MarkRefused::Share {
             section,
             train,
             place,
             value,
-        } => {
-            write!(
-                out,
-                "24 Share table={table} section={section} train={train} place={place}"
-            )?;
-            push_value(out, value)
-        }
+        } => push_share(out, table, section, train, place, value),
         MarkRefused::Limit { section, value } => {
             write!(
                 out,
@@ -50,20 +39,66 @@ pub fn push_marks(out: &mut String, table: usize, refused: &MarkRefused) -> Resu
         MarkRefused::Connections { count } => {
             write!(out, "26 Connections table={table} count={count}")
         }
-        MarkRefused::ConnectionTrain { connection } => {
-            write!(
-                out,
-                "27 ConnectionTrain table={table} connection={connection}"
-            )
-        }
-        MarkRefused::ConnectionPlace { connection } => {
-            write!(
-                out,
-                "28 ConnectionPlace table={table} connection={connection}"
-            )
-        }
+        MarkRefused::ConnectionTrain { connection } => push_train(out, table, connection),
+        MarkRefused::ConnectionPlace { connection } => push_place(out, table, connection),
         MarkRefused::Memory => write!(out, "202 Memory"),
     }
+}
+
+// Adds a change that no train may make.
+fn push_step(
+    out: &mut String,
+    table: usize,
+    section: u32,
+    train: u32,
+    place: u32,
+    value: i32,
+) -> Result<(), AllocError>
+    ensures { OnOk result (string_bytes out.new ≡ string_bytes out.old ++ marks_words table (Step section train place value)) }
+{
+    write!(
+        out,
+        "23 Step table={table} section={section} train={train} place={place}"
+    )?;
+    push_value(out, value)
+}
+
+// Adds a share that no train may have.
+fn push_share(
+    out: &mut String,
+    table: usize,
+    section: u32,
+    train: u32,
+    place: u32,
+    value: i32,
+) -> Result<(), AllocError>
+    ensures { OnOk result (string_bytes out.new ≡ string_bytes out.old ++ marks_words table (Share section train place value)) }
+{
+    write!(
+        out,
+        "24 Share table={table} section={section} train={train} place={place}"
+    )?;
+    push_value(out, value)
+}
+
+// Adds a connection whose trains are wrong.
+fn push_train(out: &mut String, table: usize, connection: u32) -> Result<(), AllocError>
+    ensures { OnOk result (string_bytes out.new ≡ string_bytes out.old ++ marks_words table (ConnectionTrain connection)) }
+{
+    write!(
+        out,
+        "27 ConnectionTrain table={table} connection={connection}"
+    )
+}
+
+// Adds a connection whose places are wrong.
+fn push_place(out: &mut String, table: usize, connection: u32) -> Result<(), AllocError>
+    ensures { OnOk result (string_bytes out.new ≡ string_bytes out.old ++ marks_words table (ConnectionPlace connection)) }
+{
+    write!(
+        out,
+        "28 ConnectionPlace table={table} connection={connection}"
+    )
 }
 
 // Adds a change or a share, with its sign.
