@@ -1,19 +1,20 @@
 -- Worked rows: a journal that is whole, and journals with each fault.
-use Rattle.std.proofs.Common.{◌≡◌, ℕ, zero, suc, ◌+◌, ◌<◌, ◌≤◌, pos, negsuc, List, [], ◌∷◌, false, Some, None, refl, sym, ◌∙◌, lit<, lit≤, arith, inl, inr}
+use Rattle.std.proofs.Common.{◌≡◌, ℕ, zero, suc, ◌+◌, ◌<◌, ◌≤◌, pos, negsuc, List, [], ◌∷◌, false, Some, None, Ok, Err, refl, sym, ◌∙◌, lit<, lit≤, arith, inl, inr}
 use Rattle.std.proofs.lemmas.Int.{ints}
 use Rattle.std.proofs.lemmas.Option.{same_Some}
-use Rattle.rail_model.specs.declared.types.Ask.TheVariants.{Arrived as AtEnd, Full}
+use Rattle.rail_model.specs.declared.types.Ask.TheVariants.{Arrived as AtEnd, Full, Waits}
 use Rattle.rail_model.specs.declared.types.Line.{Line}
-use Rattle.rail_model.specs.declared.types.Line.TheVariants.{Move, Table as TableLine}
+use Rattle.rail_model.specs.declared.types.Line.TheVariants.{Move, Table as TableLine, KeptDiffers}
 use Rattle.rail_model.specs.Table.{Table, trains, point, place, last}
 use Rattle.rail_model.specs.State.{Legal, StandsAt}
 use Rattle.rail_model.specs.Move.{Move as Step, Blocks}
+use Rattle.rail_model.specs.Exchange.{DiffersAt}
 use Rattle.rail_model.specs.Yard.{Offer, offer, opening}
 use Rattle.rail_model.specs.Journal.{IsRight, IsDone, IsWhole, after_lines}
 use Rattle.move_journal.specs.declared.faults.BadLine.TheVariants as bad
 use Rattle.move_journal.specs.Printable.{AreEnough}
 use Rattle.move_journal.specs.Counted.{journal_of}
-use Rattle.move_journal.specs.Replays.{IsBad, HasBadLine, Lacks}
+use Rattle.move_journal.specs.Replays.{IsBad, HasBadLine, Replays, Lacks, IsNotWhole, Verifies}
 use Rattle.move_journal.proofs.Samples.{names, path}
 
 abbrev alone : List Offer
@@ -48,11 +49,23 @@ done = (arrived, λ open_table. omega (arith, open_table))
 whole : IsWhole alone (opening (0 ∷ [])) (journal_of lines)
 whole = record { right = right; done = done; moves = refl; exchanges = refl }
 
+replayed : Replays alone (opening (0 ∷ [])) (journal_of lines) (Ok (record { yard = record { positions = 2 ∷ []; table = 0; tried = 0; moves = 2 }; lines = lines }))
+replayed = record { right = right; yard = refl; lines = refl }
+
+verified : Verifies alone (opening (0 ∷ [])) (journal_of lines) (Ok tt)
+verified = whole
+
 unfinished : Lacks alone (after_lines (opening (0 ∷ [])) (Move 0 0 (Some 1) ∷ [])) (journal_of (Move 0 0 (Some 1) ∷ [])) (bad.Unfinished 0)
 unfinished = ((lit< tt, λ e. absurd (omega (arith, e))), λ j below short. absurd (omega arith))
 
 three_moves : Lacks alone (after_lines (opening (0 ∷ [])) lines) (record { lines = lines; moves = 3; tables = 0 }) bad.Counts
 three_moves = (done, λ counts. absurd (omega (arith, counts.0)))
+
+miscounted : Verifies alone (opening (0 ∷ [])) (record { lines = lines; moves = 3; tables = 0 }) (Err bad.Counts)
+miscounted = inr (right, three_moves)
+
+no_such_train : IsBad alone (opening (0 ∷ [])) 1 (Move 1 0 (Some 1)) (bad.Place 1)
+no_such_train = (refl, inl (lit≤ tt))
 
 -- table 1 is due when all have arrived
 abbrev followed : List Offer
@@ -75,6 +88,12 @@ twice = (
   (refl, inr ((λ e. absurd (omega (arith, e))), λ at. absurd (let h : Some 1 ≡ Some 0 = at.0 in cc))),
 )
 
+refused : Replays alone (opening (0 ∷ [])) (journal_of (Move 0 0 (Some 1) ∷ Move 0 0 (Some 1) ∷ [])) (Err (bad.Place 2))
+refused = twice
+
+not_whole : IsNotWhole alone (opening (0 ∷ [])) (journal_of (Move 0 0 (Some 1) ∷ Move 0 0 (Some 1) ∷ [])) (bad.Place 2)
+not_whole = inl twice
+
 goes_on : IsBad alone (after_lines (opening (0 ∷ [])) lines) 3 (Move 0 2 None) (bad.Move 3 AtEnd)
 goes_on = (refl, (lit< tt, refl, (λ e. absurd cc), inl refl))
 
@@ -93,6 +112,49 @@ free_point (suc (suc by)) h = omega (arith, h.0)
 
 full : IsBad (record { table = corridor; after = 0 } ∷ []) (opening (1 ∷ 0 ∷ [])) 1 (Move 1 4 (Some 2)) (bad.Move 1 (Full 0 1))
 full = (refl, (lit< tt, (lit< tt, free_point, ((lit< tt, grind (arith, ints)), λ j below. absurd (omega arith)), refl), (λ e. absurd cc), inr (refl, refl)))
+
+-- T0 waits at its first place until T1 has left its own
+abbrev waiting : Table
+waiting = record {
+  missions = record { points = 0 ∷ 1 ∷ []; exits = false } ∷ record { points = 2 ∷ 3 ∷ []; exits = false } ∷ [];
+  sections = [];
+  connections = record { train = 0; place = 0; other = 1; reached = 1 } ∷ [];
+}
+
+no_blocker : (by : ℕ) → Blocks waiting (0 ∷ 0 ∷ []) 0 by → ⊥
+no_blocker zero h = h.1 refl
+no_blocker (suc zero) h = omega (arith, same_Some {A = ℕ} 1 2 (h.2.1 ∙ sym h.2.2))
+no_blocker (suc (suc by)) h = omega (arith, h.0)
+
+waits : IsBad (record { table = waiting; after = 0 } ∷ []) (opening (0 ∷ 0 ∷ [])) 1 (Move 0 0 (Some 1)) (bad.Move 1 (Waits 0))
+waits = (
+  refl,
+  (
+    lit< tt,
+    (lit< tt, no_blocker, (λ s over. omega (arith, over.0)), ((record { train = 0; place = 0; other = 1; reached = 1 }, refl, refl, refl, lit< tt), λ c below. absurd (omega arith))),
+    (λ e. absurd cc),
+    inr (refl, refl),
+  ),
+)
+
+-- a table that leads T0 on as before takes over at once
+exchanges : IsRight (record { table = path; after = 0 } ∷ record { table = path; after = 0 } ∷ []) (opening (0 ∷ [])) (TableLine 1 ∷ [])
+exchanges = ((refl, ((lit< tt, inl (lit≤ tt)), (agrees, λ s over. omega (arith, over.0)))), tt)
+  where
+    agrees : (i k : ℕ) → DiffersAt path path (0 ∷ []) i k → ⊥
+    agrees zero k (within, low, inl above) = omega (arith, low, above)
+    agrees zero k (within, low, inr other) = other refl
+    agrees (suc i) k h = omega (arith, h.0)
+
+-- a table by which T0 would stand at point 3 is kept out
+abbrev moved_start : Table
+moved_start = record { missions = record { points = 3 ∷ 1 ∷ 2 ∷ []; exits = false } ∷ []; sections = []; connections = [] }
+
+kept : IsRight (record { table = path; after = 0 } ∷ record { table = moved_start; after = 0 } ∷ []) (opening (0 ∷ [])) (KeptDiffers 1 0 0 ∷ [])
+kept = ((refl, ((lit< tt, inl (lit≤ tt)), (((0, differs), λ j below. absurd (omega arith)), (differs, λ k below. absurd (omega arith))))), tt)
+  where
+    differs : DiffersAt path moved_start (0 ∷ []) 0 0
+    differs = (lit< tt, lit≤ tt, inr (λ e. absurd cc))
 
 -- three names of points and one of a train are enough for the first path
 enough : AreEnough names alone

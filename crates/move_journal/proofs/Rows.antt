@@ -1,5 +1,5 @@
 -- Worked rows: texts that are read, and texts with each fault.
-use Rattle.std.proofs.Common.{◌≡◌, ℕ, ◌<◌, List, [], ◌∷◌, ◌++◌, length, true, not, Some, None, refl, sym, codes, lit<, arith}
+use Rattle.std.proofs.Common.{◌≡◌, ℕ, ◌<◌, List, [], ◌∷◌, ◌++◌, length, true, not, Some, None, Ok, Err, refl, sym, codes, lit<, arith}
 use Rattle.std.specs.Prelude.{◌==◌}
 use Rattle.std.specs.List.{list_all}
 use Rattle.std.proofs.lemmas.Bool.Decides.{nat_tests}
@@ -10,13 +10,14 @@ use Rattle.rail_model.specs.declared.types.Line.{Line}
 use Rattle.rail_model.specs.declared.types.Line.TheVariants.{Move, Table, KeptDiffers, KeptOver}
 use Rattle.rail_model.specs.Journal.{text}
 use Rattle.move_journal.specs.declared.faults.BadText.TheVariants.{Line as BadLine, Number, After, NoEnd}
+use Rattle.move_journal.specs.declared.lines.Part.TheVariants.{Whole, Open}
 use Rattle.move_journal.specs.declared.reading.Head.TheVariants.{Other}
 use Rattle.move_journal.specs.Printable.{IsNamed, IsPrintable, ArePrintable}
 use Rattle.move_journal.specs.Counted.{journal_of}
-use Rattle.move_journal.specs.Answers.{IsTextOf, IsFrontOf, Reads, HasFault}
+use Rattle.move_journal.specs.Answers.{IsTextOf, IsFrontOf, Reads, HasFault, Answers, AnswersPrefix}
 use Rattle.move_journal.specs.Words.{word_list, called, target_of, move_of, table_of, differs_of, over_of, kept_of, line_of, numbered_of, field_of, end_of}
 use Rattle.move_journal.proofs.Again.{IsOneLine}
-use Rattle.move_journal.proofs.Begins.{begins_with}
+use Rattle.move_journal.proofs.Begins.{begins_with, begins_none}
 use Rattle.move_journal.proofs.Samples.{names, are_names}
 
 move_words : numbered_of names (word_list (codes "1 move T0 A B")) ≡ Some (1, Move 0 0 (Some 1))
@@ -91,6 +92,15 @@ front = record {
   counts = (refl, refl);
 }
 
+read_whole : Answers names (codes "1 move T0 A B\n2 move T0 B C\nend moves=2 tables=0\n") (Ok (journal_of lines))
+read_whole = whole
+
+prefix_whole : AnswersPrefix names (codes "1 move T0 A B\n2 move T0 B C\nend moves=2 tables=0\n") (Ok (Whole (journal_of lines)))
+prefix_whole = whole
+
+prefix_open : AnswersPrefix names (codes "1 move T0 A B\n2 move T0 B C\n") (Ok (Open (journal_of lines)))
+prefix_open = front
+
 named_exit : IsNamed names (Move 0 2 None)
 named_exit = (lit< tt, lit< tt, tt)
 
@@ -144,3 +154,11 @@ bytes_after = (
 
 no_end : HasFault names [] NoEnd
 no_end = ([], [], nothing [], refl)
+
+end_without_newline : Answers names (codes "end moves=0 tables=0") (Err (BadLine 1))
+end_without_newline = (
+  [],
+  codes "end moves=0 tables=0",
+  nothing _,
+  (refl, lit< tt, begins_none names (codes "end moves=0 tables=0") (one_line (codes "end moves=0 tables=0") refl)),
+)
