@@ -1,12 +1,14 @@
 pub mod Accept
 pub mod Boxes
 pub mod Exists
+pub mod FallbackRows
 pub mod First
 pub mod Forks
 pub mod Grown
 pub mod Kept
 pub mod Loop
 pub mod Meaning
+pub mod PathRows
 pub mod Rivals
 pub mod Rows
 pub mod StuckFound
