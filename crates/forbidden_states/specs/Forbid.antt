@@ -34,7 +34,7 @@ changes_of m stay = map (change_at stay) (below (last_of m + 1))
 abbrev pub all_changes : List Mission → List Stay → List (List ℤ)
 all_changes M stays = map (λ i. changes_of (mission (unmarked M) i) (stay_of stays i)) (below (length M))
 
--- one train fewer than all of them may be in its range
+-- all but one of them may be in their ranges at once
 abbrev pub forbidding : List Mission → List Stay → Section
 forbidding M stays = record { limit = length stays - 1; changes = all_changes M stays }
 
