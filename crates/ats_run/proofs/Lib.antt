@@ -1,7 +1,9 @@
 mod AcceptedInput
 mod AcceptedText
 pub mod Answered
+mod CauseRows
 mod Completing
+mod CutRows
 mod Cutting
 mod Derived
 mod Drilled
@@ -11,12 +13,17 @@ mod Inputs
 mod LightMarked
 mod LineFaults
 pub mod Made
+mod MakeRows
 mod Offered
 mod OneTable
 pub mod Reading
 mod Repairable
 mod Repaired
 mod Resumed
+mod Rows
+mod RunRows
 mod Runs
+mod Samples
 pub mod Simulated
+mod TableRows
 mod Writing

@@ -1,0 +1,72 @@
+-- Worked rows: a certificate that is refused, and one that is made in its place, or is too large for the budget.
+use Rattle.std.proofs.Common.{◌≡◌, ℕ, List, [], ◌∷◌, Ok, Err, refl, arith, lit<, lit≤, inr}
+use Rattle.std.proofs.lemmas.List.Elements.{All-nil}
+use Rattle.command_words.specs.declared.orders.Order.TheVariants.{Check, Make}
+use Rattle.rail_model.specs.declared.types.Bad.TheVariants as bad
+use Rattle.rail_model.specs.declared.types.Node.TheVariants.{Arrived, Move}
+use Rattle.rail_model.specs.Certificate.{arrived, full_box, Accepts, FirstBad, IsGood}
+use Rattle.cert_maker.specs.Rule.{leaf, split, IsRuleTree, Makes}
+use Rattle.cert_maker.specs.declared.made.Made.TheVariants.{Cert as cert}
+use Rattle.layout_json.specs.Doc.{Doc}
+use Rattle.layout_json.specs.Reading.{doc_of}
+use Rattle.layout_json.specs.Trees.{IsTreeOf, tree_at}
+use Rattle.layout_json.specs.Written.{written}
+use Rattle.ats_run.specs.declared.failure.Failure.TheVariants.{Certificate, Spent}
+use Rattle.ats_run.specs.Command.{Comes}
+use Rattle.ats_run.specs.Making.{AreMade, table_in}
+use Rattle.ats_run.proofs.Samples.{table, one_train, good, the_only, trees, accepted}
+
+-- a certificate that says of each place that the train has arrived
+abbrev not_good : Doc
+not_good = one_train (Arrived ∷ [])
+
+not_arrived : FirstBad table arrived (bad.Arrived 0 0)
+not_arrived = record {
+  box = full_box table;
+  node = Arrived;
+  front = [];
+  rest = [];
+  spelled = refl;
+  index = refl;
+  earlier = All-nil (λ v. IsGood table v.0 v.1);
+  refused = ((lit< tt, λ at_end. let low : 0 ≡ 1 = at_end.0 in omega (arith, low)), λ j none not_there. omega (arith, none));
+}
+
+refused : (input : List ℕ) → doc_of input ≡ Ok not_good → Comes Check input (Err (Certificate 0 (bad.Arrived 0 0)))
+refused input read = (
+  not_good,
+  read,
+  (
+    arrived ∷ [],
+    record { one_each = refl; spelled = the_only (λ t. IsTreeOf not_good t (tree_at (arrived ∷ []) t)) (refl, lit≤ tt) },
+    record { in_range = lit< tt; earlier = λ u none. absurd (omega (arith, none)); first_bad = not_arrived },
+  ),
+)
+
+-- the rule's tree of the table has three nodes
+rule_tree : IsRuleTree table (full_box table) (split 0 0 (leaf (Move 0)) (leaf Arrived))
+rule_tree = (refl, refl, refl, refl, refl)
+
+made : AreMade (table ∷ []) 3 trees
+made = record {
+  one_each = refl;
+  made = the_only (λ t. Makes (table_in (table ∷ []) t) 3 (cert (tree_at trees t))) (split 0 0 (leaf (Move 0)) (leaf Arrived), rule_tree, (refl, lit≤ tt));
+  accepted = the_only (λ t. Accepts (table_in (table ∷ []) t) (tree_at trees t)) (accepted.accepted 0 (lit< tt));
+}
+
+-- a budget of three nodes is enough, and the old certificate goes
+remade : (input : List ℕ) → doc_of input ≡ Ok not_good → doc_of (written good) ≡ Ok good → Comes (Make 3) input (Ok (written good))
+remade input read again = (not_good, read, (trees, made, record { printed = refl; reads = again; accepted = accepted }))
+
+-- a budget of two isn't
+two_spent : (input : List ℕ) → doc_of input ≡ Ok not_good → Comes (Make 2) input (Err (Spent 0 2))
+two_spent input read = inr (
+  not_good,
+  read,
+  record {
+    table = 0;
+    in_range = lit< tt;
+    earlier = λ u none. absurd (omega (arith, none));
+    none = (refl, (split 0 0 (leaf (Move 0)) (leaf Arrived), rule_tree, (refl, lit< tt)));
+  },
+)
