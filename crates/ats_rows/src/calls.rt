@@ -1,5 +1,6 @@
 // One call of the program in memory.
-ghost use Rattle.std.specs.Prelude.{◌<◌};
+ghost use Rattle.std.specs.Prelude.{◌≡◌, ◌<◌, [], Some, ℕ, List, IfOk, map, option_map, string_bytes};
+ghost use Rattle.ats_rows.specs.Calls.{IsPlayed};
 
 use ats_io::{MemSink, MemSource, SureSink};
 use ats_run::{Status, ats};
@@ -23,16 +24,40 @@ pub struct Played {
 }
 
 // A copy of some bytes.
-fn copied(alloc: Global, bytes: &[u8]) -> Result<Vec<u8>, AllocError> {
+fn copied(alloc: Global, bytes: &[u8]) -> Result<Vec<u8>, AllocError>
+    ensures { IfOk result (λ copy. copy.items ≡ bytes.now) }
+{
     bytes.to_vec(alloc)
 }
 
 // A copy of the bytes that a sink took, where it tells them.
-fn copied_of(alloc: Global, sink: &SureSink) -> Result<Option<Vec<u8>>, AllocError> {
+fn copied_of(alloc: Global, sink: &SureSink) -> Result<Option<Vec<u8>>, AllocError>
+    ensures { IfOk result (λ told. option_map (λ bytes. bytes.items) told ≡ sink.now) }
+{
     match sink.bytes() {
         Some(bytes) => Ok(Some(copied(alloc, bytes)?)),
         None => Ok(None),
     }
+}
+
+// The program called over these devices.
+fn play_on(
+    rt: &(impl Threads + Sync),
+    alloc: Global,
+    line: &[String],
+    source: &mut MemSource,
+    out: &mut MemSink,
+    err: &mut SureSink,
+) -> Result<Played, AllocError>
+    ensures played { (input : List ℕ) → source.old.left ≡ input → out.old.taken ≡ [] → err.old ≡ Some []
+        → IfOk result (λ played. IsPlayed (map string_bytes line.now) input played.status played.written.items (option_map (λ told. told.items) played.told)) }
+{
+    let status = ats(rt, alloc, line, source, out, err);
+    Ok(Played {
+        status,
+        written: copied(alloc, out.bytes())?,
+        told: copied_of(alloc, err)?,
+    })
 }
 
 /// Calls the program with these words on an input in memory. What it tells goes to a sink that never fails.
@@ -48,14 +73,10 @@ pub fn play(
     faults: Faults<'_>,
 ) -> Result<Played, AllocError>
     requires { 0 < faults.most }
+    ensures { IfOk result (λ played. IsPlayed (map string_bytes line.now) input.items played.status played.written.items (option_map (λ told. told.items) played.told)) }
 {
     let mut source = MemSource::new(input, faults.most, faults.reads.to_vec(alloc)?);
     let mut out = MemSink::new(alloc, faults.most, faults.writes.to_vec(alloc)?)?;
     let mut err = SureSink::new(alloc)?;
-    let status = ats(rt, alloc, line, &mut source, &mut out, &mut err);
-    Ok(Played {
-        status,
-        written: copied(alloc, out.bytes())?,
-        told: copied_of(alloc, &err)?,
-    })
+    play_on(rt, alloc, line, &mut source, &mut out, &mut err)
 }
