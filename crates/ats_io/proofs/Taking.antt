@@ -10,7 +10,3 @@ use Rattle.ats_io.specs.Bytes.{ConsumesAtMost}
 pub takes_more : (a b c : Option (List ℕ)) (xs ys : List ℕ) (n most : ℕ) → Consumes a b xs → Consumes b c (take n ys) → length xs + n ≤ most → ConsumesAtMost most a c
 takes_more a b c xs ys n most first second le =
     (xs ++ take n ys, Consumes-trans a b c xs (take n ys) first second, omega (arith, length-append xs (take n ys), length-take n ys))
-
--- a further read that gave none
-pub takes_none : (a b c : Option (List ℕ)) (xs : List ℕ) (most : ℕ) → Consumes a b xs → Keeps b c → length xs ≤ most → ConsumesAtMost most a c
-takes_none a b c xs most first same le = (xs, Consumes-kept a b c xs first same, le)

@@ -1,4 +1,5 @@
-// Where a pass calls out while it works, so that a test can hold it there.
+// Where a pass calls out while it works, so that a test can hold it there. No call of this repository takes a gate: it is kept for callers
+// that run trains by threads, each thread a pass that takes zones, reads and writes numbers, and gives the zones back.
 
 /// A moment of a pass at the shared yard.
 #[derive(Clone, Copy, Debug, PartialEq, Eq)]

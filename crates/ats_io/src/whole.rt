@@ -40,6 +40,10 @@ impl From<Failed> for ReadAll {
 pub struct WriteFault;
 
 /// All the bytes that the source has left, if they are at most `limit`.
+///
+/// # Errors
+///
+/// More bytes than that; a fault of the source; want of memory.
 pub fn read_all<S: Source>(alloc: Global, source: &mut S, limit: usize) -> Result<Vec<u8>, ReadAll>
     ensures bytes { IfOk result (λ bytes. IfSome (S.left source.old) (λ all. bytes.items ≡ all)) }
     ensures end { OnOk result (IsAtEnd (S.left source.new)) }
@@ -68,6 +72,10 @@ pub fn read_all<S: Source>(alloc: Global, source: &mut S, limit: usize) -> Resul
 }
 
 /// Writes all the bytes. It takes no memory.
+///
+/// # Errors
+///
+/// A fault of the sink, which then has taken a first part of the bytes.
 pub fn write_all<K: Sink>(sink: &mut K, bytes: &[u8]) -> Result<(), WriteFault>
     ensures all { OnOk result (Adds (K.taken sink.old) (K.taken sink.new) bytes.now) }
 

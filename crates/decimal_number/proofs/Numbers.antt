@@ -65,10 +65,6 @@ number_takes word n is =
 pub digits-decimal : (n : ℕ) → n < 2 ^ 32 → all_ascii_digits (decimal n) ≡ true
 digits-decimal n small = digits_decimal own n (omega arith)
 
--- a byte that is no digit isn't in a number's text
-pub none_in_decimal : (n c : ℕ) → n < 2 ^ 32 → (IsInRange 48 57 c → ⊥) → All (λ b. b ≢ c) (decimal n)
-none_in_decimal n c small out = All-from_get_or (λ b. b ≢ c) (decimal n) 0 (λ i h. not_in_digits own (decimal n) c (digits-decimal n small) out i h)
-
 -- a number's text has no leading zero
 pub has_leading_zero-decimal : (n : ℕ) → n < 2 ^ 32 → has_leading_zero (decimal n) ≡ false
 has_leading_zero-decimal n small = elim (cases_lt n 10) [
