@@ -1,19 +1,19 @@
 -- What a document keeps, from how its members were taken.
 use Rattle.std.proofs.Common.{◌≡◌, ◌∙◌, ℕ, ◌<◌, ◌≤◌, false, List, [], length, get_or, All, None, Result, Ok, refl, sym, ap, subst, arith, zero-add}
 use Rattle.std.proofs.lemmas.Bool.Decides.{nat_tests}
-use Rattle.std.proofs.lemmas.Grind.{common_steps}
-use Rattle.std.proofs.lemmas.List.{length-map}
+use Rattle.std.proofs.lemmas.List.{length-map, get_or_default}
 use Rattle.std.proofs.Math.ListN.{get_or-map}
 use Rattle.rail_model.specs.Layout.{Layout, IsLayout, point_names}
 use Rattle.rail_model.specs.Names.{Names, IsNames}
 use Rattle.rail_model.specs.State.{Legal}
 use Rattle.rail_model.specs.Table.{IsTable, trains}
 use Rattle.rail_model.specs.Turns.{in_turn, unless}
-use Rattle.rail_model.proofs.Firsts.{then_some-none, unless-ok}
+use Rattle.rail_model.proofs.Firsts.{then_some-none}
 use Rattle.rail_model.specs.Yard.{Offer, offer}
 use Rattle.table_exchange.specs.Tables.{AreTables}
 use Rattle.track_layout.specs.Making.{layout_from}
-use Rattle.mission_table.specs.Roster.{trains_from, trains_refusal}
+use Rattle.mission_table.specs.Roster.{trains_from}
+use Rattle.mission_table.proofs.Taken.{trains_taken}
 use Rattle.document_shapes.specs.Each.{each_from}
 use Rattle.document_shapes.specs.Raw.{DocMembers, TableMembers, IsRead, IsOfVersion}
 use Rattle.document_shapes.proofs.EachLemmas.{each-length, each-good, each-again}
@@ -31,7 +31,7 @@ use Rattle.layout_json.proofs.TableBack.{IsDocTableOf, doc_table-made, doc_table
 use Rattle.layout_json.proofs.Timed.{length-timed, timed-at}
 use Rattle.layout_json.proofs.WaysBack.{missions-made_of}
 
-abbrev no_table : DocTable
+abbrev pub no_table : DocTable
 no_table = record { table = record { missions = []; sections = []; connections = [] }; after = 0; times = []; nodes = [] }
 
 abbrev offered : DocTable → Offer
@@ -39,9 +39,6 @@ offered d = record { table = d.table; after = d.after }
 
 ap₃ : {A B C D : Type 0} (f : A → B → C → D) {a a' : A} {b b' : B} {c c' : C} → a ≡ a' → b ≡ b' → c ≡ c' → f a b c ≡ f a' b' c'
 ap₃ f p q r = λ i. f (p i) (q i) (r i)
-
-get_or_any : {X : Type 0} (xs : List X) (k : ℕ) (d e : X) → k < length xs → get_or xs k d ≡ get_or xs k e
-get_or_any xs k d e lt = grind (arith, common_steps)
 
 -- How the members of a document were taken.
 pub record IsChecked (m : DocMembers) (L : Layout) (N : Names) (ts : List Untimed) (xs : List (List (List ℕ))) : Type 0 where
@@ -110,7 +107,7 @@ module _ (m : DocMembers) (L : Layout) (N : Names) (ts : List Untimed) (xs : Lis
   table_formed t lt =
       let within : t < length ts = omega (arith, length-timed ts xs c.each_timed, lt) in
       let plain : Untimed = record { table = (no_table).table; after = 0; nodes = [] } in
-      let here = timed-at ts xs t (get_or ts t plain) no_table c.each_timed within (get_or_any ts t plain (get_or ts t plain) within) in
+      let here = timed-at ts xs t (get_or ts t plain) no_table c.each_timed within (get_or_default ts t plain (get_or ts t plain) within) in
       subst IsTable here.table (c.tables_formed t plain within)
 
   doc_is : IsDoc D
@@ -126,8 +123,7 @@ module _ (m : DocMembers) (L : Layout) (N : Names) (ts : List Untimed) (xs : Lis
   }
 
   trains_are : N.trains ≡ m.trains
-  unfolding trains_from
-  trains_are = sym (unless-ok (trains_refusal m.trains) m.trains N.trains c.trains).1
+  trains_are = ((trains_taken m.trains N.trains).0 c.trains).0
 
   abbrev behind_tables : List (List ℕ) → Layout → List DocTable → Result Doc DocRefused
   behind_tables names l tables =

@@ -1,13 +1,14 @@
 -- A layout gives back the lists that it was made of.
-use Rattle.std.proofs.Common.{◌≡◌, ◌∙◌, ℕ, suc, List, [], ◌∷◌, length, map, get_or, slice_get, Some, None, true, Ok, bytes_eq, refl, sym, ap, ap₂}
+use Rattle.std.proofs.Common.{◌≡◌, ◌∙◌, ℕ, suc, List, [], ◌∷◌, length, map, get_or, slice_get, Some, option_map, true, Ok, bytes_eq, refl, sym, ap, ap₂, subst, arith}
 use Rattle.std.specs.Cmp.Lexicographic.{bytes_decides}
+use Rattle.std.proofs.lemmas.List.{length-map}
 use Rattle.std.proofs.lemmas.List.Sums.{passes_at_first}
-use Rattle.rail_model.specs.Layout.{Layout, Link, point_names}
-use Rattle.rail_model.proofs.Firsts.{option_or-none, unless-ok}
+use Rattle.std.proofs.lemmas.Option.{slice_get-map}
+use Rattle.rail_model.specs.Layout.{Layout, Link, IsLayout, point_names}
 use Rattle.rail_model.proofs.Places.{found_within}
-use Rattle.track_layout.specs.Making.{names_of, zones_of, number_in, is_known, too_many, no_zone, bad_name, double_name, zone_range, zone_empty, unknown_point, link_value, layout_value, layout_refusal, layout_from}
-use Rattle.track_layout.specs.declared.refused.What.TheVariants.{Points, Links, Zones}
-use Rattle.track_layout.proofs.Formed.{known_at, names_made}
+use Rattle.track_layout.specs.Making.{names_of, number_in, is_known, link_value, layout_value, layout_from}
+use Rattle.track_layout.proofs.Formed.{names_made}
+use Rattle.track_layout.proofs.Taken.{known, taken as layouts_taken}
 
 -- a known name stands at its number
 pub name-at_number : (names : List (List ℕ)) (name : List ℕ) → is_known names name ≡ true → get_or names (number_in names name) [] ≡ name
@@ -37,29 +38,22 @@ pub record IsMadeOf (L : Layout) (points : List (List ℕ × ℕ)) (links : List
   pub links_are : ends (point_names L) L.links ≡ links
   pub zones_are : L.zones ≡ zones
 
-made_of_value : (points : List (List ℕ × ℕ)) (links : List (List ℕ × List ℕ)) (zones : ℕ) → layout_refusal points links zones ≡ None
+made_of_value : (points : List (List ℕ × ℕ)) (links : List (List ℕ × List ℕ)) (zones : ℕ) → IsLayout (layout_value points links zones)
     → IsMadeOf (layout_value points links zones) points links zones
-made_of_value points links zones h =
+made_of_value points links zones is =
     let names = names_of points in
-    let a = option_or-none (too_many Points 512 (length points)) _ h in
-    let b = option_or-none (too_many Links 2048 (length links)) _ a.1 in
-    let c = option_or-none (too_many Zones 16 zones) _ b.1 in
-    let d = option_or-none (no_zone zones) _ c.1 in
-    let e = option_or-none (bad_name names) _ d.1 in
-    let f = option_or-none (double_name names) _ e.1 in
-    let g = option_or-none (zone_range (zones_of points) zones) _ f.1 in
-    let i = option_or-none (zone_empty (zones_of points) zones) _ g.1 in
-    let j = option_or-none (unknown_point names links) _ i.1 in
+    let size : length (layout_value points links zones).points ≡ length names = length-map points _ ∙ sym (length-map points (λ p. p.0)) in
     record {
       points_are = pairs_made points links zones;
       links_are = ap (λ ns. ends ns (map (link_value names) links)) (names_made points links zones)
-          ∙ ends-link_value names links (λ k l at. known_at names links k l j.0 at);
+          ∙ ends-link_value names links (λ k l at.
+          let joined = is.joined k (link_value names l) (slice_get-map (link_value names) links k ∙ ap (option_map (link_value names)) at) in
+          (known names l.0 (omega (arith, joined.0, size)), known names l.1 (omega (arith, joined.1, size))));
       zones_are = refl;
     }
 
 pub layout-made_of : (points : List (List ℕ × ℕ)) (links : List (List ℕ × List ℕ)) (zones : ℕ) (L : Layout) → layout_from points links zones ≡ Ok L
     → IsMadeOf L points links zones
-unfolding layout_from
 layout-made_of points links zones L h =
-    let made = unless-ok (layout_refusal points links zones) (layout_value points links zones) L h in
-    rw (← made.1) (made_of_value points links zones made.0)
+    let made = (layouts_taken points links zones L).0 h in
+    rw made.0 (made_of_value points links zones (subst IsLayout made.0 made.1))

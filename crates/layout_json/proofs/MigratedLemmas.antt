@@ -5,9 +5,8 @@ use Rattle.std.proofs.lemmas.Bool.Decides.{leb_tells, nat_tests}
 use Rattle.std.proofs.lemmas.List.{length-map}
 use Rattle.std.proofs.lemmas.List.Elements.{All-head, All-tail, All-map, All-from_get_or}
 use Rattle.rail_model.specs.Table.{Table, Mission, IsTable}
-use Rattle.rail_model.specs.Turns.{unless}
 use Rattle.mission_table.specs.Ways.{missions_from}
-use Rattle.section_marks.specs.Marking.{table_from}
+use Rattle.section_marks.specs.Keeping.{KeepsTo}
 use Rattle.section_marks.specs.declared.marks.Marks.TheVariants.{Four}
 use Rattle.document_shapes.proofs.EachLemmas.{each-changed, each-good}
 use Rattle.layout_json.specs.Doc.{Doc, DocTable, IsDoc, names_of}
@@ -16,12 +15,12 @@ use Rattle.layout_json.specs.Members.{members_in, table_members_in, in_version}
 use Rattle.layout_json.specs.Migrated.{staying, staying_table, later_version, migrated, IsMigrated}
 use Rattle.layout_json.specs.Reading.{tables_refusal}
 use Rattle.layout_json.specs.Tables.{doc_table_of, exits_or_none}
+use Rattle.layout_json.proofs.DocBack.{no_table}
 use Rattle.layout_json.proofs.DocMade.{IsTabled}
 use Rattle.layout_json.proofs.NamedLemmas.{of_version}
-use Rattle.layout_json.proofs.Remade.{no_table}
 use Rattle.layout_json.proofs.TableBack.{IsTableOf, doc_table-made, doc_table-again}
 use Rattle.layout_json.proofs.Taken.{makes, made-of}
-use Rattle.layout_json.proofs.Marked.{IsMarkedBy, sections-none}
+use Rattle.layout_json.proofs.Marked.{sections-kept}
 use Rattle.layout_json.proofs.WaysBack.{missions-made_of}
 
 -- ---- in version 1 no train leaves
@@ -52,15 +51,11 @@ stays D taken =
 
 -- ---- and in version 2 it is taken
 
-of_four : (T : Table) → IsTable T → IsMarkedBy Four T
+of_four : (T : Table) → IsTable T → KeepsTo Four T
 of_four T h = record {
   limits = λ s lt. (h.sections s lt).low_limit;
   shares = λ s i k lt train within. (h.sections s lt).not_above i k train within;
 }
-
-marked_anew : (T : Table) → IsTable T → table_from Four T.missions T.sections ≡ Ok (record { missions = T.missions; sections = T.sections; connections = [] })
-unfolding table_from
-marked_anew T formed = ap (λ r. unless r (record { missions = T.missions; sections = T.sections; connections = [] })) (sections-none Four T formed (of_four T formed))
 
 module _ (D : Doc) where
   abbrev n : ℕ
@@ -76,7 +71,7 @@ module _ (D : Doc) where
       let table : IsTableOf 2 D.layout n t new y.table =
       record {
         missions = ap (missions_from D.layout n old.missions) back.exits_are ∙ was.table.missions;
-        sections = marked_anew y.table r.1;
+        sections = sections-kept y.table r.1 Four (of_four y.table r.1);
         connections = was.table.connections;
         connections_are = was.table.connections_are;
       } in

@@ -1,34 +1,24 @@
--- The points of a document's ways and links have names, and each member is of its version.
-use Rattle.std.proofs.Common.{◌≡◌, false, ℕ, ◌<◌, ◌≤◌, List, [], length, get_or, slice_get, All, None, refl, ap, ◌∙◌, arith}
+-- The points of a document's ways have names, and each member is of its version.
+use Rattle.std.proofs.Common.{◌≡◌, false, ℕ, ◌<◌, ◌≤◌, [], length, get_or, slice_get, All, None, refl, ap, ◌∙◌, arith}
 use Rattle.std.specs.Prelude.{nat_le}
 use Rattle.std.proofs.lemmas.Bool.Decides.{nat_tests}
-use Rattle.std.proofs.lemmas.Grind.{common_steps}
-use Rattle.std.proofs.lemmas.List.{length-map}
+use Rattle.std.proofs.lemmas.List.{length-map, get_or_default}
 use Rattle.std.proofs.lemmas.Option.{slice_get-get_or}
 use Rattle.std.proofs.lemmas.List.Elements.{All-map}
-use Rattle.rail_model.specs.Layout.{Layout, IsLayout}
 use Rattle.rail_model.specs.Names.{Names}
 use Rattle.rail_model.specs.Table.{Table, Mission}
 use Rattle.document_shapes.specs.Raw.{IsRead, IsOfVersion}
 use Rattle.layout_json.specs.Doc.{Doc, DocTable, PointsWithin, names_of}
 use Rattle.layout_json.specs.Members.{from_version, members_in, table_members_in}
-use Rattle.layout_json.specs.Written.{AreNamed, JoinsNamed}
-
-get_or_any : {X : Type 0} (xs : List X) (k : ℕ) (d e : X) → k < length xs → get_or xs k d ≡ get_or xs k e
-get_or_any xs k d e lt = grind (arith, common_steps)
+use Rattle.layout_json.specs.Written.{AreNamed}
 
 pub ways-named : (N : Names) (n : ℕ) (T : Table) → length N.points ≡ n → PointsWithin n T → All (AreNamed N) T.missions
 ways-named N n T same within i d lt k e at =
     let m = get_or T.missions i d in
     let q = get_or m.points k e in
-    let point = ap (λ (w : Mission). slice_get w.points k) (get_or_any T.missions i (record { points = []; exits = false }) d lt) ∙ slice_get-get_or m.points k e at in
+    let point = ap (λ (w : Mission). slice_get w.points k) (get_or_default T.missions i (record { points = []; exits = false }) d lt) ∙ slice_get-get_or m.points k e at in
     let below = within i k q lt point in
     omega (arith, below, same)
-
-pub links-named : (N : Names) (L : Layout) → length N.points ≡ length L.points → IsLayout L → All (JoinsNamed N) L.links
-links-named N L same h k d lt =
-    let both = h.joined k (get_or L.links k d) (slice_get-get_or L.links k d lt) in
-    (omega (arith, both.0, same), omega (arith, both.1, same))
 
 pub points-counted : (D : Doc) → length (names_of D).points ≡ length D.layout.points
 points-counted D = length-map D.layout.points _

@@ -4,15 +4,11 @@ use Rattle.std.proofs.lemmas.Bool.Decides.{nat_tests}
 use Rattle.std.proofs.lemmas.Int.{ints}
 use Rattle.std.proofs.Common.{◌≡◌, ◌∙◌, true, false, ℕ, zero, suc, ◌+◌, ◌<◌, ◌≤◌, List, [], ◌∷◌, ◌++◌, length, map, take, get_or, All, None, Ok, refl, sym, ap, ap₂, subst, arith}
 use Rattle.std.specs.List.{AllZip}
-use Rattle.std.proofs.lemmas.Grind.{common_steps}
 use Rattle.std.proofs.lemmas.List.{length-map, take_more, map-append}
 use Rattle.rail_model.specs.Certificate.{Tree, preorder, arrived}
-use Rattle.rail_model.specs.Table.{Table, IsTable, Section}
-use Rattle.rail_model.specs.Turns.{unless}
-use Rattle.rail_model.proofs.Firsts.{unless-ok, then_some-none}
-use Rattle.section_marks.specs.Marking.{table_from}
-use Rattle.section_marks.specs.Connecting.{connected, connections_refusal}
-use Rattle.section_marks.specs.declared.marks.Marks.{Marks}
+use Rattle.rail_model.specs.Table.{Table, IsTable}
+use Rattle.rail_model.proofs.Firsts.{then_some-none}
+use Rattle.section_marks.specs.Keeping.{KeepsTo}
 use Rattle.section_marks.specs.declared.marks.Marks.TheVariants.{One, Four}
 use Rattle.document_shapes.specs.Each.{each_from}
 use Rattle.document_shapes.specs.Raw.{DocMembers, TableMembers as RawTable}
@@ -27,12 +23,13 @@ use Rattle.layout_json.specs.Replaced.{each_with, exchanged, recertified, replac
 use Rattle.layout_json.specs.Start.{start_refusal}
 use Rattle.layout_json.specs.Tables.{doc_table_of, marks_of}
 use Rattle.layout_json.specs.Written.{AreNamed}
+pub use Rattle.layout_json.proofs.DocBack.{no_table}
 use Rattle.layout_json.proofs.DocMade.{IsTabled}
 use Rattle.layout_json.proofs.NamedLemmas.{of_version, ways-named, points-counted}
 use Rattle.layout_json.proofs.StartLemmas.{illegality-none, start-none}
 use Rattle.layout_json.proofs.TableBack.{IsTableOf, IsDocTableOf, doc_table-made, doc_table-again}
 use Rattle.layout_json.proofs.Taken.{Makes, makes, made-of, taken-within}
-use Rattle.layout_json.proofs.Marked.{IsMarkedBy, sections-none}
+use Rattle.layout_json.proofs.Marked.{sections-kept, connections-kept}
 
 -- ---- each table with something else
 
@@ -65,9 +62,6 @@ table-more version D zs old new m i z lt at is added h =
     let put = table_members_in version (names_of D) in
     ap (map seen_table) added ∙ map-append seen_table old (m ∷ []) ∙ ap₂ (λ ms n. ms ++ n ∷ []) h (is ∙ ap put (sym at))
     ∙ sym (ap (map put) (take_more zs i z lt) ∙ map-append put (take i zs) (get_or zs i z ∷ []))
-
-abbrev pub no_table : DocTable
-no_table = record { table = record { missions = []; sections = []; connections = [] }; after = 0; times = []; nodes = [] }
 
 -- the document's members, with those of other tables
 pub members-of : (D : Doc) (zs : List DocTable) (m : DocMembers) (version : ℕ) (ts : List RawTable) → 1 ≤ D.version → D.version ≤ 3 → IsTaken (record D { tables = zs })
@@ -133,9 +127,6 @@ module _ (D : Doc) (taken : IsTaken D) where
 abbrev no_part : Table × Tree
 no_part = (record { missions = []; sections = []; connections = [] }, arrived)
 
-get_or_any : {X : Type 0} (xs : List X) (k : ℕ) (d e : X) → k < length xs → get_or xs k d ≡ get_or xs k e
-get_or_any xs k d e lt = grind (arith, common_steps)
-
 -- the ways of tables that are taken have names
 pub parts-named : (D : Doc) (parts : List (Table × Tree)) → length parts ≡ length D.tables → IsTaken (replaced D parts) → All (λ p. All (AreNamed (names_of D)) p.0.missions) parts
 parts-named D parts same taken k p lt =
@@ -147,27 +138,14 @@ parts-named D parts same taken k p lt =
 
 -- ---- other sections
 
-light-marked : (version : ℕ) (T : Table) → IsLight T → IsMarkedBy (marks_of version) T
-light-marked version T h = elim (version == 1) as (λ b. IsMarkedBy (if b then One else Four) T) [
+light-marked : (version : ℕ) (T : Table) → IsLight T → KeepsTo (marks_of version) T
+light-marked version T h = elim (version == 1) as (λ b. KeepsTo (if b then One else Four) T) [
   | true ↦ record { limits = h.limits; shares = h.shares }
   | false ↦ record {
     limits = λ s lt. let low = h.limits s lt in omega (arith, low);
     shares = λ s i k lt train within. let low = h.shares s i k lt train within in grind (arith, ints, low);
   }
 ]
-
--- a table with light sections in place of its own
-light_sections : (marks : Marks) (T : Table) → IsTable T → IsMarkedBy marks T → table_from marks T.missions T.sections ≡ Ok (record { missions = T.missions; sections = T.sections; connections = [] })
-unfolding table_from
-light_sections marks T formed light = ap (λ r. unless r (record { missions = T.missions; sections = T.sections; connections = [] })) (sections-none marks T formed light)
-
--- connections look at no section
-still_connected : (T : Table) (S : List Section) → connected (record { missions = T.missions; sections = T.sections; connections = [] }) T.connections ≡ Ok T
-    → connected (record { missions = T.missions; sections = S; connections = [] }) T.connections ≡ Ok (record T { sections = S })
-unfolding connected
-still_connected T S h =
-    let none = unless-ok (connections_refusal (record { missions = T.missions; sections = T.sections; connections = [] }) T.connections) T T h in
-    ap (λ r. unless r (record T { sections = S })) none.0
 
 -- Another table with the same missions and connections, and light sections.
 abbrev IsLightOf : DocTable → Table → Type 0
@@ -193,8 +171,8 @@ module _ (D : Doc) (taken : IsTaken D) where
       let table : IsTableOf D.version D.layout (length D.trains) t m other =
       record {
         missions = was.table.missions;
-        sections = light_sections (marks_of D.version) other formed (light-marked D.version other light);
-        connections = still_connected y.table T.sections was.table.connections;
+        sections = sections-kept other formed (marks_of D.version) (light-marked D.version other light);
+        connections = connections-kept other formed;
         connections_are = was.table.connections_are;
       } in
       let w : DocTable = record y { table = other; nodes = preorder r.0.1 } in

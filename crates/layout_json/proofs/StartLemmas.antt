@@ -1,10 +1,10 @@
 -- The first cause why a start is not legal, as the test computes it.
-use Rattle.std.proofs.Common.{◌≡◌, ◌≢◌, ◌∙◌, ℕ, suc, ◌<◌, ◌≤◌, List, length, Bool, true, false, Option, Some, None, refl, sym, ap, ap₂, inl, inr, arith, pos, nat_lt}
+use Rattle.std.proofs.Common.{◌≡◌, ◌≢◌, ◌∙◌, ℕ, suc, ◌<◌, ◌≤◌, List, length, true, Option, Some, None, refl, sym, ap, ap₂, inl, inr, arith, pos, nat_lt}
 use Rattle.std.proofs.lemmas.Bool.Decides.{nat_tests, eqb_tells, leb_tells}
 use Rattle.std.proofs.lemmas.Int.{ints}
 use Rattle.std.specs.Prelude.{int_lt, nat_abs, option_and_then, option_map, not, ◌==◌}
 use Rattle.std.specs.Bool.{then_some}
-use Rattle.std.proofs.lemmas.Bool.{cases_lt}
+use Rattle.std.proofs.lemmas.Bool.{cases_lt, false_from_ne_true}
 use Rattle.rail_model.proofs.Agree.{Decides-int_lt}
 use Rattle.rail_model.specs.Checks.{same_point}
 use Rattle.rail_model.specs.Table.{Table, trains, last, point, limit, place, count}
@@ -51,7 +51,7 @@ two_points i k (Some q) (Some r) h = elim (leb_tells (suc i) k) [
 apart : (T : Table) (p : List ℕ) (i k : ℕ) → k < trains T → (IsPair T p i k → ⊥) → meets T p i k ≡ None
 apart T p i k lt h = two_points i k (point T i (place p i)) (point T k (place p k)) (λ less q a b. h (lt, less, (q, a, b)))
 
-together : (T : Table) (p : List ℕ) (i k q : ℕ) → IsPair T p i k → StandsAt T p i q → meets T p i k ≡ Some (Clash i k q)
+pub together : (T : Table) (p : List ℕ) (i k q : ℕ) → IsPair T p i k → StandsAt T p i q → meets T p i k ≡ Some (Clash i k q)
 together T p i k q h at =
     let same : h.2.0 ≡ q = cc (h.2.1, at) in
     let other : point T k (place p k) ≡ Some q = h.2.2 ∙ ap Some same in
@@ -63,13 +63,9 @@ over T p s n l h counted limited =
     ap (λ b. then_some b (Over s (nat_abs (count T s p)) (limit T s))) passes
     ∙ ap₂ (λ z m. Some (Over s (nat_abs z) m)) counted (sym limited)
 
-false_where : (b : Bool) → (b ≡ true → ⊥) → b ≡ false
-false_where true h = absurd (h refl)
-false_where false h = refl
-
 within : (T : Table) (p : List ℕ) (s : ℕ) → s < length T.sections → (IsOver T p s → ⊥) → over_limit T p s ≡ None
 within T p s lt h =
-    let fits = false_where _ (λ e. h (lt, (Decides-int_lt (pos (limit T s)) (count T s p)).0 e)) in
+    let fits = false_from_ne_true _ (λ e. h (lt, (Decides-int_lt (pos (limit T s)) (count T s p)).0 e)) in
     ap (λ b. then_some b (Over s (nat_abs (count T s p)) (limit T s))) fits
 
 -- ---- the first of them

@@ -5,12 +5,13 @@ use Rattle.std.proofs.lemmas.Bool.Decides.{leb_tells}
 use Rattle.rail_model.specs.Layout.{Layout, point_names}
 use Rattle.rail_model.specs.Names.{Names}
 use Rattle.rail_model.specs.declared.types.Node.{Node}
-use Rattle.rail_model.specs.Table.{Table, Mission, Section, Connection}
+use Rattle.rail_model.specs.Table.{Table, Mission, Connection}
 use Rattle.rail_model.specs.Turns.{in_turn, unless}
 use Rattle.rail_model.proofs.Firsts.{unless-ok}
 use Rattle.mission_table.specs.Ways.{missions_from}
 use Rattle.section_marks.specs.Marking.{table_from, sections_refusal}
 use Rattle.section_marks.specs.Connecting.{connected, connections_refusal}
+use Rattle.section_marks.proofs.Made.{table_of as marked}
 use Rattle.document_shapes.specs.Raw.{TableMembers, IsOfVersion}
 use Rattle.document_shapes.proofs.EachLemmas.{in_turn-ok}
 use Rattle.layout_json.specs.Doc.{DocTable}
@@ -23,10 +24,6 @@ use Rattle.layout_json.proofs.WaysBack.{missions-made_of}
 pub refused_as-ok : {A E : Type 0} (f : E → DocRefused) (r : Result A E) (a : A) → refused_as f r ≡ Ok a → r ≡ Ok a
 refused_as-ok f (Ok x) a h = let same : x ≡ a = cc in ap Ok same
 refused_as-ok f (Err e) a h = absurd cc
-
--- missions with sections, before connections
-abbrev marked : List Mission → List Section → Table
-marked missions sections = record { missions = missions; sections = sections; connections = [] }
 
 -- the table of a document with these parts
 abbrev ended : List Node → ℕ → Table → List (List ℕ) → Result DocTable DocRefused

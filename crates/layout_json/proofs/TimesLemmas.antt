@@ -2,7 +2,7 @@
 use Rattle.std.proofs.Common.{◌≡◌, ℕ, ◌<◌, ◌≤◌, false, List, [], None, length, get_or, subst, arith}
 use Rattle.std.specs.Prelude.{not, ◌&&◌, nat_le}
 use Rattle.std.proofs.lemmas.Bool.Decides.{nat_tests}
-use Rattle.std.proofs.lemmas.Grind.{common_steps}
+use Rattle.std.proofs.lemmas.List.{get_or_default}
 use Rattle.rail_model.specs.Table.{Table, trains, last}
 use Rattle.rail_model.specs.Times.{AreTimes}
 use Rattle.rail_model.specs.Turns.{first_below}
@@ -22,9 +22,6 @@ low_time v h = grind (arith, nat_tests)
 high_time : (v : ℕ) → not (nat_le 1 v && nat_le v 1000) ≡ false → v ≤ 1000
 high_time v h = grind (arith, nat_tests)
 
-at_place : (steps : List ℕ) (k : ℕ) → k < length steps → get_or steps k 0 ≡ get_or steps k 1
-at_place steps k lt = grind (arith, common_steps)
-
 -- times with nothing wrong
 pub are_times : (t : ℕ) (T : Table) (times : List (List ℕ)) → times_refusal t T times ≡ None → AreTimes T times
 are_times t T times h =
@@ -41,8 +38,8 @@ are_times t T times h =
       per_step = lengths;
       not_below = λ i k lt step.
           let here : k < length (get_or times i []) = omega (arith, step, lengths i lt) in
-          subst (λ v. 1 ≤ v) (at_place (get_or times i []) k here) (low_time _ (test i k lt here));
+          subst (λ v. 1 ≤ v) (get_or_default (get_or times i []) k 0 1 here) (low_time _ (test i k lt here));
       not_above = λ i k lt step.
           let here : k < length (get_or times i []) = omega (arith, step, lengths i lt) in
-          subst (λ v. v ≤ 1000) (at_place (get_or times i []) k here) (high_time _ (test i k lt here));
+          subst (λ v. v ≤ 1000) (get_or_default (get_or times i []) k 0 1 here) (high_time _ (test i k lt here));
     }

@@ -1,23 +1,15 @@
 -- Missions give back the lists that they were made of.
-use Rattle.std.proofs.Common.{◌≡◌, ◌∙◌, ℕ, zero, suc, ◌<◌, Bool, true, false, not, List, [], ◌∷◌, length, map, get_or, slice_get, Option, Some, None, option_map, Ok, bytes_eq, refl, sym, ap, ap₂, subst, arith}
-use Rattle.std.proofs.lemmas.Bool.Decides.{nat_tests}
+use Rattle.std.proofs.Common.{◌≡◌, ◌∙◌, ℕ, zero, suc, ◌<◌, Bool, true, false, List, [], ◌∷◌, length, map, get_or, slice_get, Some, option_map, Ok, refl, sym, ap, ap₂, arith}
 use Rattle.std.proofs.lemmas.List.{length-map}
-use Rattle.std.proofs.lemmas.Option.{slice_get-map, slice_get_within, get_or_from_slice_get}
+use Rattle.std.proofs.lemmas.Option.{slice_get-map, slice_get-get_or}
 use Rattle.rail_model.specs.Layout.{Layout, point_names}
 use Rattle.rail_model.specs.Table.{Mission}
-use Rattle.rail_model.proofs.Firsts.{option_or-none, first_below-none, then_some-none, unless-ok}
-use Rattle.rail_model.proofs.Places.{found_within}
 use Rattle.track_layout.specs.Making.{number_in, is_known}
-use Rattle.mission_table.specs.Ways.{name_at, way_value, missions_value, missions_refusal, missions_from, mission_refusal, way_refusal, step_refusal, point_before, unknown_point, bad_length, other_lists, other_exits, ways_refusal}
+use Rattle.track_layout.proofs.Taken.{known}
+use Rattle.mission_table.specs.Missions.{IsMissionOf}
+use Rattle.mission_table.specs.Ways.{way_value, missions_value, missions_from}
+use Rattle.mission_table.proofs.Taken.{missions_taken}
 use Rattle.layout_json.proofs.LayoutBack.{name-at_number}
-
-map_some : {A B : Type 0} (f : A → B) (o : Option A) (y : B) → option_map f o ≡ Some y → (x : A) × (o ≡ Some x) × (f x ≡ y)
-map_some f None y h = absurd cc
-map_some f (Some x) y h = (x, refl, cc)
-
-passing : (b : Bool) → not b ≡ false → b ≡ true
-passing true e = refl
-passing false e = absurd cc
 
 -- Every name of the way is a point's.
 pub record IsKnownWay (points names : List (List ℕ)) : Type 0 where
@@ -65,16 +57,14 @@ module _ (L : Layout) where
   points_at (w ∷ ws) (e ∷ es) zero d same lt = refl
   points_at (w ∷ ws) (e ∷ es) (suc i) d same lt = points_at ws es i d (omega (arith, same)) (omega (arith, lt))
 
-  known_way : (i : ℕ) (names : List (List ℕ)) (exits : Bool) → mission_refusal L i names exits ≡ None → IsKnownWay (point_names L) names
-  known_way i names exits h =
-      let a = option_or-none (bad_length i (length names) exits) _ h in
-      let b = option_or-none (way_refusal L i names) None a.1 in
-      let steps = λ (k : ℕ). step_refusal L i k (point_before L names k) (name_at names k) in
-      record {
-        each = λ k lt.
-            let row = option_or-none (unknown_point L i k (name_at names k)) _ (first_below-none (length names) steps b.0 k lt) in
-            passing (is_known (point_names L) (name_at names k)) (then_some-none _ _ row.0);
-      }
+  known_way : (m : Mission) (names : List (List ℕ)) → IsMissionOf L m → m.points ≡ way_value L names → IsKnownWay (point_names L) names
+  known_way m names is same = record {
+    each = λ k lt.
+        let number = number_in (point_names L) (get_or names k []) in
+        let at : slice_get m.points k ≡ Some number =
+        ap (λ (ps : List ℕ). slice_get ps k) same ∙ slice_get-map (number_in (point_names L)) names k ∙ ap (option_map (number_in (point_names L))) (slice_get-get_or names k [] lt) in
+        known (point_names L) (get_or names k []) (omega (arith, is.points k number at, length-map L.points (λ p. p.name)));
+  }
 
   -- The lists that missions were made of.
   pub record AreMadeOf (missions : List Mission) (n : ℕ) (lists : List (List (List ℕ))) (exits : List Bool) : Type 0 where
@@ -83,34 +73,18 @@ module _ (L : Layout) where
     pub exits_are : map (λ m. m.exits) missions ≡ exits
     pub within : (i k q : ℕ) (d : Mission) → i < length missions → slice_get (get_or missions i d).points k ≡ Some q → q < length L.points
 
-  made_of_value : (n : ℕ) (lists : List (List (List ℕ))) (exits : List Bool) → missions_refusal L n lists exits ≡ None → AreMadeOf (missions_value L lists exits) n lists exits
-  made_of_value n lists exits h =
-      let a = option_or-none (other_lists n (length lists)) _ h in
-      let b = option_or-none (other_exits n (length exits)) _ a.1 in
-      let c = option_or-none (ways_refusal L n lists exits) None b.1 in
-      let as_lists : length lists ≡ n = let test = then_some-none _ _ a.0 in grind (arith, nat_tests) in
-      let as_exits : length exits ≡ n = let test = then_some-none _ _ b.0 in grind (arith, nat_tests) in
-      let same : length exits ≡ length lists = omega arith in
-      let counted = count_back lists exits same in
-      let known = λ (i : ℕ) (lt : i < length lists). known_way i (get_or lists i []) (get_or exits i false)
-      (first_below-none n (λ i. mission_refusal L i (get_or lists i []) (get_or exits i false)) c.0 i (omega (arith, lt))) in
-      record {
-        counted = counted ∙ as_lists;
-        ways_are = ways_back lists exits same (record { each = known });
-        exits_are = exits_back lists exits same;
-        within = λ i k q d lt at.
-            let listed : i < length lists = omega (arith, lt, counted) in
-            let there = sym (slice_get-map (number_in (point_names L)) (get_or lists i []) k) ∙ sym (ap (λ (ps : List ℕ). slice_get ps k) (points_at lists exits i d same listed)) ∙ at in
-            let name = map_some (number_in (point_names L)) (slice_get (get_or lists i []) k) q there in
-            let place = slice_get_within (get_or lists i []) k name.0 name.1 in
-            let here : get_or (get_or lists i []) k [] ≡ name.0 = get_or_from_slice_get (get_or lists i []) k name.0 [] name.1 in
-            let found = found_within (bytes_eq name.0) (point_names L) (subst (λ (m : List ℕ). is_known (point_names L) m ≡ true) here ((known i listed).each k place)) in
-            let size = length-map L.points (λ p. p.name) in
-            omega (arith, found, name.2, size);
-      }
-
   pub missions-made_of : (n : ℕ) (lists : List (List (List ℕ))) (exits : List Bool) (missions : List Mission) → missions_from L n lists exits ≡ Ok missions → AreMadeOf missions n lists exits
-  unfolding missions_from
   missions-made_of n lists exits missions h =
-      let made = unless-ok (missions_refusal L n lists exits) (missions_value L lists exits) missions h in
-      subst (λ ms. AreMadeOf ms n lists exits) made.1 (made_of_value n lists exits made.0)
+      let taken = (missions_taken L n lists exits missions).0 h in
+      let same : length exits ≡ length lists = taken.1 ∙ sym taken.0 in
+      let there = λ (i : ℕ) (d : Mission) (lt : i < length missions). taken.3 i (get_or missions i d) (slice_get-get_or missions i d lt) in
+      let counted : length missions ≡ length lists = ap length taken.2 ∙ count_back lists exits same in
+      let none : Mission = record { points = []; exits = false } in
+      let known = λ (i : ℕ) (lt : i < length lists). known_way (get_or missions i none) (get_or lists i []) (there i none (omega (arith, lt, counted)))
+      (ap (λ ms. (get_or ms i none).points) taken.2 ∙ points_at lists exits i none same lt) in
+      record {
+        counted = counted ∙ taken.0;
+        ways_are = ap (map names_of_way) taken.2 ∙ ways_back lists exits same (record { each = known });
+        exits_are = ap (map (λ (m : Mission). m.exits)) taken.2 ∙ exits_back lists exits same;
+        within = λ i k q d lt at. (there i d lt).points k q at;
+      }
