@@ -1,13 +1,16 @@
 // The line that is told of a failure.
-ghost use Rattle.std.specs.Prelude.{◌≡◌, IfOk, IfSome, IfNone, string_bytes};
-ghost use Rattle.ats_run.specs.Report.{line_of, IsLineMade};
+ghost use Rattle.std.specs.Prelude.{◌≡◌, ◌++◌, IfOk, OnOk, IfSome, IfNone, string_bytes};
+ghost use Rattle.ats_run.specs.Report.{words_of, line_of, IsLineMade};
 
 use crate::Failure;
 use refusal_lines::{
-    bad_line, connected_line, document_line, journal_line, many_line, rounds_line, spent_line,
-    stuck_line, text_line, tree_line,
+    push_bad, push_connected, push_document, push_line, push_many, push_rounds, push_spent,
+    push_stuck, push_text, push_tree,
 };
 use std::alloc::{AllocError, Global};
+
+/// The line of want of memory.
+pub const NO_MEMORY: &str = "ats: 202 Memory\n";
 
 /// The line of a failure whose line is fixed: it takes no memory.
 pub fn fixed_line(failure: &Failure) -> Option<&'static str>
@@ -16,7 +19,7 @@ pub fn fixed_line(failure: &Failure) -> Option<&'static str>
 {
     match failure {
         Failure::Words => Some("ats: 201 Words\n"),
-        Failure::Memory => Some("ats: 202 Memory\n"),
+        Failure::Memory => Some(NO_MEMORY),
         Failure::ReadFault => Some("ats: 207 ReadFault\n"),
         Failure::WriteFault => Some("ats: 208 WriteFault\n"),
         Failure::TooLong => Some("ats: 104 TooLong limit=16777216\n"),
@@ -30,17 +33,28 @@ pub fn line_of(alloc: Global, failure: &Failure) -> Result<String, AllocError>
     requires { IsLineMade failure.now }
     ensures { IfOk result (λ line. string_bytes line ≡ line_of failure.now) }
 {
+    let mut line = String::from_str(alloc, "ats: ")?;
+    push_words(&mut line, failure)?;
+    line.push_str("\n")?;
+    Ok(line)
+}
+
+// Adds the number, the name and the fields of a failure whose line is made.
+fn push_words(line: &mut String, failure: &Failure) -> Result<(), AllocError>
+    requires { IsLineMade failure.now }
+    ensures { OnOk result (string_bytes line.new ≡ string_bytes line.old ++ words_of failure.now) }
+{
     match failure {
-        Failure::Document(refused) => document_line(alloc, refused),
-        Failure::Tree { table, refused } => tree_line(alloc, *table, refused),
-        Failure::Certificate { table, bad } => bad_line(alloc, *table, bad),
-        Failure::Spent { table, nodes } => spent_line(alloc, *table, *nodes),
-        Failure::Stuck { table, at } => stuck_line(alloc, *table, at),
-        Failure::Rounds { table, rounds, at } => rounds_line(alloc, *table, *rounds, at),
-        Failure::Many { table, count } => many_line(alloc, *table, *count),
-        Failure::Connected { table } => connected_line(alloc, *table),
-        Failure::Text(fault) => text_line(alloc, fault),
-        Failure::Line(fault) => journal_line(alloc, fault),
+        Failure::Document(refused) => push_document(line, refused),
+        Failure::Tree { table, refused } => push_tree(line, *table, refused),
+        Failure::Certificate { table, bad } => push_bad(line, *table, bad),
+        Failure::Spent { table, nodes } => push_spent(line, *table, *nodes),
+        Failure::Stuck { table, at } => push_stuck(line, *table, at),
+        Failure::Rounds { table, rounds, at } => push_rounds(line, *table, *rounds, at),
+        Failure::Many { table, count } => push_many(line, *table, *count),
+        Failure::Connected { table } => push_connected(line, *table),
+        Failure::Text(fault) => push_text(line, fault),
+        Failure::Line(fault) => push_line(line, fault),
         _ => unreachable!(),
     }
 }

@@ -15,7 +15,7 @@ ghost use Rattle.ats_run.specs.Ending.{status_of};
 ghost use Rattle.ats_run.specs.Report.{line_of as line_of_failure, IsLineMade};
 
 use crate::answer::answer;
-use crate::lines::{fixed_line, line_of};
+use crate::lines::{NO_MEMORY, fixed_line, line_of};
 use crate::{Failure, Status};
 use ats_io::{ReadAll, Sink, Source, WriteFault, read_all, write_all};
 use command_words::{Order, WordsRefused, words};
@@ -162,7 +162,7 @@ pub fn refuse<E: Sink>(alloc: Global, failure: Failure, err: &mut E) -> Failure
             failure
         }
         Err(_) => {
-            tell(err, "ats: 202 Memory\n");
+            tell(err, NO_MEMORY);
             Failure::Memory
         }
     }

@@ -39,8 +39,8 @@ pub fn push_marks(out: &mut String, table: usize, refused: &MarkRefused) -> Resu
         MarkRefused::Connections { count } => {
             write!(out, "26 Connections table={table} count={count}")
         }
-        MarkRefused::ConnectionTrain { connection } => push_train(out, table, connection),
-        MarkRefused::ConnectionPlace { connection } => push_place(out, table, connection),
+        MarkRefused::ConnectionTrain { connection } => push_wrong_trains(out, table, connection),
+        MarkRefused::ConnectionPlace { connection } => push_wrong_places(out, table, connection),
         MarkRefused::Memory => write!(out, "202 Memory"),
     }
 }
@@ -82,7 +82,7 @@ fn push_share(
 }
 
 // Adds a connection whose trains are wrong.
-fn push_train(out: &mut String, table: usize, connection: u32) -> Result<(), AllocError>
+fn push_wrong_trains(out: &mut String, table: usize, connection: u32) -> Result<(), AllocError>
     ensures { OnOk result (string_bytes out.new ≡ string_bytes out.old ++ marks_words table (ConnectionTrain connection)) }
 {
     write!(
@@ -92,7 +92,7 @@ fn push_train(out: &mut String, table: usize, connection: u32) -> Result<(), All
 }
 
 // Adds a connection whose places are wrong.
-fn push_place(out: &mut String, table: usize, connection: u32) -> Result<(), AllocError>
+fn push_wrong_places(out: &mut String, table: usize, connection: u32) -> Result<(), AllocError>
     ensures { OnOk result (string_bytes out.new ≡ string_bytes out.old ++ marks_words table (ConnectionPlace connection)) }
 {
     write!(
