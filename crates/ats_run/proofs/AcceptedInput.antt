@@ -32,19 +32,7 @@ not_unchecked input good (failure.Certificate t bad) h =
     let same : tree_at bad_table.0 t ≡ tree_at good.2.0 t = one_tree _ _ ((bad_table.1.spelled t within).0 ∙ sym (accepted.are.spelled t within).0) in
     not_both (table_at good.0 t) (tree_at good.2.0 t) bad
     (subst (λ (c : Tree). FirstBad (table_at good.0 t) c bad) same bad_table.2.first_bad) (accepted.accepted t within)
-not_unchecked input good failure.Words h = h
-not_unchecked input good failure.Memory h = h
-not_unchecked input good failure.ReadFault h = h
-not_unchecked input good failure.WriteFault h = h
-not_unchecked input good failure.TooLong h = h
-not_unchecked input good (failure.Spent t n) h = h
-not_unchecked input good (failure.Stuck t p) h = h
-not_unchecked input good (failure.Rounds t n p) h = h
-not_unchecked input good (failure.Many t n) h = h
-not_unchecked input good (failure.Connected t) h = h
-not_unchecked input good failure.NoJournal h = h
-not_unchecked input good (failure.Text x) h = h
-not_unchecked input good (failure.Line x) h = h
+not_unchecked input good e h = h
 
 -- so its refusal is want of memory
 pub only_memory : (input : List ℕ) → IsAcceptedInput input → (e : Failure) → (e ≡ failure.Memory) ⊎ IsUnchecked input e → e ≡ failure.Memory

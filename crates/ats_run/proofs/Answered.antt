@@ -19,11 +19,6 @@ use Rattle.ats_run.specs.Repairing.{RepairsNone, IsUnrepaired}
 use Rattle.ats_run.specs.Starting.{IsBadStart}
 use Rattle.ats_run.proofs.Reading.{of_bytes, on_input}
 
--- a sink that took nothing
-pub adds_nothing : (taken : Option (List ℕ)) → Adds taken taken []
-adds_nothing None = tt
-adds_nothing (Some bytes) = sym (append-nil bytes)
-
 -- a failure of words or devices
 abbrev IsOutside : Failure → Type 0
 IsOutside e = (e ≡ failure.Words) ⊎ (e ≡ failure.ReadFault) ⊎ (e ≡ failure.WriteFault) ⊎ (e ≡ failure.TooLong)
@@ -86,25 +81,7 @@ answered call order bytes failure.ReadFault asked whole same h = absurd (never o
 answered call order bytes failure.WriteFault asked whole same h = absurd (never order bytes failure.WriteFault (inr (inr (inl refl))) h)
 answered call order bytes failure.TooLong asked whole same h = absurd (never order bytes failure.TooLong (inr (inr (inr refl))) h)
 answered call order bytes failure.Memory asked whole same h = tt
-answered call order bytes (failure.Document x) asked whole same h = (order, asked, (whole, of_bytes order call.held bytes (λ input. Comes order input (Err (failure.Document x))) same h))
-answered call order bytes (failure.Tree t x) asked whole same h = (order, asked, (whole, of_bytes order call.held bytes (λ input. Comes order input (Err (failure.Tree t x))) same h))
-answered call order bytes (failure.Certificate t x) asked whole same h = (order, asked, (whole, of_bytes order call.held bytes (λ input. Comes order input (Err (failure.Certificate t x))) same h))
-answered call order bytes (failure.Spent t n) asked whole same h = (order, asked, (whole, of_bytes order call.held bytes (λ input. Comes order input (Err (failure.Spent t n))) same h))
-answered call order bytes (failure.Stuck t p) asked whole same h = (order, asked, (whole, of_bytes order call.held bytes (λ input. Comes order input (Err (failure.Stuck t p))) same h))
-answered call order bytes (failure.Rounds t n p) asked whole same h = (order, asked, (whole, of_bytes order call.held bytes (λ input. Comes order input (Err (failure.Rounds t n p))) same h))
-answered call order bytes (failure.Many t n) asked whole same h = (order, asked, (whole, of_bytes order call.held bytes (λ input. Comes order input (Err (failure.Many t n))) same h))
-answered call order bytes (failure.Connected t) asked whole same h = (order, asked, (whole, of_bytes order call.held bytes (λ input. Comes order input (Err (failure.Connected t))) same h))
-answered call order bytes failure.NoJournal asked whole same h = (order, asked, (whole, of_bytes order call.held bytes (λ input. Comes order input (Err failure.NoJournal)) same h))
-answered call order bytes (failure.Text x) asked whole same h = (order, asked, (whole, of_bytes order call.held bytes (λ input. Comes order input (Err (failure.Text x))) same h))
-answered call order bytes (failure.Line x) asked whole same h = (order, asked, (whole, of_bytes order call.held bytes (λ input. Comes order input (Err (failure.Line x))) same h))
-
--- why an input was not read is the cause
-pub unread : (call : Call) (order : Order) (e : Failure) → call.order ≡ Some order → Reads order → IsUnread call.held call.source_failed e → IsCause call e
-unread call order e asked reads h = elim h [
-  | inl is ↦ subst (IsCause call) (sym is) tt
-  | inr (inl (is, failed)) ↦ subst (IsCause call) (sym is) (order, asked, (reads, failed))
-  | inr (inr (is, long)) ↦ subst (IsCause call) (sym is) (order, asked, (reads, on_input order call.held _ reads long))
-]
+answered call order bytes e asked whole same h = (order, asked, (whole, of_bytes order call.held bytes (λ input. Comes order input (Err e)) same h))
 
 -- why it was not written is the cause
 pub unwritten : (call : Call) (order : Order) (bytes : List ℕ) (e : Failure) → call.order ≡ Some order → IsRead call order

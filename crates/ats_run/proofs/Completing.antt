@@ -18,7 +18,7 @@ use Rattle.ats_run.specs.declared.status.Status.{Status}
 use Rattle.ats_run.specs.declared.failure.Failure.{Failure}
 use Rattle.ats_run.specs.declared.failure.Failure.TheVariants as failure
 use Rattle.ats_run.specs.Causes.{Call, Asked, IsRead, IsCause, most_bytes}
-use Rattle.ats_run.specs.Command.{Comes, IsDocWith, IsNoDoc, IsUnchecked, IsUnverifiedInput, IsUnresumedInput, IsUnmadeInput, IsUnderivedInput, IsUnrepairedInput}
+use Rattle.ats_run.specs.Command.{Comes, IsDocWith, IsNoDoc, IsUnchecked, IsPairWith, IsUnverifiedInput, IsUnresumedInput, IsUnmadeInput, IsUnderivedInput, IsUnrepairedInput}
 use Rattle.ats_run.specs.Complete.{IsWholeText, IsRightFront, IsJournalInput, IsDerivable, IsGoodInput, IsDoneOrMemory}
 use Rattle.ats_run.specs.Deriving.{derived, IsUnderived}
 use Rattle.ats_run.specs.Ending.{status_of}
@@ -37,9 +37,8 @@ use Rattle.ats_run.proofs.GoodJournals.{readable, verified, begins_readable, res
 same_cut : (input : List ℕ) (j k : ℕ) → IsCut input j → IsCut input k → j ≡ k
 same_cut input j k p q = same_first (OccursAt input mark) j k p q
 
--- what is said of some cut and document of an input is said of its own
-said_of : (input : List ℕ) (P Q : Doc → List ℕ → Type 0) (good : IsJournalInput input P)
-    → (k : ℕ) × IsCut input k × IsDocWith (document_part input k) (λ D. Q D (journal_part input k)) → Q good.3.0 (journal_part input good.0)
+-- what is said of some parts of an input is said of its own
+said_of : (input : List ℕ) (P Q : Doc → List ℕ → Type 0) (good : IsJournalInput input P) → IsPairWith input Q → Q good.3.0 (journal_part input good.0)
 said_of input P Q good h =
     let moved = subst (λ k. IsDocWith (document_part input k) (λ D. Q D (journal_part input k))) (same_cut input h.0 good.0 h.1 good.1) h.2 in
     subst (λ (E : Doc). Q E (journal_part input good.0)) (same_doc (document_part input good.0) good.3.0 moved.0 good.3.1 moved.1) moved.2
@@ -56,19 +55,7 @@ not_unverified input good (failure.Text cause) h =
     readable good.3.0 (journal_part input good.0) good.3.2 cause (said_of input IsWholeText (λ D given. IsUnreadable D given cause) good h)
 not_unverified input good (failure.Line cause) h =
     verified good.3.0 (journal_part input good.0) good.3.2 cause (said_of input IsWholeText (λ D given. IsUnverified D given cause) good h)
-not_unverified input good (failure.Document x) h = part_not_unchecked input IsWholeText good (failure.Document x) h
-not_unverified input good (failure.Tree t x) h = part_not_unchecked input IsWholeText good (failure.Tree t x) h
-not_unverified input good (failure.Certificate t x) h = part_not_unchecked input IsWholeText good (failure.Certificate t x) h
-not_unverified input good (failure.Spent t n) h = h.2
-not_unverified input good (failure.Stuck t p) h = h.2
-not_unverified input good (failure.Rounds t n p) h = h.2
-not_unverified input good (failure.Many t n) h = h.2
-not_unverified input good (failure.Connected t) h = h.2
-not_unverified input good failure.Words h = h.2
-not_unverified input good failure.Memory h = h.2
-not_unverified input good failure.ReadFault h = h.2
-not_unverified input good failure.WriteFault h = h.2
-not_unverified input good failure.TooLong h = h.2
+not_unverified input good e h = part_not_unchecked input IsWholeText good e h
 
 -- the given bytes are a whole journal's text or a right front
 abbrev Begins : Doc → List ℕ → Type 0
@@ -81,19 +68,7 @@ not_unresumed input good (failure.Text cause) h =
     begins_readable good.3.0 (journal_part input good.0) good.3.2 cause said.0 said.1
 not_unresumed input good (failure.Line cause) h =
     resumed good.3.0 (journal_part input good.0) good.3.2 cause (said_of input Begins (λ D given. IsUnresumed D given cause) good h)
-not_unresumed input good (failure.Document x) h = part_not_unchecked input Begins good (failure.Document x) h
-not_unresumed input good (failure.Tree t x) h = part_not_unchecked input Begins good (failure.Tree t x) h
-not_unresumed input good (failure.Certificate t x) h = part_not_unchecked input Begins good (failure.Certificate t x) h
-not_unresumed input good (failure.Spent t n) h = h.2
-not_unresumed input good (failure.Stuck t p) h = h.2
-not_unresumed input good (failure.Rounds t n p) h = h.2
-not_unresumed input good (failure.Many t n) h = h.2
-not_unresumed input good (failure.Connected t) h = h.2
-not_unresumed input good failure.Words h = h.2
-not_unresumed input good failure.Memory h = h.2
-not_unresumed input good failure.ReadFault h = h.2
-not_unresumed input good failure.WriteFault h = h.2
-not_unresumed input good failure.TooLong h = h.2
+not_unresumed input good e h = part_not_unchecked input Begins good e h
 
 not_no_doc : (input : List ℕ) (D : Doc) → doc_of input ≡ Ok D → (e : Failure) → IsNoDoc input e → ⊥
 not_no_doc input D is e h = let both = sym h.2 ∙ is in cc
@@ -102,20 +77,7 @@ not_no_doc input D is e h = let both = sym h.2 ∙ is in cc
 made_or_not : (T : Table) (budget t : ℕ) (tree : Tree) → Makes T budget (cert tree) → (e : Failure) → MakesNone T t budget e → ⊥
 made_or_not T budget t tree good (failure.Spent u n) h = let same = makes_one T budget (cert tree) (spent n) good h.1 in cc
 made_or_not T budget t tree good (failure.Stuck u p) h = let same = makes_one T budget (cert tree) (found p) good h.1 in cc
-made_or_not T budget t tree good failure.Words h = h
-made_or_not T budget t tree good failure.Memory h = h
-made_or_not T budget t tree good failure.ReadFault h = h
-made_or_not T budget t tree good failure.WriteFault h = h
-made_or_not T budget t tree good failure.TooLong h = h
-made_or_not T budget t tree good (failure.Document x) h = h
-made_or_not T budget t tree good (failure.Tree u x) h = h
-made_or_not T budget t tree good (failure.Certificate u x) h = h
-made_or_not T budget t tree good (failure.Rounds u n p) h = h
-made_or_not T budget t tree good (failure.Many u n) h = h
-made_or_not T budget t tree good (failure.Connected u) h = h
-made_or_not T budget t tree good failure.NoJournal h = h
-made_or_not T budget t tree good (failure.Text x) h = h
-made_or_not T budget t tree good (failure.Line x) h = h
+made_or_not T budget t tree good e h = h
 
 not_unmade : (input : List ℕ) (budget : ℕ) → IsDocWith input (λ D. AreMakeable (tables_in D) budget) → (e : Failure) → IsUnmadeInput input budget e → ⊥
 not_unmade input budget good e (inl h) = not_no_doc input good.0 good.1 e h
@@ -158,19 +120,6 @@ not_refused Simulate input good e h = not_unchecked input good.1 e h
 not_refused (Generate s n) input good e h = not_unmade (generated s n) full_budget good.1 e h
 not_refused (Drill s n w) input good e h = not_unmade (generated s n) full_budget good.1 e h
 
-short : (order : Order) (input : List ℕ) → IsGoodInput order input → length input ≤ most_bytes
-short (Run w r) input good = good.0
-short Check input good = good.0
-short (Resume w r) input good = good.0
-short Verify input good = good.0
-short Migrate input good = good.0
-short (Make b) input good = good.0
-short (Derive m b) input good = good.0
-short (Repair b r) input good = good.0
-short Simulate input good = good.0
-short (Generate s n) input good = good.0
-short (Drill s n w) input good = good.0
-
 -- what a call knows of a good input
 pub record IsGoodCall (call : Call) (order : Order) (input : List ℕ) : Type 0 where
   pub asked : call.order ≡ Some order
@@ -197,7 +146,7 @@ too_long : (call : Call) (order : Order) (input : List ℕ) → IsGoodCall call 
 too_long call order input g h =
     let here = asked_for call order input g (λ asked. Reads asked × OnInput asked call.held (λ input. most_bytes < length input)) h in
     let long : most_bytes < length input = of_input order call.held input (λ input. most_bytes < length input) g.held here.1 in
-    let few = short order input g.good in
+    let few = g.good.0 in
     omega arith
 
 -- the refusal of a good call is want of memory
@@ -207,17 +156,7 @@ only_memory call order input g failure.Words h = let both = sym h ∙ g.asked in
 only_memory call order input g failure.ReadFault h = absurd (g.source h.2.1)
 only_memory call order input g failure.WriteFault h = absurd (g.sink h.2.1)
 only_memory call order input g failure.TooLong h = absurd (too_long call order input g h)
-only_memory call order input g (failure.Document x) h = absurd (refused call order input g (failure.Document x) h)
-only_memory call order input g (failure.Tree t x) h = absurd (refused call order input g (failure.Tree t x) h)
-only_memory call order input g (failure.Certificate t x) h = absurd (refused call order input g (failure.Certificate t x) h)
-only_memory call order input g (failure.Spent t n) h = absurd (refused call order input g (failure.Spent t n) h)
-only_memory call order input g (failure.Stuck t p) h = absurd (refused call order input g (failure.Stuck t p) h)
-only_memory call order input g (failure.Rounds t n p) h = absurd (refused call order input g (failure.Rounds t n p) h)
-only_memory call order input g (failure.Many t n) h = absurd (refused call order input g (failure.Many t n) h)
-only_memory call order input g (failure.Connected t) h = absurd (refused call order input g (failure.Connected t) h)
-only_memory call order input g failure.NoJournal h = absurd (refused call order input g failure.NoJournal h)
-only_memory call order input g (failure.Text x) h = absurd (refused call order input g (failure.Text x) h)
-only_memory call order input g (failure.Line x) h = absurd (refused call order input g (failure.Line x) h)
+only_memory call order input g e h = absurd (refused call order input g e h)
 
 -- a good call that fails tells want of memory
 pub ends : (call : Call) (order : Order) (input : List ℕ) → IsGoodCall call order input → (cause told : Failure) (s : Status) → IsCause call cause

@@ -25,6 +25,7 @@ use Rattle.layout_json.proofs.Remade.{remarked-is-taken}
 use Rattle.ats_run.specs.Deriving.{derived_table, derived, HasFewRings, HaveFewRings, IsDerived}
 use Rattle.ats_run.specs.Making.{table_in, HaveMade}
 use Rattle.ats_run.proofs.AcceptedText.{derived_text}
+use Rattle.ats_run.proofs.LightMarked.{light}
 use Rattle.ats_run.proofs.Offered.{offer_count}
 
 -- a connection looks at no section
@@ -45,13 +46,6 @@ still_connected T M rs U list formed ways is same c k at =
     let old = formed.connections c k (sym (ap (λ ks. slice_get ks c) same) ∙ at) in
     subst (λ V. IsConnection V k) (sym other) (connected_as T (map (forbidding T.missions) (map stays rs)) k old)
 
-hit_once : (stay : Option Stay) (k : ℕ) → hit_of stay k ≤ 1
-hit_once None k = omega arith
-hit_once (Some s) k = hit-le s.range k
-
-at_most_one : (n : ℕ) → n ≤ 1 → pos n ≤ℤ pos 1
-at_most_one n h = omega (arith, ints)
-
 -- of a table that has at most 64 such rings
 module _ (most : ℕ) (T : Table) (formed : IsTable T) (few : HasFewRings most T) where
   abbrev all : List (List Stay)
@@ -59,9 +53,6 @@ module _ (most : ℕ) (T : Table) (formed : IsTable T) (few : HasFewRings most T
 
   stays_each : All (AreStays (length T.missions)) all
   stays_each = rings-stays T.missions (rings T.missions most) (all-rings T.missions most)
-
-  section_count : length (map (forbidding T.missions) all) ≡ length all
-  section_count = length-map all (forbidding T.missions)
 
   marked_formed : IsTable (marked T.missions all)
   marked_formed =
@@ -76,19 +67,7 @@ module _ (most : ℕ) (T : Table) (formed : IsTable T) (few : HasFewRings most T
 
   -- and its sections are light
   pub derived_light : IsLight (derived_table most T)
-  derived_light = record {
-    limits = λ s lt.
-        let within : s < length all = omega (arith, lt, section_count) in
-        let stays_here = get_or all s [] in
-        let low = ap (λ (c : Section). c.limit) (section-at T.missions all s stays_here (slice_get-get_or all s [] within)) in
-        let most_trains = stays-le (length T.missions) stays_here (stays_each s [] within) in
-        omega (arith, low, most_trains, formed.few_trains);
-    shares = λ s i k lt train there.
-        let within : s < length all = omega (arith, lt, section_count) in
-        let stays_here = get_or all s [] in
-        let is = share-marked T.missions all s stays_here i k (slice_get-get_or all s [] within) (stays_each s [] within) train there in
-        subst (λ z. z ≤ℤ pos 1) (sym is) (at_most_one _ (hit_once (stay_of stays_here i) k));
-  }
+  derived_light = let marks = light T.missions all formed.few_trains stays_each in record { limits = marks.limits; shares = marks.shares }
 
 module _ (D : Doc) (most : ℕ) where
   pub derived_count : length (derived D most) ≡ length D.tables

@@ -3,7 +3,7 @@ use Rattle.std.proofs.Common.{◌≡◌, ◌⊎◌, ℕ, List, refl, sym, subst,
 use Rattle.std.specs.Prelude.{Ok, Err}
 use Rattle.rail_model.specs.Names.{Names}
 use Rattle.move_journal.specs.declared.faults.BadText.{BadText}
-use Rattle.move_journal.specs.declared.faults.BadText.TheVariants.{Line, Number, After, NoEnd, Memory}
+use Rattle.move_journal.specs.declared.faults.BadText.TheVariants.{NoEnd, Memory}
 use Rattle.move_journal.specs.Answers.{Answers, AnswersPrefix}
 use Rattle.layout_json.specs.Doc.{Doc}
 use Rattle.layout_json.specs.Reading.{doc_of}
@@ -20,17 +20,12 @@ resumed_input input document given written cut D is resumed =
 
 whole_told : (N : Names) (given : List ℕ) (cause : BadText) → Answers N given (Err cause) → (failure_of_text cause ≡ NoMemory) ⊎ IsTextFault N given (failure_of_text cause)
 whole_told N given Memory h = inl refl
-whole_told N given (Line k) h = inr h
-whole_told N given (Number k) h = inr h
-whole_told N given After h = inr h
-whole_told N given NoEnd h = inr h
+whole_told N given cause h = inr h
 
 part_told : (N : Names) (given : List ℕ) (cause : BadText) → AnswersPrefix N given (Err cause) → (failure_of_text cause ≡ NoMemory) ⊎ IsPartFault N given (failure_of_text cause)
 part_told N given Memory h = inl refl
-part_told N given (Line k) h = inr (h, λ same. cc)
-part_told N given (Number k) h = inr (h, λ same. cc)
-part_told N given After h = inr (h, λ same. cc)
 part_told N given NoEnd h = absurd h
+part_told N given cause h = inr (h, λ same. cc)
 
 pub text_fault : (N M : Names) (given : List ℕ) (cause : BadText) (e : Failure) → M ≡ N → Answers M given (Err cause) → e ≡ failure_of_text cause → (e ≡ NoMemory) ⊎ IsTextFault N given e
 text_fault N M given cause e same h is =

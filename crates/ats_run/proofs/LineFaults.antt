@@ -4,7 +4,7 @@ use Rattle.std.specs.Prelude.{Err}
 use Rattle.rail_model.specs.Yard.{Offer, Yard}
 use Rattle.rail_model.specs.Journal.{Journal}
 use Rattle.move_journal.specs.declared.faults.BadLine.{BadLine}
-use Rattle.move_journal.specs.declared.faults.BadLine.TheVariants.{Move, Place, Table, Unfinished, Open, Counts, Memory}
+use Rattle.move_journal.specs.declared.faults.BadLine.TheVariants.{Memory}
 use Rattle.move_journal.specs.Replays.{Verifies}
 use Rattle.ats_run.specs.declared.failure.Failure.{Failure}
 use Rattle.ats_run.specs.declared.failure.Failure.TheVariants.{Memory as NoMemory}
@@ -14,12 +14,7 @@ use Rattle.ats_run.specs.Journals.{IsLineFault}
 told : (tables : List Offer) (y : Yard) (J : Journal) (cause : BadLine) → Verifies tables y J (Err cause)
     → (failure_of_line cause ≡ NoMemory) ⊎ IsLineFault tables y J (failure_of_line cause)
 told tables y J Memory h = inl refl
-told tables y J (Move k ask) h = inr h
-told tables y J (Place k) h = inr h
-told tables y J (Table k) h = inr h
-told tables y J (Unfinished i) h = inr h
-told tables y J (Open t) h = inr h
-told tables y J Counts h = inr h
+told tables y J cause h = inr h
 
 pub line_fault : (tables given : List Offer) (y z : Yard) (J : Journal) (cause : BadLine) (e : Failure) → given ≡ tables → z ≡ y → Verifies given z J (Err cause)
     → e ≡ failure_of_line cause → (e ≡ NoMemory) ⊎ IsLineFault tables y J e

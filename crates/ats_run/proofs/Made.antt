@@ -29,9 +29,6 @@ pub record AreMadeBelow (tables : List Table) (budget n : ℕ) (trees : List Tre
   pub one_each : length trees ≡ n
   pub each : (t : ℕ) → t < n → IsMadeAt tables budget trees t
 
-pub none_made : (tables : List Table) (budget : ℕ) → AreMadeBelow tables budget 0 []
-none_made tables budget = record { one_each = refl; each = λ t lt. absurd (omega (arith, lt)) }
-
 -- one more
 pub made_more : (tables : List Table) (budget n : ℕ) (trees longer : List Tree) (T : Table) (c : Tree) → AreMadeBelow tables budget n trees → longer ≡ trees ++ c ∷ []
     → T ≡ table_in tables n → Makes T budget (cert c) → Accepts T c → AreMadeBelow tables budget (n + 1) longer
@@ -53,13 +50,6 @@ made_more tables budget n trees longer T c so is table made accepted = record {
           accepted = subst (Accepts (table_in tables t)) (sym here) before.accepted;
         }
   ];
-}
-
-pub all_made : (tables : List Table) (budget n : ℕ) (trees : List Tree) → AreMadeBelow tables budget n trees → length tables ≤ n → n ≤ length tables → AreMade tables budget trees
-all_made tables budget n trees so low high = record {
-  one_each = omega (arith, so.one_each);
-  made = λ t lt. (so.each t (omega arith)).made;
-  accepted = λ t lt. (so.each t (omega arith)).accepted;
 }
 
 -- the first of which none is made

@@ -18,19 +18,7 @@ repaired_or_not T budget rounds t P good (failure.Rounds u n p) h =
     let same = repair_is_unique T.missions budget rounds (repair.Done good.0 good.1 good.2) (repair.Rounds h.1.0 n p) good.3 h.1.1.0 in cc
 repaired_or_not T budget rounds t P good (failure.Many u n) h =
     let same = repair_is_unique T.missions budget rounds (repair.Done good.0 good.1 good.2) (repair.Many h.1.0 n) good.3 h.1.1.0 in cc
-repaired_or_not T budget rounds t P good (failure.Stuck u p) h = h
-repaired_or_not T budget rounds t P good failure.Words h = h
-repaired_or_not T budget rounds t P good failure.Memory h = h
-repaired_or_not T budget rounds t P good failure.ReadFault h = h
-repaired_or_not T budget rounds t P good failure.WriteFault h = h
-repaired_or_not T budget rounds t P good failure.TooLong h = h
-repaired_or_not T budget rounds t P good (failure.Document x) h = h
-repaired_or_not T budget rounds t P good (failure.Tree u x) h = h
-repaired_or_not T budget rounds t P good (failure.Certificate u x) h = h
-repaired_or_not T budget rounds t P good (failure.Connected u) h = h
-repaired_or_not T budget rounds t P good failure.NoJournal h = h
-repaired_or_not T budget rounds t P good (failure.Text x) h = h
-repaired_or_not T budget rounds t P good (failure.Line x) h = h
+repaired_or_not T budget rounds t P good e h = h
 
 -- a start that is legal under the repaired table isn't refused
 start_or_not : (T : Table) (start : List ℕ) (budget rounds : ℕ) → HasRepair T budget rounds (λ U. Legal U start) → (e : Failure)

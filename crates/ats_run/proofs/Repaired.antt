@@ -2,6 +2,7 @@
 use Rattle.std.specs.Prelude.{Result, Ok, Err, IfErr, IsErrAnd}
 use Rattle.std.proofs.Common.{◌≡◌, ◌⊎◌, ℕ, ◌+◌, ◌<◌, ◌≤◌, List, [], ◌∷◌, ◌++◌, All, length, refl, sym, ◌∙◌, ap, subst, arith, inl, inr}
 use Rattle.std.proofs.lemmas.Bool.{cases_eq}
+use Rattle.std.proofs.lemmas.Option.{slice_get-get_or}
 use Rattle.std.proofs.lemmas.List.{get_or_append_left, length-append}
 use Rattle.std.proofs.Math.Seq.{get_or-append_seam}
 use Rattle.rail_model.specs.State.{Legal}
@@ -28,7 +29,7 @@ use Rattle.ats_run.specs.Starting.{IsBadStart}
 use Rattle.ats_run.specs.declared.failure.Failure.{Failure}
 use Rattle.ats_run.specs.declared.failure.Failure.TheVariants.{Connected, Memory}
 use Rattle.ats_run.proofs.AcceptedText.{repaired_text}
-use Rattle.ats_run.proofs.LightMarked.{listed, light}
+use Rattle.ats_run.proofs.LightMarked.{light}
 use Rattle.ats_run.proofs.Offered.{offer_count}
 
 -- ---- how a repair ends
@@ -75,7 +76,7 @@ forbids T U budget rounds c h =
     record {
       sections = S;
       few = h.1.2.few;
-      stays = λ k d lt. (sound _ (get-among S k _ (listed S k d lt))).stays;
+      stays = λ k d lt. (sound _ (get-among S k _ (slice_get-get_or S k d lt))).stays;
       table = h.1.2.table;
     }
 
@@ -93,34 +94,7 @@ module _ (T U : Table) (formed : IsTable T) (f : IsForbidding T.missions U) wher
   still_light : IsLight U
   still_light = subst IsLight (sym f.table) (light T.missions f.sections formed.few_trains f.stays)
 
--- ---- connections
-
--- a list of no elements
-none_in : {X : Type 0} (xs : List X) → length xs ≡ 0 → xs ≡ []
-none_in [] h = refl
-none_in (x ∷ xs) h = absurd (omega (arith, h))
-
--- one table more has no connection
-pub unconnected_more : (D : Doc) (n : ℕ) → IsUnconnected D n → length (table_at D n).connections ≡ 0 → IsUnconnected D (n + 1)
-unconnected_more D n before here t lt = elim (cases_eq t n) [
-  | inl same ↦ subst (λ k. (table_at D k).connections ≡ []) (sym same) (none_in (table_at D n).connections here)
-  | inr other ↦ before t (omega arith)
-]
-
--- a table with a connection is the first that has one
-pub has_connection : (D : Doc) (n : ℕ) → n < length D.tables → IsUnconnected D n → 0 < length (table_at D n).connections → HasConnection D (Connected n)
-has_connection D n lt before some = record {
-  table = n;
-  in_range = lt;
-  earlier = before;
-  connected = λ none. (let empty : length (table_at D n).connections ≡ 0 = ap length none in omega (arith, some, empty));
-  told = refl;
-}
-
 -- ---- table by table
-
-pub none_repaired : (D : Doc) (budget rounds : ℕ) → AreRepaired D budget rounds 0 []
-none_repaired D budget rounds = record { one_each = refl; each = λ t lt. absurd (omega (arith, lt)); start = λ lt. absurd (omega (arith, lt)) }
 
 -- one more
 pub repaired_more : (D : Doc) (budget rounds n : ℕ) (parts longer : List (Table × Tree)) (p : Table × Tree) → AreRepaired D budget rounds n parts
@@ -145,9 +119,6 @@ repaired_more D budget rounds n parts longer p so is repaired start =
         | inr other ↦ subst (λ (q : Table × Tree). Legal q.0 D.start) (sym (before 0 (omega (arith, other)))) (so.start (omega (arith, other)))
       ];
     }
-
-pub all_repaired : (D : Doc) (budget rounds n m : ℕ) (parts : List (Table × Tree)) → AreRepaired D budget rounds n parts → n ≡ m → AreRepaired D budget rounds m parts
-all_repaired D budget rounds n m parts so same = subst (λ k. AreRepaired D budget rounds k parts) same so
 
 -- ---- the whole document
 

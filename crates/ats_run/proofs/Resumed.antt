@@ -12,7 +12,7 @@ use Rattle.plain_yard.specs.Rounds.{Finishes}
 use Rattle.plain_yard.proofs.Keeping.{right_append, round_right, whole}
 use Rattle.plain_yard.proofs.Reaching.{after_append}
 use Rattle.move_journal.specs.declared.faults.BadLine.{BadLine}
-use Rattle.move_journal.specs.declared.faults.BadLine.TheVariants.{Move, Place, Table, Unfinished, Open, Counts, Memory}
+use Rattle.move_journal.specs.declared.faults.BadLine.TheVariants.{Memory}
 use Rattle.move_journal.specs.Answers.{IsTextOf, IsFrontOf}
 use Rattle.move_journal.specs.Counted.{journal_of}
 use Rattle.move_journal.specs.Replays.{Replays}
@@ -82,12 +82,7 @@ resumed_front D trees front given written y z lines longer doc accepted is_front
 told : (tables : List Offer) (y : Yard) (J : Journal) (cause : BadLine) → Replays tables y J (Err cause)
     → (failure_of_line cause ≡ NoMemory) ⊎ IsFrontFault tables y J (failure_of_line cause)
 told tables y J Memory h = inl refl
-told tables y J (Move k ask) h = inr h
-told tables y J (Place k) h = inr h
-told tables y J (Table k) h = inr h
-told tables y J (Unfinished i) h = inr h
-told tables y J (Open t) h = inr h
-told tables y J Counts h = inr h
+told tables y J cause h = inr h
 
 pub front_fault : (tables given : List Offer) (y z : Yard) (J : Journal) (cause : BadLine) (e : Failure) → given ≡ tables → z ≡ y → Replays given z J (Err cause)
     → e ≡ failure_of_line cause → (e ≡ NoMemory) ⊎ IsFrontFault tables y J e

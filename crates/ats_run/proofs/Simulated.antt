@@ -60,13 +60,6 @@ simulated D trees z lines ticks tick written doc accepted done s soon printed =
       printed = printed;
     }
 
--- each line of a report has its tick
-pub one_tick_each : (tables : List Offer) (times : List (List (List ℕ))) (y z : Yard) (lines : List Line) (ticks : List ℕ) (tick : ℕ)
-    → Simulates tables times y [] lines ticks tick z → length ticks ≡ length lines
-one_tick_each tables times y z lines ticks tick s =
-    let timed = timed_lines tables y s.entries in
-    ap length s.ticks_are ∙ length-map timed (λ l. l.0) ∙ sym (length-map timed (λ l. l.1)) ∙ sym (ap length s.lines_are)
-
 next : {X : Type 0} (xs : List X) (i : ℕ) (d : X) → i < length xs → drop i xs ≡ get_or xs i d ∷ drop (i + 1) xs
 next xs i d within = drop-cons xs i d within ∙ (let more : suc i ≡ i + 1 = omega arith in ap (λ k. get_or xs i d ∷ drop k xs) more)
 

@@ -1,6 +1,6 @@
 -- What an order writes that writes a document.
-use Rattle.std.proofs.Common.{◌≡◌, ℕ, List, [], Option, None, Some, sym, ◌∙◌, subst}
-use Rattle.std.specs.Prelude.{Ok, IfSome}
+use Rattle.std.proofs.Common.{◌≡◌, ℕ, List, Option, Some, sym, ◌∙◌, subst}
+use Rattle.std.specs.Prelude.{Ok}
 use Rattle.command_words.specs.declared.orders.Order.{Order}
 use Rattle.command_words.specs.declared.orders.Order.TheVariants.{Make, Derive, Repair, Generate}
 use Rattle.layout_json.specs.Replaced.{replaced}
@@ -10,6 +10,7 @@ use Rattle.ats_run.specs.Generating.{full_budget}
 use Rattle.ats_run.specs.Making.{trees_in}
 use Rattle.ats_run.specs.Orders.{OnInput, MakesCertificates}
 use Rattle.ats_run.proofs.AcceptedText.{accepted_input, made_input}
+use Rattle.ats_run.proofs.Reading.{on_weaker}
 
 -- a document whose tables accept their certificates
 pub writes_accepted : (order : Order) (input written : List ℕ) → MakesCertificates order → Comes order input (Ok written) → IsAcceptedInput written
@@ -19,26 +20,13 @@ writes_accepted (Repair b r) input written w h = accepted_input (replaced h.0 h.
 writes_accepted (Generate s n) input written w h = made_input h.0 full_budget written h.2
 writes_accepted order input written w h = absurd w
 
-if_weaker : (held : Option (List ℕ)) (P Q : List ℕ → Type 0) → ((input : List ℕ) → P input → Q input) → IfSome held P → IfSome held Q
-if_weaker None P Q f h = tt
-if_weaker (Some input) P Q f h = f input h
-
--- what holds of an input by what holds of it
-on_weaker : (order : Order) (held : Option (List ℕ)) (P Q : List ℕ → Type 0) → MakesCertificates order → ((input : List ℕ) → P input → Q input) → OnInput order held P
-    → OnInput order held Q
-on_weaker (Make b) held P Q w f h = if_weaker held P Q f h
-on_weaker (Derive m b) held P Q w f h = if_weaker held P Q f h
-on_weaker (Repair b r) held P Q w f h = if_weaker held P Q f h
-on_weaker (Generate s n) held P Q w f h = f [] h
-on_weaker order held P Q w f h = absurd w
-
--- so does what was taken
+-- what an order has written that makes certificates, and was taken
 written_of : (order : Order) (held : Option (List ℕ)) (Taken : List ℕ → Type 0) → MakesCertificates order
     → OnInput order held (λ input. (written : List ℕ) × Comes order input (Ok written) × Taken written)
     → OnInput order held (λ input. (written : List ℕ) × IsAcceptedInput written × Taken written)
 written_of order held Taken w h =
     on_weaker order held (λ input. (written : List ℕ) × Comes order input (Ok written) × Taken written)
-    (λ input. (written : List ℕ) × IsAcceptedInput written × Taken written) w
+    (λ input. (written : List ℕ) × IsAcceptedInput written × Taken written)
     (λ input k. (k.0, writes_accepted order input k.0 w k.1, k.2)) h
 
 -- of the order that was asked for

@@ -2,7 +2,9 @@
 use Rattle.std.specs.Prelude.{◌≡◌, ◌≢◌, ◌⊎◌, ℕ, List, Result, Ok, Err}
 use Rattle.command_words.specs.declared.orders.Order.{Order}
 use Rattle.command_words.specs.declared.orders.Order.TheVariants.{Run, Resume, Check, Verify, Migrate, Make, Derive, Repair, Simulate, Generate, Drill}
+use Rattle.move_journal.specs.declared.faults.BadText.{BadText}
 use Rattle.move_journal.specs.declared.faults.BadText.TheVariants.{NoEnd}
+use Rattle.move_journal.specs.declared.faults.BadLine.{BadLine}
 use Rattle.document_generator.specs.Generated.{generated}
 use Rattle.layout_json.specs.Doc.{Doc}
 use Rattle.layout_json.specs.Trees.{IsNoTree}
@@ -36,33 +38,33 @@ IsUnchecked input (Tree t e) = IsDocWith input (λ D. IsNoTree D t e)
 IsUnchecked input (Certificate t bad) = IsDocWith input (λ D. IsBadTable D t bad)
 IsUnchecked input e = ⊥
 
+-- The input is a document, the line between, and further bytes, and the fact holds of both parts.
+abbrev pub IsPairWith : List ℕ → (Doc → List ℕ → Type 0) → Type 0
+IsPairWith input P = (k : ℕ) × IsCut input k × IsDocWith (document_part input k) (λ D. P D (journal_part input k))
+
+-- Why an input of a document and a journal is refused: it has no line between the two; the document is; the text is, for a cause of the first
+-- kind; its lines are, for one of the second.
+abbrev pub IsRefusedPair : (Doc → List ℕ → BadText → Type 0) → (Doc → List ℕ → BadLine → Type 0) → List ℕ → Failure → Type 0
+IsRefusedPair HasBadText HasBadLine input NoJournal = HasNoCut input
+IsRefusedPair HasBadText HasBadLine input (Text cause) = IsPairWith input (λ D given. HasBadText D given cause)
+IsRefusedPair HasBadText HasBadLine input (Line cause) = IsPairWith input (λ D given. HasBadLine D given cause)
+IsRefusedPair HasBadText HasBadLine input e = (k : ℕ) × IsCut input k × IsUnchecked (document_part input k) e
+
 -- The input is a document and the text of a whole journal of it.
 abbrev pub IsVerifiedInput : List ℕ → List ℕ → Type 0
-IsVerifiedInput input written =
-    (k : ℕ) × IsCut input k × IsDocWith (document_part input k) (λ D. IsVerified D (journal_part input k) written)
+IsVerifiedInput input written = IsPairWith input (λ D given. IsVerified D given written)
 
--- Why it isn't: no line between the two, then the document, then the text, then the journal.
+-- Why it isn't.
 abbrev pub IsUnverifiedInput : List ℕ → Failure → Type 0
-IsUnverifiedInput input NoJournal = HasNoCut input
-IsUnverifiedInput input (Text cause) =
-    (k : ℕ) × IsCut input k × IsDocWith (document_part input k) (λ D. IsUnreadable D (journal_part input k) cause)
-IsUnverifiedInput input (Line cause) =
-    (k : ℕ) × IsCut input k × IsDocWith (document_part input k) (λ D. IsUnverified D (journal_part input k) cause)
-IsUnverifiedInput input e = (k : ℕ) × IsCut input k × IsUnchecked (document_part input k) e
+IsUnverifiedInput input e = IsRefusedPair IsUnreadable IsUnverified input e
 
 -- The input is a document and a journal or its front, from which its run goes on.
 abbrev pub IsResumedInput : List ℕ → List ℕ → Type 0
-IsResumedInput input written =
-    (k : ℕ) × IsCut input k × IsDocWith (document_part input k) (λ D. IsResumed D (journal_part input k) written)
+IsResumedInput input written = IsPairWith input (λ D given. IsResumed D given written)
 
--- Why it isn't, in the order of a check of a journal.
+-- Why it isn't.
 abbrev pub IsUnresumedInput : List ℕ → Failure → Type 0
-IsUnresumedInput input NoJournal = HasNoCut input
-IsUnresumedInput input (Text cause) =
-    (k : ℕ) × IsCut input k × IsDocWith (document_part input k) (λ D. IsUnreadable D (journal_part input k) cause × (cause ≢ NoEnd))
-IsUnresumedInput input (Line cause) =
-    (k : ℕ) × IsCut input k × IsDocWith (document_part input k) (λ D. IsUnresumed D (journal_part input k) cause)
-IsUnresumedInput input e = (k : ℕ) × IsCut input k × IsUnchecked (document_part input k) e
+IsUnresumedInput input e = IsRefusedPair (λ D given cause. IsUnreadable D given cause × (cause ≢ NoEnd)) IsUnresumed input e
 
 -- The bytes are no document of which each table gets a certificate.
 abbrev pub IsUnmadeInput : List ℕ → ℕ → Failure → Type 0
@@ -81,6 +83,7 @@ abbrev pub IsDrilledInput : List ℕ → List ℕ → Type 0
 IsDrilledInput input written =
     (made : List ℕ) × IsDocWith input (λ D. IsMade D full_budget made) × IsDocWith made (λ D. IsDrilled D written)
 
+-- What a command comes to.
 abbrev pub Comes : Order → List ℕ → Result (List ℕ) Failure → Type 0
 Comes (Run workers rounds) input (Ok written) = IsDocWith input (λ D. (run : IsRun D written) × IsRoundRobin D run.journal)
 Comes (Run workers rounds) input (Err e) = IsUnchecked input e

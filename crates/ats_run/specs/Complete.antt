@@ -52,20 +52,23 @@ IsDerivable most budget D =
 abbrev pub IsMakeable : ℕ → ℕ → Type 0
 IsMakeable seed trains = IsDocWith (generated seed trains) (λ D. AreMakeable (tables_in D) full_budget)
 
+-- What a command asks of its input.
+abbrev pub Suits : Order → List ℕ → Type 0
+Suits (Run workers rounds) input = IsAcceptedInput input
+Suits Simulate input = IsAcceptedInput input
+Suits Check input = IsAcceptedInput input
+Suits Verify input = IsJournalInput input IsWholeText
+Suits (Resume workers rounds) input = IsJournalInput input (λ D given. IsWholeText D given ⊎ IsRightFront D given)
+Suits Migrate input = IsDocument input
+Suits (Make budget) input = IsDocWith input (λ D. AreMakeable (tables_in D) budget)
+Suits (Derive most budget) input = IsDocWith input (IsDerivable most budget)
+Suits (Repair budget rounds) input = IsDocWith input (λ D. IsRepairable D budget rounds)
+Suits (Generate seed trains) input = IsMakeable seed trains
+Suits (Drill seed trains workers) input = IsMakeable seed trains
+
 -- Not too long, and what the command asks for.
 abbrev pub IsGoodInput : Order → List ℕ → Type 0
-IsGoodInput (Run workers rounds) input = (length input ≤ most_bytes) × IsAcceptedInput input
-IsGoodInput Simulate input = (length input ≤ most_bytes) × IsAcceptedInput input
-IsGoodInput Check input = (length input ≤ most_bytes) × IsAcceptedInput input
-IsGoodInput Verify input = (length input ≤ most_bytes) × IsJournalInput input IsWholeText
-IsGoodInput (Resume workers rounds) input =
-    (length input ≤ most_bytes) × IsJournalInput input (λ D given. IsWholeText D given ⊎ IsRightFront D given)
-IsGoodInput Migrate input = (length input ≤ most_bytes) × IsDocument input
-IsGoodInput (Make budget) input = (length input ≤ most_bytes) × IsDocWith input (λ D. AreMakeable (tables_in D) budget)
-IsGoodInput (Derive most budget) input = (length input ≤ most_bytes) × IsDocWith input (IsDerivable most budget)
-IsGoodInput (Repair budget rounds) input = (length input ≤ most_bytes) × IsDocWith input (λ D. IsRepairable D budget rounds)
-IsGoodInput (Generate seed trains) input = (length input ≤ most_bytes) × IsMakeable seed trains
-IsGoodInput (Drill seed trains workers) input = (length input ≤ most_bytes) × IsMakeable seed trains
+IsGoodInput order input = (length input ≤ most_bytes) × Suits order input
 
 abbrev pub IsDoneOrMemory : Status → Type 0
 IsDoneOrMemory status = (status ≡ Done) ⊎ (status ≡ Memory)

@@ -43,10 +43,7 @@ fn read_given(alloc: Global, doc: &Doc, given: &[u8]) -> Result<Journal, Failure
 
     ensures fault { IfErr result (λ e. (e ≡ NoMemory) ⊎ IsTextFault (names_of doc.now) given.now e) }
 {
-    match read(alloc, names_of(doc), given) {
-        Ok(journal) => Ok(journal),
-        Err(cause) => Err(Failure::from(cause)),
-    }
+    Ok(read(alloc, names_of(doc), given)?)
 }
 
 /// Whether a journal is whole under the tables of a document.
@@ -62,10 +59,7 @@ pub fn verify_lines(
 
     ensures lacks { IfErr result (λ e. (e ≡ NoMemory) ⊎ IsLineFault (offers_of doc.now) (opening doc.now.start) journal.now e) }
 {
-    match verify_journal(alloc, tables, start_of(doc), journal) {
-        Ok(()) => Ok(()),
-        Err(cause) => Err(Failure::from(cause)),
-    }
+    Ok(verify_journal(alloc, tables, start_of(doc), journal)?)
 }
 
 /// The document and the journal of an input, at the first line between them.

@@ -49,18 +49,21 @@ fn make_all(alloc: Global, doc: &Doc, budget: u32) -> Result<Vec<Cert>, Failure>
 }
 
 // The certificate of a table with this number.
-fn make_one(alloc: Global, of: &Table, table: u32, budget: u32) -> Result<Cert, Failure>
+fn make_one(alloc: Global, table: &Table, number: u32, budget: u32) -> Result<Cert, Failure>
     requires some { 1 ≤ budget }
     requires most { budget ≤ 1000000 }
-    ensures made { IfOk result (λ c. Makes of.now budget (cert c)) }
-    ensures accepted { IfOk result (Accepts of.now) }
+    ensures made { IfOk result (λ c. Makes table.now budget (cert c)) }
+    ensures accepted { IfOk result (Accepts table.now) }
 
-    ensures none { IfErr result (λ e. (e ≡ NoMemory) ⊎ MakesNone of.now table budget e) }
+    ensures none { IfErr result (λ e. (e ≡ NoMemory) ⊎ MakesNone table.now number budget e) }
 {
-    match make_certificate(alloc, of, budget)? {
+    match make_certificate(alloc, table, budget)? {
         Made::Cert(cert) => Ok(cert),
-        Made::Stuck(at) => Err(Failure::Stuck { table, at }),
-        Made::Spent { nodes } => Err(Failure::Spent { table, nodes }),
+        Made::Stuck(at) => Err(Failure::Stuck { table: number, at }),
+        Made::Spent { nodes } => Err(Failure::Spent {
+            table: number,
+            nodes,
+        }),
     }
 }
 

@@ -96,33 +96,41 @@ fn repair_at(
     if table > 0 {
         return Ok(part);
     }
-    match check_start(&part.0, start_of(doc)) {
-        Ok(()) => Ok(part),
-        Err(refused) => Err(refused),
-    }
+    check_start(&part.0, start_of(doc))?;
+    Ok(part)
 }
 
 // The missions of a table, that has this number, with the sections that a repair makes, and the certificate.
 fn repair_one(
     alloc: Global,
     layout: &Layout,
-    of: &Table,
-    table: u32,
+    table: &Table,
+    number: u32,
     budget: u32,
     rounds: u32,
 ) -> Result<(Table, Cert), Failure>
     requires some { 1 ≤ budget }
     requires most { budget ≤ 1000000 }
-    ensures repaired { IfOk result (λ p. IsRepairedAs of.now budget rounds p.0 p.1) }
-    ensures dooms { IfOk result (λ p. (n : ℕ) → DoomsAlike of.now.missions (Done p.0 p.1 n)) }
+    ensures repaired { IfOk result (λ p. IsRepairedAs table.now budget rounds p.0 p.1) }
+    ensures dooms { IfOk result (λ p. (n : ℕ) → DoomsAlike table.now.missions (Done p.0 p.1 n)) }
 
-    ensures none { IfErr result (λ e. (e ≡ NoMemory) ⊎ RepairsNone of.now table budget rounds e) }
+    ensures none { IfErr result (λ e. (e ≡ NoMemory) ⊎ RepairsNone table.now number budget rounds e) }
 {
-    let missions = copy_missions(alloc, of)?;
+    let missions = copy_missions(alloc, table)?;
     match repair_missions(alloc, layout, missions, budget, rounds)? {
         Repair::Done { table, cert, .. } => Ok((table, cert)),
-        Repair::Spent { nodes, .. } => Err(Failure::Spent { table, nodes }),
-        Repair::Rounds { rounds, at, .. } => Err(Failure::Rounds { table, rounds, at }),
-        Repair::Many { count, .. } => Err(Failure::Many { table, count }),
+        Repair::Spent { nodes, .. } => Err(Failure::Spent {
+            table: number,
+            nodes,
+        }),
+        Repair::Rounds { rounds, at, .. } => Err(Failure::Rounds {
+            table: number,
+            rounds,
+            at,
+        }),
+        Repair::Many { count, .. } => Err(Failure::Many {
+            table: number,
+            count,
+        }),
     }
 }

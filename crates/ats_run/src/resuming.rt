@@ -46,10 +46,7 @@ fn read_part(alloc: Global, doc: &Doc, given: &[u8]) -> Result<Part, Failure>
 
     ensures fault { IfErr result (λ e. (e ≡ NoMemory) ⊎ IsPartFault (names_of doc.now) given.now e) }
 {
-    match read_prefix(alloc, names_of(doc), given) {
-        Ok(part) => Ok(part),
-        Err(cause) => Err(Failure::from(cause)),
-    }
+    Ok(read_prefix(alloc, names_of(doc), given)?)
 }
 
 // A whole text again.
@@ -105,8 +102,5 @@ fn replay_front(
 
     ensures refused { IfErr result (λ e. (e ≡ NoMemory) ⊎ IsFrontFault (offers_of doc.now) (opening doc.now.start) front.now e) }
 {
-    match replay(alloc, tables, start_of(doc), front) {
-        Ok(state) => Ok(state),
-        Err(cause) => Err(Failure::from(cause)),
-    }
+    Ok(replay(alloc, tables, start_of(doc), front)?)
 }

@@ -64,18 +64,21 @@ fn derive_all(alloc: Global, doc: &Doc, most: u32) -> Result<Vec<Table>, Failure
 }
 
 // A table with the sections of its rings in place of its own.
-fn derive_one(alloc: Global, of: &Table, table: u32, most: u32) -> Result<Table, Failure>
+fn derive_one(alloc: Global, table: &Table, number: u32, most: u32) -> Result<Table, Failure>
     requires least { 2 ≤ most }
     requires greatest { most ≤ 8 }
-    ensures table { IfOk result (λ T. T ≡ derived_table most of.now) }
-    ensures few { OnOk result (HasFewRings most of.now) }
+    ensures table { IfOk result (λ T. T ≡ derived_table most table.now) }
+    ensures few { OnOk result (HasFewRings most table.now) }
 
-    ensures many { IfErr result (λ e. (e ≡ NoMemory) ⊎ HasTooManyRings most of.now table e) }
+    ensures many { IfErr result (λ e. (e ≡ NoMemory) ⊎ HasTooManyRings most table.now number e) }
 {
-    let missions = copy_missions(alloc, of)?;
+    let missions = copy_missions(alloc, table)?;
     match rings(alloc, &missions, most) {
-        Ok(rings) => Ok(with_rings(alloc, of, missions, &rings)?),
-        Err(Rings::Many { count }) => Err(Failure::Many { table, count }),
+        Ok(rings) => Ok(with_rings(alloc, table, missions, &rings)?),
+        Err(Rings::Many { count }) => Err(Failure::Many {
+            table: number,
+            count,
+        }),
         Err(Rings::Memory) => Err(Failure::Memory),
     }
 }
@@ -83,16 +86,16 @@ fn derive_one(alloc: Global, of: &Table, table: u32, most: u32) -> Result<Table,
 // The missions of a table with the sections of these rings, and the table's connections.
 fn with_rings(
     alloc: Global,
-    of: &Table,
+    table: &Table,
     missions: Missions,
     rings: &[Ring],
 ) -> Result<Table, AllocError>
-    requires missions { missions ≡ of.now.missions }
+    requires missions { missions ≡ table.now.missions }
     requires few { length rings.now ≤ 64 }
     requires rings { All (IsRing missions) rings.now }
-    ensures { IfOk result (λ T. T ≡ record (ring_table of.now.missions rings.now) { connections = of.now.connections }) }
+    ensures { IfOk result (λ T. T ≡ record (ring_table table.now.missions rings.now) { connections = table.now.connections }) }
 {
-    let connections = of.connections().to_vec(alloc)?;
-    let table = mark_rings(alloc, missions, rings)?;
-    Ok(table.with_connections(connections))
+    let connections = table.connections().to_vec(alloc)?;
+    let marked = mark_rings(alloc, missions, rings)?;
+    Ok(marked.with_connections(connections))
 }

@@ -2,7 +2,6 @@ use Rattle.std.proofs.Common.{◌<◌, length, arith}
 use Rattle.ats_run.proofs.Offered.{offers_more, accepts_more}
 use Rattle.ats_run.proofs.checked.accept_all.Goals as goal
 
--- src/checked.rt:55:5
 pub loop-table-preserved : goal.loop-table-preserved
 loop-table-preserved g c =
     let lt : c.loop-table.table < length c.args.doc.now.tables = omega (arith, c.loop-table-test.true, c.loop-table.auto.table-end, c.tables_of-table-end.ensures.count) in (

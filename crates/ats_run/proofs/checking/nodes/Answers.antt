@@ -2,7 +2,6 @@ use Rattle.std.proofs.Common.{◌≡◌, ◌+◌, suc, ap, ◌∙◌, arith}
 use Rattle.ats_run.specs.Checking.{nodes_below}
 use Rattle.ats_run.proofs.checking.nodes.Goals as goal
 
--- src/checking.rt:31:5
 pub loop-table-preserved : goal.loop-table-preserved
 loop-table-preserved c =
     let next : suc c.loop-table.table ≡ c.loop-table.table + 1 = omega arith in (

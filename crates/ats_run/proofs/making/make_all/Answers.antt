@@ -7,7 +7,6 @@ use Rattle.ats_run.specs.Making.{tables_in, IsUnmade}
 use Rattle.ats_run.proofs.Made.{table_count, table_of_doc, made_more, none_at}
 use Rattle.ats_run.proofs.making.make_all.Goals as goal
 
--- src/making.rt:45:20
 pub returns-in_err-make_one-clause-unmade : goal.returns-in_err-make_one-clause-unmade
 returns-in_err-make_one-clause-unmade c =
     let D = c.args.doc.now in
@@ -20,7 +19,6 @@ returns-in_err-make_one-clause-unmade c =
     (none_at (tables_in D) c.args.budget n c.loop-table.certs.items c.table_of.result.now c.in_err-make_one.field-0.0 c.loop-table.invariant within
     (c.table_of.ensures.table ∙ sym (table_of_doc D n lt)) c.in_err-make_one.ensures.none))
 
--- src/making.rt:44:5
 pub loop-table-preserved : goal.loop-table-preserved
 loop-table-preserved c =
     let D = c.args.doc.now in

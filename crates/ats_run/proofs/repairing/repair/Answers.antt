@@ -8,13 +8,11 @@ use Rattle.ats_run.proofs.AcceptedText.{on_both}
 use Rattle.ats_run.proofs.Repaired.{repaired_taken, repaired_is, unrepaired_input}
 use Rattle.ats_run.proofs.repairing.repair.Goals as goal
 
--- src/repairing.rt:32:17
 pub returns-in_err-parts-clause-unrepaired : goal.returns-in_err-parts-clause-unrepaired
 returns-in_err-parts-clause-unrepaired c =
     unrepaired_input c.args.input.now c.in_ok-doc.doc c.args.budget c.args.rounds c.from_residual-in_err-parts.result c.in_err-parts.field-0.0
     c.in_ok-doc.ensures.document c.in_err-parts.ensures.unrepaired c.from_residual-in_err-parts.ensures.1
 
--- src/repairing.rt:33:5
 pub text_of_parts-requires-clause-taken : goal.text_of_parts-requires-clause-taken
 text_of_parts-requires-clause-taken c =
     let D = c.in_ok-doc.doc in

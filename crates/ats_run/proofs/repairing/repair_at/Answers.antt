@@ -1,30 +1,37 @@
-use Rattle.std.proofs.Common.{◌≡◌, subst, arith, inr}
+use Rattle.std.proofs.Common.{◌≡◌, ◌⊎◌, sym, subst, arith, inr}
+use Rattle.std.specs.Prelude.{IfErr}
+use Rattle.std.proofs.lemmas.Result.{err_from_is_err_and}
 use Rattle.rail_model.specs.Table.{Table}
-use Rattle.ats_run.specs.Repairing.{IsRepairedAs, IsRefusedStart}
+use Rattle.layout_json.specs.Doc.{table_at}
+use Rattle.ats_run.specs.declared.failure.Failure.{Failure}
+use Rattle.ats_run.specs.declared.failure.Failure.TheVariants.{Memory as NoMemory}
+use Rattle.ats_run.specs.Repairing.{IsRepairedAs, RepairsNone, IsRefusedStart}
 use Rattle.ats_run.proofs.Repaired.{refused_start}
 use Rattle.ats_run.proofs.repairing.repair_at.Goals as goal
 
--- src/repairing.rt:90:9
 pub returns-then-table-gt0-clause-repaired : goal.returns-then-table-gt0-clause-repaired
 returns-then-table-gt0-clause-repaired c =
     subst (λ (T : Table). IsRepairedAs T c.args.budget c.args.rounds c.in_ok-part.part.0 c.in_ok-part.part.1) c.table_of.ensures.table c.in_ok-part.ensures.repaired
 
--- src/repairing.rt:72:1
-pub returns-in-Ok-clause-repaired : goal.returns-in-Ok-clause-repaired
-returns-in-Ok-clause-repaired c =
+pub returns-clause-repaired : goal.returns-clause-repaired
+returns-clause-repaired c =
     subst (λ (T : Table). IsRepairedAs T c.args.budget c.args.rounds c.in_ok-part.part.0 c.in_ok-part.part.1) c.table_of.ensures.table c.in_ok-part.ensures.repaired
 
--- src/repairing.rt:72:1
-pub returns-in-Err-clause-unrepaired : goal.returns-in-Err-clause-unrepaired
-returns-in-Err-clause-unrepaired c =
+pub returns-in_err-check_start-clause-unrepaired : goal.returns-in_err-check_start-clause-unrepaired
+returns-in_err-check_start-clause-unrepaired c =
     let T = c.table_of.result.now in
     let p = c.start_of.result.now in
-    let refused : IsRefusedStart T p c.args.budget c.args.rounds c.in-Err.refused =
-    refused_start T c.in_ok-part.part.0 p c.args.budget c.args.rounds c.in_ok-part.part.1 c.in-Err.refused
-    c.in_ok-part.ensures.repaired c.in_ok-part.ensures.dooms c.in-Err.ensures.bad in
+    let cause = c.in_err-check_start.field-0.0 in
+    let got = err_from_is_err_and c.from_residual-in_err-check_start.result c.from_residual-in_err-check_start.ensures.1 in
+    let refused : IsRefusedStart T p c.args.budget c.args.rounds cause =
+    refused_start T c.in_ok-part.part.0 p c.args.budget c.args.rounds c.in_ok-part.part.1 cause
+    c.in_ok-part.ensures.repaired c.in_ok-part.ensures.dooms c.in_err-check_start.ensures.bad in
     let first : c.args.table ≡ 0 = omega (arith, c.if-table-gt0.false) in
-    inr (inr (
+    subst (λ r. IfErr r (λ e. (e ≡ NoMemory) ⊎ RepairsNone (table_at c.args.doc.now c.args.table) c.args.table c.args.budget c.args.rounds e
+    ⊎ ((c.args.table ≡ 0) × IsRefusedStart (table_at c.args.doc.now c.args.table) c.args.doc.now.start c.args.budget c.args.rounds e))) (sym got.1)
+    (inr (inr (
       first,
-      subst (λ (U : Table). IsRefusedStart U c.args.doc.now.start c.args.budget c.args.rounds c.in-Err.refused) c.table_of.ensures.table
-          (subst (λ q. IsRefusedStart T q c.args.budget c.args.rounds c.in-Err.refused) c.start_of.ensures.start refused),
-    ))
+      subst (λ (e : Failure). IsRefusedStart (table_at c.args.doc.now c.args.table) c.args.doc.now.start c.args.budget c.args.rounds e) (sym got.2)
+          (subst (λ (U : Table). IsRefusedStart U c.args.doc.now.start c.args.budget c.args.rounds cause) c.table_of.ensures.table
+          (subst (λ q. IsRefusedStart T q c.args.budget c.args.rounds cause) c.start_of.ensures.start refused)),
+    )))

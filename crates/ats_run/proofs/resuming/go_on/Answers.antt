@@ -1,7 +1,6 @@
 use Rattle.ats_run.proofs.Resumed.{resumed_front}
 use Rattle.ats_run.proofs.resuming.go_on.Goals as goal
 
--- src/resuming.rt:53:1
 pub returns-clause-resumed : goal.returns-clause-resumed
 returns-clause-resumed c = λ trees accepted.
     let s = c.in_ok-state.ensures in

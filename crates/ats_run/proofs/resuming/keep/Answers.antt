@@ -1,7 +1,6 @@
 use Rattle.ats_run.proofs.Resumed.{resumed_whole}
 use Rattle.ats_run.proofs.resuming.keep.Goals as goal
 
--- src/resuming.rt:41:1
 pub returns-clause-resumed : goal.returns-clause-resumed
 returns-clause-resumed c = λ trees accepted.
     resumed_whole c.args.doc.now trees c.args.journal.now c.args.given.now c.in_ok-from_slice.field-0.items c.verify_lines.ensures.formed accepted

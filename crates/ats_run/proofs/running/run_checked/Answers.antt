@@ -2,7 +2,6 @@ use Rattle.std.proofs.lemmas.Result.{IfOk-weaker}
 use Rattle.ats_run.proofs.Runs.{runs}
 use Rattle.ats_run.proofs.running.run_checked.Goals as goal
 
--- src/running.rt:37:1
 pub returns : goal.returns
 returns c = record {
   run = IfOk-weaker c.text_of_run.result _ _

@@ -8,20 +8,17 @@ use Rattle.layout_json.specs.Doc.{names_of}
 use Rattle.ats_run.proofs.Runs.{few_lines, named_lines}
 use Rattle.ats_run.proofs.running.text_of_run.Goals as goal
 
--- src/running.rt:67:25
 pub from_lines-requires : goal.from_lines-requires
 from_lines-requires c =
     subst (λ (xs : List Line). length xs < 2 ^ 32) (sym c.into_parts-lines.ensures.lines)
     (few_lines c.args.doc.now c.args.state.yard c.args.state.lines c.names_of-names.ensures.formed c.requires)
 
--- src/running.rt:67:5
 pub text-requires-clause-few : goal.text-requires-clause-few
 text-requires-clause-few c =
     let lines = sym (ap (λ (J : Journal). J.lines) c.from_lines.ensures ∙ c.into_parts-lines.ensures.lines) in
     subst (λ (xs : List Line). length xs < 2 ^ 32) lines
     (few_lines c.args.doc.now c.args.state.yard c.args.state.lines c.names_of-names.ensures.formed c.requires)
 
--- src/running.rt:67:5
 pub text-requires-clause-named : goal.text-requires-clause-named
 text-requires-clause-named c =
     let lines = sym (ap (λ (J : Journal). J.lines) c.from_lines.ensures ∙ c.into_parts-lines.ensures.lines) in

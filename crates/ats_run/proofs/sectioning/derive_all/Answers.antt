@@ -3,7 +3,6 @@ use Rattle.ats_run.specs.Deriving.{derived_table, HasFewRings}
 use Rattle.ats_run.proofs.Derived.{derived_more}
 use Rattle.ats_run.proofs.sectioning.derive_all.Goals as goal
 
--- src/sectioning.rt:61:5
 pub loop-table-preserved : goal.loop-table-preserved
 loop-table-preserved c =
     let lt : c.loop-table.table < length c.args.doc.now.tables = omega (arith, c.loop-table-test.true, c.loop-table.auto.table-end, c.tables_of-table-end.ensures.count) in

@@ -10,7 +10,6 @@ use Rattle.ats_run.proofs.AcceptedText.{on_both}
 use Rattle.ats_run.proofs.Derived.{of_first, still_taken, derived_is}
 use Rattle.ats_run.proofs.sectioning.derive_document.Goals as goal
 
--- src/sectioning.rt:46:5
 pub returns-in_err-check_start-clause-underived : goal.returns-in_err-check_start-clause-underived
 returns-in_err-check_start-clause-underived c =
     let D = c.args.doc.now in
@@ -22,7 +21,6 @@ returns-in_err-check_start-clause-underived c =
     subst (λ r. IfErr r (λ e. (e ≡ NoMemory) ⊎ IsUnderived D c.args.most c.args.budget e)) (sym got.1)
     (subst (λ (e : Failure). (e ≡ NoMemory) ⊎ IsUnderived D c.args.most c.args.budget e) (sym got.2) (inr (inr (inl (c.in_ok-tables.ensures.few, bad)))))
 
--- src/sectioning.rt:48:5
 pub text_of_parts-requires-clause-taken : goal.text_of_parts-requires-clause-taken
 text_of_parts-requires-clause-taken c =
     let D = c.args.doc.now in

@@ -2,7 +2,6 @@ use Rattle.ats_run.proofs.Completing.{ends}
 use Rattle.ats_run.proofs.Writing.{documents}
 use Rattle.ats_run.proofs.top.ats.Goals as goal
 
--- src/top.rt:112:1
 pub returns-in-Err-clause-complete : goal.returns-in-Err-clause-complete
 returns-in-Err-clause-complete g c = λ order input asked held good no_source no_sink.
     ends _ order input (record { asked = asked; held = held; good = good; source = no_source; sink = no_sink })

@@ -5,7 +5,6 @@ use Rattle.ats_run.proofs.Answered.{unwritten}
 use Rattle.ats_run.proofs.Reading.{on_input}
 use Rattle.ats_run.proofs.top.serve.Goals as goal
 
--- src/top.rt:68:1
 pub returns-clause-cause : goal.returns-clause-cause
 returns-clause-cause g c =
     let held = g.S.Source.left c.args.source.now in
