@@ -3,7 +3,6 @@ use Rattle.std.proofs.Common.{◌≡◌, ℕ, List, [], ◌++◌, take, Option, 
 use Rattle.ats_io.specs.Bytes.{Adds, AddsPrefix}
 use Rattle.ats_io.specs.Faults.{Rose}
 use Rattle.command_words.specs.declared.orders.Order.{Order}
-use Rattle.command_words.specs.declared.orders.Order.TheVariants.{Run, Resume, Check, Verify, Migrate, Make, Derive, Repair, Simulate, Generate, Drill}
 use Rattle.ats_run.specs.declared.failure.Failure.{Failure}
 use Rattle.ats_run.specs.declared.failure.Failure.TheVariants as failure
 use Rattle.ats_run.specs.declared.status.Status.{Status}
@@ -11,21 +10,8 @@ use Rattle.ats_run.specs.Causes.{IsCause, Tells}
 use Rattle.ats_run.specs.Command.{Comes}
 use Rattle.ats_run.specs.Orders.{OnInput}
 use Rattle.ats_run.specs.Report.{line_of}
+use Rattle.ats_run.proofs.Reading.{on_weaker}
 use Rattle.ats_rows.specs.Calls.{call_on}
-
--- a weaker fact of an order's input
-weaker : (order : Order) (input : List ℕ) (P Q : List ℕ → Type 0) → ((bytes : List ℕ) → P bytes → Q bytes) → OnInput order (Some input) P → OnInput order (Some input) Q
-weaker (Run w r) input P Q f h = f input h
-weaker (Resume w r) input P Q f h = f input h
-weaker Check input P Q f h = f input h
-weaker Verify input P Q f h = f input h
-weaker Migrate input P Q f h = f input h
-weaker (Make b) input P Q f h = f input h
-weaker (Derive m b) input P Q f h = f input h
-weaker (Repair b r) input P Q f h = f input h
-weaker Simulate input P Q f h = f input h
-weaker (Generate s n) input P Q f h = f [] h
-weaker (Drill s n w) input P Q f h = f [] h
 
 -- what a sink took, from one state to another, where both are equal to others
 same_adds : (old before now after : Option (List ℕ)) (bytes : List ℕ) → old ≡ before → after ≡ now → Adds old now bytes → Adds before after bytes
@@ -37,7 +23,7 @@ pub wrote : (order : Order) (left input before taken copy : List ℕ) → left �
     → OnInput order (Some input) (λ bytes. Comes order bytes (Ok copy))
 wrote order left input before taken copy all empty same h =
     subst (λ (held : List ℕ). OnInput order (Some held) (λ bytes. Comes order bytes (Ok copy))) all
-    (weaker order left (λ bytes. (written : List ℕ) × Comes order bytes (Ok written) × Adds (Some before) (Some taken) written) (λ bytes. Comes order bytes (Ok copy))
+    (on_weaker order (Some left) (λ bytes. (written : List ℕ) × Comes order bytes (Ok written) × Adds (Some before) (Some taken) written) (λ bytes. Comes order bytes (Ok copy))
     (λ bytes k. subst (λ (w : List ℕ). Comes order bytes (Ok w)) (sym (same ∙ k.2 ∙ ap (λ (b : List ℕ). b ++ k.0) empty)) k.1) h)
 
 -- or a first part of it
@@ -46,7 +32,7 @@ pub wrote_part : (order : Order) (left input before taken copy : List ℕ) → l
     → OnInput order (Some input) (λ bytes. (whole : List ℕ) × Comes order bytes (Ok whole) × AddsPrefix (Some []) (Some copy) whole)
 wrote_part order left input before taken copy all empty same h =
     subst (λ (held : List ℕ). OnInput order (Some held) (λ bytes. (whole : List ℕ) × Comes order bytes (Ok whole) × AddsPrefix (Some []) (Some copy) whole)) all
-    (weaker order left (λ bytes. (written : List ℕ) × Comes order bytes (Ok written) × AddsPrefix (Some before) (Some taken) written)
+    (on_weaker order (Some left) (λ bytes. (written : List ℕ) × Comes order bytes (Ok written) × AddsPrefix (Some before) (Some taken) written)
     (λ bytes. (whole : List ℕ) × Comes order bytes (Ok whole) × AddsPrefix (Some []) (Some copy) whole)
     (λ bytes k. (k.0, k.1, (k.2.0, same_adds (Some before) (Some []) (Some taken) (Some copy) (take k.2.0 k.0) (ap Some empty) (ap Some same) k.2.1))) h)
 
@@ -63,17 +49,7 @@ left_open order input E S K failure.Memory h = tt
 left_open order input E S K failure.ReadFault h = (h.0, h.1, (h.2.0, tt))
 left_open order input E S K failure.WriteFault h = (h.0, h.1, ((λ reads. (tt, (h.2.0 reads).1)), tt))
 left_open order input E S K failure.TooLong h = h
-left_open order input E S K (failure.Document x) h = (h.0, h.1, ((λ reads. (tt, (h.2.0 reads).1)), h.2.1))
-left_open order input E S K (failure.Tree t x) h = (h.0, h.1, ((λ reads. (tt, (h.2.0 reads).1)), h.2.1))
-left_open order input E S K (failure.Certificate t x) h = (h.0, h.1, ((λ reads. (tt, (h.2.0 reads).1)), h.2.1))
-left_open order input E S K (failure.Spent t n) h = (h.0, h.1, ((λ reads. (tt, (h.2.0 reads).1)), h.2.1))
-left_open order input E S K (failure.Rounds t n p) h = (h.0, h.1, ((λ reads. (tt, (h.2.0 reads).1)), h.2.1))
-left_open order input E S K (failure.Stuck t p) h = (h.0, h.1, ((λ reads. (tt, (h.2.0 reads).1)), h.2.1))
-left_open order input E S K (failure.Many t n) h = (h.0, h.1, ((λ reads. (tt, (h.2.0 reads).1)), h.2.1))
-left_open order input E S K (failure.Connected t) h = (h.0, h.1, ((λ reads. (tt, (h.2.0 reads).1)), h.2.1))
-left_open order input E S K failure.NoJournal h = (h.0, h.1, ((λ reads. (tt, (h.2.0 reads).1)), h.2.1))
-left_open order input E S K (failure.Text x) h = (h.0, h.1, ((λ reads. (tt, (h.2.0 reads).1)), h.2.1))
-left_open order input E S K (failure.Line x) h = (h.0, h.1, ((λ reads. (tt, (h.2.0 reads).1)), h.2.1))
+left_open order input E S K e h = (h.0, h.1, ((λ reads. (tt, (h.2.0 reads).1)), h.2.1))
 
 -- a sink that told nothing before has told the line
 pub told_line : (order : Option Order) (left input : List ℕ) (at_end source_failed sink_failed err_failed : Type 0) (status : Status) (old now told : Option (List ℕ))

@@ -6,17 +6,17 @@ use std::test::Fail;
 use std::thread::Threads;
 
 mod documents;
+mod journals;
 
 use documents::{
     BAD_MOVE, BAD_WAIT, CONNECTED, CORRIDOR, CORRIDOR_MARKED, EXITS, FIRST_PATH, FIRST_PATH_LATER,
     GENERATED, GOES_ON, HEAD_ON, LOOP_MADE, NAMED_TWICE, NEVER_LEGAL, ONE_NODE_MORE, PASSING_LOOP,
     SHARES, UNMARKED_CORRIDOR,
 };
-
-const RUN: &str = "1 move T0 A B\n2 move T0 B C\nend moves=2 tables=0\n";
-
-const LOOP_RUN: &str =
-    "1 move T0 W L1\n2 move T1 E L2\n3 move T0 L1 E\n4 move T1 L2 W\nend moves=4 tables=0\n";
+use journals::{
+    CONNECTED_RUN, CORRIDOR_RUN, CORRIDOR_TIMED, EXITS_RUN, FIRST_PATH_RUN, GOES_ON_RUN,
+    LOOP_BEGUN, LOOP_RUN, LOOP_TIMED, NEVER_LEGAL_RUN, SHARES_RUN,
+};
 
 const SURE: Faults<'static> = Faults {
     most: 4096,
@@ -42,92 +42,82 @@ fn line(alloc: Global, words: &str) -> Result<Vec<String>, AllocError> {
     Ok(line)
 }
 
-// A call by devices that never fail.
-fn played(
+// Whether this was told, and nothing else.
+fn is_told(played: &Played, told: &str) -> bool {
+    matches!(&played.told, Some(bytes) if bytes.as_slice() == told.as_bytes())
+}
+
+// Whether a call by devices that never fail ends with this exit code, has written this, and told that.
+fn is_answered(
     rt: &(impl Threads + Sync),
     alloc: Global,
     words: &str,
     input: &[&str],
-) -> Result<Played, AllocError> {
-    play(rt, alloc, &line(alloc, words)?, joined(alloc, input)?, SURE)
-}
-
-// Whether this was told, and nothing else.
-fn is_told(played: &Played, told: &str) -> bool {
-    matches!(&played.told, Some(bytes) if bytes.as_slice() == told.as_bytes())
+    (exit_code, written, told): (u8, &str, &str),
+) -> Result<bool, AllocError> {
+    let played = play(rt, alloc, &line(alloc, words)?, joined(alloc, input)?, SURE)?;
+    Ok(
+        code(played.status) == exit_code
+            && played.written.as_slice() == written.as_bytes()
+            && is_told(&played, told),
+    )
 }
 
 #[test]
 fn what_is_written_ends_well(rt: HostRuntime) -> Result<(), Fail> {
     let alloc = rt.alloc();
     for (words, input, written) in [
-        ("run", FIRST_PATH, RUN),
-        ("run --rounds 5", FIRST_PATH, RUN),
+        ("run", FIRST_PATH, FIRST_PATH_RUN),
+        ("run --rounds 5", FIRST_PATH, FIRST_PATH_RUN),
         ("check", FIRST_PATH, "accepted tables=1 nodes=3\n"),
-        ("run", NAMED_TWICE, RUN),
+        ("run", NAMED_TWICE, FIRST_PATH_RUN),
         ("run", PASSING_LOOP, LOOP_RUN),
         ("check", PASSING_LOOP, "accepted tables=1 nodes=11\n"),
+        ("make", PASSING_LOOP, LOOP_MADE),
+        ("migrate", FIRST_PATH, FIRST_PATH_LATER),
+        ("sim", PASSING_LOOP, LOOP_TIMED),
     ] {
-        let played = played(&rt, alloc, words, &[input])?;
-        assert_eq!(rt; code(played.status), 0, "{words}");
-        assert!(rt; played.written.as_slice() == written.as_bytes() && is_told(&played, ""));
+        assert!(rt;
+            is_answered(&rt, alloc, words, &[input], (0, written, ""))?,
+            "{words}"
+        );
     }
     Ok(())
 }
-
-const LOOP_TIMED: &str =
-    "0 move T0 W L1\n0 move T1 E L2\n1 move T0 L1 E\n1 move T1 L2 W\nend moves=4 tables=0 last=1\n";
 
 #[test]
 fn sections_are_made_and_documents_drawn(rt: HostRuntime) -> Result<(), Fail> {
     let alloc = rt.alloc();
-    for (words, input, status, written, told) in [
-        ("derive --most 2", UNMARKED_CORRIDOR, 0, CORRIDOR_MARKED, ""),
-        ("repair", UNMARKED_CORRIDOR, 0, CORRIDOR_MARKED, ""),
-        (
-            "repair",
-            HEAD_ON,
-            3,
-            "",
-            "ats: 112 StartIllegal 34 Over section=0 count=2 limit=1\n",
-        ),
-        ("gen --seed 2 --trains 2", "", 0, GENERATED, ""),
-        (
-            "drill --seed 2",
-            "",
-            0,
-            "trains=2 moves=4 tables=0 nodes=9\n",
-            "",
-        ),
+    for (words, input, written) in [
+        ("derive --most 2", UNMARKED_CORRIDOR, CORRIDOR_MARKED),
+        ("repair", UNMARKED_CORRIDOR, CORRIDOR_MARKED),
+        ("gen --seed 2 --trains 2", "", GENERATED),
+        ("drill --seed 2", "", "trains=2 moves=4 tables=0 nodes=9\n"),
     ] {
-        let played = played(&rt, alloc, words, &[input])?;
-        assert_eq!(rt; code(played.status), status, "{words}");
-        assert!(rt; played.written.as_slice() == written.as_bytes());
-        assert!(rt; is_told(&played, told));
+        assert!(rt;
+            is_answered(&rt, alloc, words, &[input], (0, written, ""))?,
+            "{words}"
+        );
     }
     Ok(())
 }
 
 #[test]
-fn documents_are_made_and_runs_are_timed(rt: HostRuntime) -> Result<(), Fail> {
+fn tables_exits_shares_and_connections_count(rt: HostRuntime) -> Result<(), Fail> {
     let alloc = rt.alloc();
-    for (words, input, status, written, told) in [
-        ("make", PASSING_LOOP, 0, LOOP_MADE, ""),
-        (
-            "make --budget 8",
-            PASSING_LOOP,
-            5,
-            "",
-            "ats: 205 Spent table=0 nodes=8\n",
-        ),
-        ("make", HEAD_ON, 6, "", "ats: 206 Stuck table=0 at=0,0\n"),
-        ("migrate", FIRST_PATH, 0, FIRST_PATH_LATER, ""),
-        ("sim", PASSING_LOOP, 0, LOOP_TIMED, ""),
+    for (words, input, written) in [
+        ("run", CORRIDOR, CORRIDOR_RUN),
+        ("sim", CORRIDOR, CORRIDOR_TIMED),
+        ("run", NEVER_LEGAL, NEVER_LEGAL_RUN),
+        ("run", GOES_ON, GOES_ON_RUN),
+        ("run", EXITS, EXITS_RUN),
+        ("run", SHARES, SHARES_RUN),
+        ("run", CONNECTED, CONNECTED_RUN),
     ] {
-        let played = played(&rt, alloc, words, &[input])?;
-        assert_eq!(rt; code(played.status), status, "{words}");
-        assert!(rt; played.written.as_slice() == written.as_bytes());
-        assert!(rt; is_told(&played, told));
+        assert!(rt;
+            is_answered(&rt, alloc, words, &[input], (0, written, ""))?,
+            "{words}"
+        );
     }
     Ok(())
 }
@@ -135,24 +125,19 @@ fn documents_are_made_and_runs_are_timed(rt: HostRuntime) -> Result<(), Fail> {
 #[test]
 fn a_journal_is_verified_and_gone_on_from(rt: HostRuntime) -> Result<(), Fail> {
     let alloc = rt.alloc();
-    let begun = "1 move T0 W L1\n2 move T1 E L2\n";
-    for (words, journal, status, written, told) in [
-        ("verify", LOOP_RUN, 0, "ok moves=4 tables=0\n", ""),
-        ("verify", begun, 9, "", "ats: 73 NoEnd\n"),
-        ("resume", begun, 0, LOOP_RUN, ""),
-        ("resume", LOOP_RUN, 0, LOOP_RUN, ""),
+    for (words, journal, answer) in [
+        ("verify", LOOP_RUN, (0, "ok moves=4 tables=0\n", "")),
+        ("verify", LOOP_BEGUN, (9, "", "ats: 73 NoEnd\n")),
+        ("resume", LOOP_BEGUN, (0, LOOP_RUN, "")),
+        ("resume", LOOP_RUN, (0, LOOP_RUN, "")),
         (
             "resume",
             "2 move T0 W L1\n",
-            9,
-            "",
-            "ats: 72 Number line=1\n",
+            (9, "", "ats: 72 Number line=1\n"),
         ),
     ] {
-        let played = played(&rt, alloc, words, &[PASSING_LOOP, "\njournal\n", journal])?;
-        assert_eq!(rt; code(played.status), status, "{words}");
-        assert!(rt; played.written.as_slice() == written.as_bytes());
-        assert!(rt; is_told(&played, told));
+        let input = [PASSING_LOOP, "\njournal\n", journal];
+        assert!(rt; is_answered(&rt, alloc, words, &input, answer)?, "{words}");
     }
     Ok(())
 }
@@ -160,17 +145,64 @@ fn a_journal_is_verified_and_gone_on_from(rt: HostRuntime) -> Result<(), Fail> {
 #[test]
 fn what_is_refused_is_told(rt: HostRuntime) -> Result<(), Fail> {
     let alloc = rt.alloc();
-    for (words, input, status, told) in [
+    for (words, input, exit_code, told) in [
         ("", FIRST_PATH, 1, "ats: 201 Words\n"),
         ("run --workers 17", FIRST_PATH, 1, "ats: 201 Words\n"),
         ("--help", FIRST_PATH, 1, "ats: 201 Words\n"),
         ("run", "", 3, "ats: 101 NotJson\n"),
         ("verify", PASSING_LOOP, 9, "ats: 70 NoJournal\n"),
         ("run", HEAD_ON, 3, "ats: 41 Short table=0 missing=1\n"),
+        ("run", ONE_NODE_MORE, 3, "ats: 42 Over table=0 used=11\n"),
+        ("repair", CONNECTED, 3, "ats: 210 Connected table=0\n"),
     ] {
-        let played = played(&rt, alloc, words, &[input])?;
-        assert_eq!(rt; code(played.status), status, "{words}");
-        assert!(rt; played.written.is_empty() && is_told(&played, told));
+        assert!(rt;
+            is_answered(&rt, alloc, words, &[input], (exit_code, "", told))?,
+            "{words}"
+        );
+    }
+    Ok(())
+}
+
+#[test]
+fn what_is_stuck_is_told(rt: HostRuntime) -> Result<(), Fail> {
+    let alloc = rt.alloc();
+    for (words, input, exit_code, told) in [
+        (
+            "check",
+            BAD_MOVE,
+            4,
+            "ats: 56 MovePoint table=0 index=4 train=0 other=1\n",
+        ),
+        (
+            "check",
+            BAD_WAIT,
+            4,
+            "ats: 59 MoveWait table=0 index=2 train=0 connection=0\n",
+        ),
+        (
+            "make --budget 8",
+            PASSING_LOOP,
+            5,
+            "ats: 205 Spent table=0 nodes=8\n",
+        ),
+        ("make", HEAD_ON, 6, "ats: 206 Stuck table=0 at=0,0\n"),
+        (
+            "make",
+            UNMARKED_CORRIDOR,
+            6,
+            "ats: 206 Stuck table=0 at=1,1\n",
+        ),
+        (
+            "repair",
+            HEAD_ON,
+            3,
+            "ats: 112 StartIllegal 34 Over section=0 count=2 limit=1\n",
+        ),
+    ] {
+        assert!(rt;
+            is_answered(&rt, alloc, words, &[input], (exit_code, "", told))?,
+            "{words}"
+        );
     }
     Ok(())
 }
@@ -195,7 +227,7 @@ fn a_device_that_fails_ends_the_call(rt: HostRuntime) -> Result<(), Fail> {
         let input = joined(alloc, &[FIRST_PATH])?;
         let played = play(&rt, alloc, &line(alloc, "run")?, input, faults)?;
         assert!(rt; played.status == status);
-        assert!(rt; Some(played.written.as_slice()) == RUN.as_bytes().get(..taken));
+        assert!(rt; Some(played.written.as_slice()) == FIRST_PATH_RUN.as_bytes().get(..taken));
     }
     Ok(())
 }
@@ -210,97 +242,6 @@ fn an_input_has_a_greatest_length(rt: HostRuntime) -> Result<(), Fail> {
         let spaces = vec![in alloc; b' '; length]?;
         let played = play(&rt, alloc, &line(alloc, "check")?, spaces, SURE)?;
         assert!(rt; played.status == Status::Refused && is_told(&played, told));
-    }
-    Ok(())
-}
-
-#[test]
-fn tables_exits_shares_and_connections_count(rt: HostRuntime) -> Result<(), Fail> {
-    let alloc = rt.alloc();
-    for (words, input, status, written, told) in [
-        (
-            "run",
-            CORRIDOR,
-            0,
-            "1 move T0 A M\n2 move T0 M N\n3 move T0 N B\n4 move T1 C N\n5 move T1 N M\n6 move T1 M D\nend moves=6 tables=0\n",
-            "",
-        ),
-        (
-            "sim",
-            CORRIDOR,
-            0,
-            "0 move T0 A M\n1 move T0 M N\n2 move T0 N B\n2 move T1 C N\n3 move T1 N M\n4 move T1 M D\nend moves=6 tables=0 last=4\n",
-            "",
-        ),
-        (
-            "run",
-            NEVER_LEGAL,
-            0,
-            "1 move T0 A M\n2 kept 1 over 0 1\n3 move T0 M N\n4 move T0 N B\n5 move T1 C N\n6 move T1 N M\n7 move T1 M D\nend moves=6 tables=0\n",
-            "",
-        ),
-        (
-            "run",
-            GOES_ON,
-            0,
-            "1 move T0 A B\n2 move T0 B C\n3 table 1\n4 move T0 C D\nend moves=3 tables=1\n",
-            "",
-        ),
-        (
-            "run",
-            EXITS,
-            0,
-            "1 move T0 A B\n2 move T0 B -\n3 move T1 C B\n4 move T1 B -\nend moves=4 tables=0\n",
-            "",
-        ),
-        (
-            "run",
-            SHARES,
-            0,
-            "1 move T0 A M\n2 move T0 M B\n3 move T1 C N\n4 move T1 N D\nend moves=4 tables=0\n",
-            "",
-        ),
-        (
-            "run",
-            CONNECTED,
-            0,
-            "1 move T1 C D\n2 move T0 A B\nend moves=2 tables=0\n",
-            "",
-        ),
-        (
-            "check",
-            BAD_MOVE,
-            4,
-            "",
-            "ats: 56 MovePoint table=0 index=4 train=0 other=1\n",
-        ),
-        (
-            "check",
-            BAD_WAIT,
-            4,
-            "",
-            "ats: 59 MoveWait table=0 index=2 train=0 connection=0\n",
-        ),
-        (
-            "run",
-            ONE_NODE_MORE,
-            3,
-            "",
-            "ats: 42 Over table=0 used=11\n",
-        ),
-        (
-            "make",
-            UNMARKED_CORRIDOR,
-            6,
-            "",
-            "ats: 206 Stuck table=0 at=1,1\n",
-        ),
-        ("repair", CONNECTED, 3, "", "ats: 210 Connected table=0\n"),
-    ] {
-        let played = played(&rt, alloc, words, &[input])?;
-        assert_eq!(rt; code(played.status), status, "{words}");
-        assert!(rt; played.written.as_slice() == written.as_bytes());
-        assert!(rt; is_told(&played, told));
     }
     Ok(())
 }

@@ -2,7 +2,6 @@ use Rattle.std.proofs.Common.{◌∙◌}
 use Rattle.ats_rows.proofs.InMemory.{wrote, wrote_part, wrote_nothing, told_line, told_nothing, never_rises}
 use Rattle.ats_rows.proofs.calls.play_on.Goals as goal
 
--- src/calls.rt:44:1
 pub returns : goal.returns
 returns g c = record {
   played = λ input all empty untold.
