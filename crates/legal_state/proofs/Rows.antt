@@ -1,7 +1,7 @@
 -- Worked rows: what trains are told, and the first causes why states are illegal, on small tables.
-use Rattle.std.proofs.Common.{◌≡◌, ◌∷◌, [], ℕ, zero, suc, ◌<◌, pos, negsuc, false, true, refl, lit<, lit≤, arith}
+use Rattle.std.proofs.Common.{◌≡◌, ◌∷◌, [], ℕ, zero, suc, ◌<◌, ◌≤◌, pos, negsuc, false, true, refl, lit<, lit≤, arith}
 use Rattle.std.proofs.lemmas.Int.{ints}
-use Rattle.rail_model.specs.Table.{Table}
+use Rattle.rail_model.specs.Table.{Table, trains, last}
 use Rattle.rail_model.specs.Checks.{ask}
 use Rattle.rail_model.specs.declared.types.Ask.TheVariants.{Yes, Arrived, Occupied, Full, Waits}
 use Rattle.legal_state.specs.declared.judges.Illegal.TheVariants.{Length, Range, Clash, Over}
@@ -85,6 +85,12 @@ past_the_end = (refl, ((lit< tt, lit< tt), first))
     first zero lt out = omega (arith, out.1)
     first (suc j) lt out = omega (arith, lt)
 
+-- two trains, neither past its last place
+both_in_range : (T : Table) (a b : ℕ) → trains T ≡ 2 → a ≤ last T 0 → b ≤ last T 1 → IsInRange T (a ∷ b ∷ [])
+both_in_range T a b two first second zero lt = first
+both_in_range T a b two first second (suc zero) lt = second
+both_in_range T a b two first second (suc (suc i)) lt = absurd (omega (arith, lt))
+
 -- T0 [A, B] and T1 [A, C] start at A together
 abbrev together : Table
 together = record {
@@ -97,9 +103,7 @@ both_at_A : IsIllegal together (0 ∷ 0 ∷ []) (Clash 0 1 0)
 both_at_A = (refl, in_range, ((1, pair), λ j lt. absurd (omega (arith, lt))), (pair, first), refl)
   where
     in_range : IsInRange together (0 ∷ 0 ∷ [])
-    in_range zero lt = lit≤ tt
-    in_range (suc zero) lt = lit≤ tt
-    in_range (suc (suc i)) lt = absurd (omega (arith, lt))
+    in_range = both_in_range together 0 0 refl (lit≤ tt) (lit≤ tt)
 
     pair : IsPair together (0 ∷ 0 ∷ []) 0 1
     pair = (lit< tt, lit< tt, (0, refl, refl))
@@ -112,9 +116,7 @@ both_inside : IsIllegal corridor (1 ∷ 1 ∷ []) (Over 0 2 1)
 both_inside = (refl, in_range, apart, ((lit< tt, grind (arith, ints)), λ j lt. absurd (omega (arith, lt))), refl, refl)
   where
     in_range : IsInRange corridor (1 ∷ 1 ∷ [])
-    in_range zero lt = lit≤ tt
-    in_range (suc zero) lt = lit≤ tt
-    in_range (suc (suc i)) lt = absurd (omega (arith, lt))
+    in_range = both_in_range corridor 1 1 refl (lit≤ tt) (lit≤ tt)
 
     apart : (i : ℕ) → HasPair corridor (1 ∷ 1 ∷ []) i → ⊥
     apart zero (zero, pair) = omega (arith, pair.1)

@@ -49,7 +49,7 @@ fn check_range(table: &Table, state: &State) -> Result<(), Illegal>
 }
 
 /// Whether a train stands at a point.
-pub fn stands_at(table: &Table, state: &State, train: u32, point: u32) -> bool
+pub(crate) fn stands_at(table: &Table, state: &State, train: u32, point: u32) -> bool
     requires size { length state.now ≡ trains table.now }
     requires train { train < trains table.now }
     ensures { IsTrue result ↔ StandsAt table.now state.now train point }
@@ -118,6 +118,7 @@ fn check_counts(table: &Table, state: &State) -> Result<(), Illegal>
 /// its limit.
 ///
 /// # Errors
+///
 /// The first cause why not, in the order of [`Illegal`].
 pub fn judge(table: &Table, state: &State) -> Result<(), Illegal>
     ensures legal { OnOk result (Legal table.now state.now) }
@@ -129,6 +130,5 @@ pub fn judge(table: &Table, state: &State) -> Result<(), Illegal>
     }
     check_range(table, state)?;
     check_points(table, state)?;
-    check_counts(table, state)?;
-    Ok(())
+    check_counts(table, state)
 }

@@ -7,6 +7,6 @@ mod laws;
 mod moves;
 
 pub use counts::{count_of, remaining};
-pub use judges::{Illegal, judge, stands_at};
+pub use judges::{Illegal, judge};
 pub use laws::{each_ask_is_computed, each_state_has_one_verdict};
 pub use moves::can_move;

@@ -4,7 +4,8 @@ ghost use Rattle.rail_model.specs.Table.{IsTable, trains, last, place};
 ghost use Rattle.rail_model.specs.State.{Legal};
 ghost use Rattle.rail_model.specs.Move.{advance, Answers, Blocks, IsHeldBy, IsOver, IsFirstOrNone};
 
-use crate::{count_of, stands_at};
+use crate::count_of;
+use crate::judges::stands_at;
 use rail_model::{
     Ask, State, Table, change_at, connection_of, connections_of, last_of, limit_of, point_of,
     sections_of, trains_of,
