@@ -1,3 +1,4 @@
 pub mod Admitted
+pub mod Arrivals
 pub mod Steps
 pub mod Tables

@@ -5,6 +5,7 @@ ghost use Rattle.rail_model.specs.State.{Legal, Arrived};
 ghost use Rattle.rail_model.specs.Move.{IsOver, IsFirst, IsFirstOrNone};
 ghost use Rattle.rail_model.specs.Exchange.{DiffersAt, Agrees, Admits};
 ghost use Rattle.table_exchange.specs.Admitted.{told, IsDifference};
+ghost use Rattle.table_exchange.specs.Arrivals.{IsUnfinished};
 
 use legal_state::count_of;
 use rail_model::{State, Table, last_of, limit_of, point_of, sections_of, trains_of};
@@ -25,17 +26,25 @@ pub fn due(moves: u32, after: u32, all_arrived: bool) -> bool
     after <= moves || all_arrived
 }
 
+/// The first train that hasn't arrived.
+pub fn first_unfinished(table: &Table, state: &State) -> Option<u32>
+    requires { length state.now ≡ trains table.now }
+    ensures { IsFirstOrNone (IsUnfinished table.now state.now) result }
+{
+    for train in 0..trains_of(table) {
+        if state.place(train) != last_of(table, train) {
+            return Some(train);
+        }
+    }
+    None
+}
+
 /// Whether every train stands at its last place.
 pub fn all_arrived(table: &Table, state: &State) -> bool
     requires { length state.now ≡ trains table.now }
     ensures { IsTrue result ↔ Arrived table.now state.now }
 {
-    for train in 0..trains_of(table) {
-        if state.place(train) != last_of(table, train) {
-            return false;
-        }
-    }
-    true
+    first_unfinished(table, state).is_none()
 }
 
 // Whether the new table has no such place for the train, or another point there.
@@ -98,6 +107,7 @@ fn first_over(table: &Table, state: &State) -> Option<(u32, u32)>
 /// Whether a new table may take over from the old one at a state that is legal for the old one.
 ///
 /// # Errors
+///
 /// `Differs` with the least train, and its least place up to its position, where the new table has another point or
 /// no place; else `Over` with the new table's least section whose count passes its limit.
 pub fn admit(old: &Table, new: &Table, state: &State) -> Result<(), NotNow>
