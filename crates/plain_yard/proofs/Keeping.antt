@@ -1,5 +1,5 @@
 -- What a run keeps: right lines from a legal start, a yard that stands, and counts that are true.
-use Rattle.std.proofs.Common.{◌≡◌, ℕ, ◌+◌, ◌<◌, ◌≤◌, List, [], ◌∷◌, ◌++◌, length, length-append, cond, refl, sym, ap, ◌∙◌, subst, arith}
+use Rattle.std.proofs.Common.{◌≡◌, ℕ, ◌+◌, ◌<◌, ◌≤◌, List, [], ◌∷◌, ◌++◌, length, length-append, cond, refl, sym, ap, ◌∙◌, subst, arith, lit≤}
 use Rattle.std.specs.Prelude.{count_by}
 use Rattle.std.proofs.lemmas.List.Sums.{sum_by-cons}
 use Rattle.rail_model.specs.declared.types.Ask.{Ask}
@@ -8,7 +8,7 @@ use Rattle.rail_model.specs.declared.types.Line.{Line}
 use Rattle.rail_model.specs.declared.types.Line.TheVariants.{Move as MoveLine, Table as TableLine, KeptDiffers, KeptOver}
 use Rattle.rail_model.specs.declared.types.Tried.{Tried}
 use Rattle.rail_model.specs.declared.types.Tried.TheVariants.{Exchanged, Differs, Over, Early, NoMore}
-use Rattle.rail_model.specs.Journal.{IsLine, IsRight, IsRound, IsDone, IsWhole, after_line, after_lines, is_move}
+use Rattle.rail_model.specs.Journal.{IsRight, IsRound, IsDone, IsWhole, after_line, after_lines, is_move}
 use Rattle.rail_model.specs.Lines.{move_line}
 use Rattle.rail_model.specs.Move.{Answers}
 use Rattle.rail_model.specs.Plain.{Plain}
@@ -17,7 +17,7 @@ use Rattle.rail_model.specs.Table.{IsTable}
 use Rattle.rail_model.specs.Yard.{Offer, Yard, offer, in_force, opening, moved, Tries}
 use Rattle.table_exchange.specs.Steps.{after_ask, after_tried}
 use Rattle.table_exchange.specs.Tables.{AreTables, Stands}
-use Rattle.table_exchange.proofs.Standings.{few_places, stands_moved, stands_exchanged}
+use Rattle.table_exchange.proofs.Standings.{few_places, stands_line}
 use Rattle.plain_yard.specs.Keeps.{Keeps, whole_of}
 use Rattle.plain_yard.specs.Lines.{IsReady, asked_lines, most_lines, tried_lines}
 use Rattle.plain_yard.specs.Rounds.{Finishes}
@@ -28,12 +28,6 @@ stands_opening : (tables : List Offer) (start : List ℕ) → AreTables tables �
 stands_opening tables start are legal = record { in_range = are.some; tried = are.some; legal = legal; moves = omega arith }
 
 -- right lines lead from a yard that stands to one that stands
-stands_line : (tables : List Offer) (y : Yard) (l : Line) → AreTables tables → Stands tables y → IsLine tables y l → Stands tables (after_line y l)
-stands_line tables y (MoveLine i from to) are s line = stands_moved tables y i s line.0
-stands_line tables y (TableLine t) are s line = stands_exchanged tables y are s line.1.0.0 line.1.1
-stands_line tables y (KeptDiffers t i k) are s line = record { in_range = s.in_range; tried = line.1.0.0; legal = s.legal; moves = s.moves }
-stands_line tables y (KeptOver t x n) are s line = record { in_range = s.in_range; tried = line.1.0.0; legal = s.legal; moves = s.moves }
-
 stands_lines : (tables : List Offer) (y : Yard) (lines : List Line) → AreTables tables → Stands tables y → IsRight tables y lines → Stands tables (after_lines y lines)
 stands_lines tables y [] are s right = s
 stands_lines tables y (l ∷ later) are s right = stands_lines tables (after_line y l) later are (stands_line tables y l are s right.0) right.1
@@ -50,23 +44,24 @@ line_counts y (TableLine t ∷ later) = omega (arith, line_counts (after_line y 
 line_counts y (KeptDiffers t i k ∷ later) = omega (arith, line_counts (after_line y (KeptDiffers t i k)) later)
 line_counts y (KeptOver t s n ∷ later) = omega (arith, line_counts (after_line y (KeptOver t s n)) later)
 
-counts : (l : Line) (later : List Line) → count_by is_move (l ∷ later) ≡ cond (is_move l) 1 0 + count_by is_move later
-counts l later = sum_by-cons (λ x. cond (is_move x) 1 0) l later
+-- how many moves there are with a line in front
+moves-cons : (l : Line) (later : List Line) → count_by is_move (l ∷ later) ≡ cond (is_move l) 1 0 + count_by is_move later
+moves-cons l later = sum_by-cons (λ x. cond (is_move x) 1 0) l later
 
 -- each move is a line
 move_counts : (y : Yard) (lines : List Line) → (after_lines y lines).moves ≡ count_by is_move lines + y.moves
 move_counts y [] = omega arith
 move_counts y (MoveLine i from to ∷ later) =
-    let step : count_by is_move (MoveLine i from to ∷ later) ≡ 1 + count_by is_move later = counts (MoveLine i from to) later in
+    let step : count_by is_move (MoveLine i from to ∷ later) ≡ 1 + count_by is_move later = moves-cons (MoveLine i from to) later in
     omega (arith, move_counts (after_line y (MoveLine i from to)) later)
 move_counts y (TableLine t ∷ later) =
-    let step : count_by is_move (TableLine t ∷ later) ≡ 0 + count_by is_move later = counts (TableLine t) later in
+    let step : count_by is_move (TableLine t ∷ later) ≡ 0 + count_by is_move later = moves-cons (TableLine t) later in
     omega (arith, move_counts (after_line y (TableLine t)) later)
 move_counts y (KeptDiffers t i k ∷ later) =
-    let step : count_by is_move (KeptDiffers t i k ∷ later) ≡ 0 + count_by is_move later = counts (KeptDiffers t i k) later in
+    let step : count_by is_move (KeptDiffers t i k ∷ later) ≡ 0 + count_by is_move later = moves-cons (KeptDiffers t i k) later in
     omega (arith, move_counts (after_line y (KeptDiffers t i k)) later)
 move_counts y (KeptOver t s n ∷ later) =
-    let step : count_by is_move (KeptOver t s n ∷ later) ≡ 0 + count_by is_move later = counts (KeptOver t s n) later in
+    let step : count_by is_move (KeptOver t s n ∷ later) ≡ 0 + count_by is_move later = moves-cons (KeptOver t s n) later in
     omega (arith, move_counts (after_line y (KeptOver t s n)) later)
 
 pub keeps_moves : (tables : List Offer) (y : Yard) (lines : List Line) → Keeps tables y lines → y.moves ≡ count_by is_move lines
@@ -125,6 +120,12 @@ keeps_replayed tables start all state are legal right yard lines = record {
 pub right_append : (tables : List Offer) (y : Yard) (ks ls : List Line) → IsRight tables y ks → IsRight tables (after_lines y ks) ls → IsRight tables y (ks ++ ls)
 right_append tables y [] ls p q = q
 right_append tables y (k ∷ ks) ls p q = (p.0, right_append tables (after_line y k) ks ls p.1 q)
+
+-- a run has few lines
+pub few_lines : (tables : List Offer) (y : Yard) (lines : List Line) → Keeps tables y lines → IsTable (in_force tables y) → length lines ≤ most_lines
+few_lines tables y lines k formed =
+    let ready = keeps_ready tables y lines most_lines k (lit≤ tt) in
+    omega (arith, ready.counted, few_moves tables y ready.stands formed, ready.stands.tried, ready.are.few)
 
 -- right lines go on with right lines
 keeps_on : (tables : List Offer) (y z : Yard) (lines added longer : List Line) → Keeps tables y lines → IsRight tables y added → z ≡ after_lines y added → longer ≡ lines ++ added

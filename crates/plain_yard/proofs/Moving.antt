@@ -31,7 +31,7 @@ move_line_right tables y i m =
     let T = in_force tables y in
     (m, has_point T i (place y.positions i) (move_unfinished T y.positions i m), refl)
 
--- and moves nothing
+-- a train that isn't told Yes moves nothing
 pub after_other : (y : Yard) (i : ℕ) (a : Ask) → a ≢ Yes → after_ask y i a ≡ y
 after_other y i Yes ne = absurd (ne refl)
 after_other y i AtEnd ne = refl
@@ -46,6 +46,6 @@ asked_other tables y i (Occupied by) ne = refl
 asked_other tables y i (Full s n) ne = refl
 asked_other tables y i (Waits k) ne = refl
 
--- a train that isn't told Yes adds no line
+-- nor adds a line
 pub adds_nothing : (tables : List Offer) (y : Yard) (i : ℕ) (a : Ask) (lines longer : List Line) → a ≢ Yes → longer ≡ lines ++ asked_lines tables y i a → longer ≡ lines
 adds_nothing tables y i a lines longer ne adds = adds ∙ ap (λ (added : List Line). lines ++ added) (asked_other tables y i a ne) ∙ append-nil lines

@@ -9,7 +9,8 @@ mod rounds;
 
 pub use checked::CheckedTable;
 pub use laws::{begun_keeps, finished_is_whole, replayed_keeps, run_is_whole};
-pub use plain::{PlainYard, begin};
+pub use plain::{MOST_LINES, PlainYard, begin};
+pub use rounds::has_answer;
 
 #[cfg(test)]
 mod tests;

@@ -1,23 +1,24 @@
 // The yard on one thread.
-ghost use Rattle.std.specs.Prelude.{◌≡◌, ◌-◌, ℕ, ◌<◌, ◌++◌, [], List, map, length, IfOk, IfErr};
+ghost use Rattle.std.specs.Prelude.{◌≡◌, ◌-◌, ℕ, ◌<◌, ◌≤◌, ◌++◌, [], List, map, length, IfOk, IfErr};
 ghost use Rattle.rail_model.specs.Journal.{IsDone};
-ghost use Rattle.rail_model.specs.Move.{Answers};
-ghost use Rattle.rail_model.specs.Table.{trains};
+ghost use Rattle.rail_model.specs.Move.{Answers, Live};
+ghost use Rattle.rail_model.specs.Table.{IsTable, trains};
 ghost use Rattle.rail_model.specs.Yard.{opening, offer, in_force as table_in_force, Tries};
 ghost use Rattle.table_exchange.specs.Steps.{after_ask, after_tried};
+ghost use Rattle.table_exchange.specs.Tables.{AreTables, Stands};
 ghost use Rattle.plain_yard.specs.Keeps.{Keeps};
-ghost use Rattle.plain_yard.specs.Lines.{asked_lines, tried_lines};
+ghost use Rattle.plain_yard.specs.Lines.{asked_lines, most_lines, tried_lines};
 ghost use Rattle.plain_yard.specs.Rounds.{Finishes};
 
 use crate::CheckedTable;
 use crate::lines::{ask_line, try_line};
-use crate::rounds::finish_lines;
-use rail_model::{Ask, Line, PlainState, Standing, State, Tried};
+use crate::rounds::{finish_lines, live_in_force};
+use rail_model::{Ask, Line, PlainState, Standing, State, Table, Tried};
 use std::alloc::{AllocError, Global};
 use std::marker::Model;
 
-// Lines for 4,064 moves and 15 tables.
-const MOST_LINES: usize = 4_079;
+/// Enough lines for any run: 32 trains make at most 127 moves each, and at most 15 tables are answered.
+pub const MOST_LINES: usize = 4_079;
 
 /// A run that begins: no moves yet, table 0, no lines.
 pub fn begin(alloc: Global, start: &State) -> Result<PlainState, AllocError>
@@ -48,10 +49,11 @@ impl<'a, A: CheckedTable> Model for PlainYard<'a, A> {
 }
 
 impl<'a, A: CheckedTable> PlainYard<'a, A> {
-    /// Takes a state that stands for a legal run of the tables, and reserves room for all the lines that a run can
-    /// need: 4,064 moves and 15 tables. After that nothing here takes memory.
+    /// Takes a state that stands for a legal run of the tables, and reserves room for [`MOST_LINES`]. After that
+    /// nothing here takes memory.
     ///
     /// # Errors
+    ///
     /// Want of memory alone; the state comes back as it was.
     pub fn new(tables: &'a [A], state: PlainState) -> Result<Self, PlainState>
         requires { Keeps (map A.offer tables.now) state.yard state.lines }
@@ -83,6 +85,18 @@ impl<'a, A: CheckedTable> PlainYard<'a, A> {
         ensures keeps { Keeps self.now.tables self.now.yard self.now.lines }
     {
         &self.yard
+    }
+
+    /// The table in force, of which no state is stuck.
+    pub fn live_in_force(&self) -> &Table
+        ensures given { result.now ≡ table_in_force self.now.tables self.now.yard }
+        ensures formed { IsTable result.now }
+        ensures live { Live result.now }
+        ensures tables { AreTables self.now.tables }
+        ensures stands { Stands self.now.tables self.now.yard }
+        ensures few { length self.now.lines ≤ most_lines }
+    {
+        live_in_force(self.tables, &self.yard)
     }
 
     /// The journal's lines so far.

@@ -4,13 +4,20 @@ ghost use Rattle.rail_model.specs.Journal.{IsDone};
 ghost use Rattle.rail_model.specs.Move.{Live};
 ghost use Rattle.rail_model.specs.Table.{IsTable, trains};
 ghost use Rattle.rail_model.specs.Yard.{in_force as table_in_force, offer, IsNextDue};
-ghost use Rattle.plain_yard.specs.Lines.{IsReady};
+ghost use Rattle.plain_yard.specs.Lines.{IsReady, is_answer};
 ghost use Rattle.plain_yard.specs.Rounds.{Reaches, Finishes, Went};
 
 use crate::CheckedTable;
 use crate::lines::{ask_line, try_line};
 use rail_model::{Ask, HasTable, Line, Standing, Table, Tried, trains_of};
 use table_exchange::in_force;
+
+/// Whether a table that was tried has its answer.
+pub fn has_answer(tried: Tried) -> bool
+    ensures { result ≡ is_answer tried }
+{
+    !matches!(tried, Tried::Early { .. } | Tried::NoMore)
+}
 
 // Tries the next table, and says whether it has its answer.
 fn try_next<A: HasTable>(tables: &[A], yard: &mut Standing, lines: &mut Vec<Line>) -> bool
@@ -20,10 +27,7 @@ fn try_next<A: HasTable>(tables: &[A], yard: &mut Standing, lines: &mut Vec<Line
     ensures none { result ≡ false → (IsNextDue (map A.offer tables.now) yard.old → ⊥) × (yard.new ≡ yard.old) }
     ensures ready { IsReady (map A.offer tables.now) yard.new lines.new.items (vec_capacity lines.new) }
 {
-    !matches!(
-        try_line(tables, yard, lines),
-        Tried::Early { .. } | Tried::NoMore
-    )
+    has_answer(try_line(tables, yard, lines))
 }
 
 // Tries tables as long as the next one is due.
@@ -49,10 +53,12 @@ fn go<A: HasTable>(tables: &[A], yard: &mut Standing, lines: &mut Vec<Line>, tra
     matches!(ask_line(tables, yard, lines, train), Ask::Yes)
 }
 
-// The table in force, of which no state is stuck.
-fn live_in_force<'a, A: CheckedTable>(tables: &'a [A], yard: &Standing) -> &'a Table
+/// The table in force, of which no state is stuck.
+pub(crate) fn live_in_force<'a, A: CheckedTable>(tables: &'a [A], yard: &Standing) -> &'a Table
     requires { yard.now.table < length tables.now }
-    ensures { Live (table_in_force (map A.offer tables.entry.now) yard.now) }
+    ensures given { result.now ≡ table_in_force (map A.offer tables.entry.now) yard.now }
+    ensures formed { IsTable result.now }
+    ensures live { Live result.now }
 {
     tables[yard.table() as usize].checked()
 }
@@ -72,7 +78,7 @@ pub(crate) fn finish_lines<A: CheckedTable>(
     let trains = trains_of(in_force(tables, yard));
     let mut before = trains.saturating_sub(1);
     let mut asked = 0;
-    'asks: while asked < trains {
+    while asked < trains {
         let train = (before + 1 + asked) % trains;
         if go(tables, yard, lines, train) {
             before = train;

@@ -42,12 +42,13 @@ fn accepted(alloc: Global, points: &[u32], after: u32) -> Result<Accepted, Fail>
     }
 }
 
-// The state of a run that began at a start, and was finished.
-fn finished<A: CheckedTable>(alloc: Global, tables: &[A], start: &State) -> Result<PlainState, Fail>
+// The state of a run that began at the train's first place, and was finished.
+fn finished<A: CheckedTable>(alloc: Global, tables: &[A]) -> Result<PlainState, Fail>
     requires { AreTables (map A.offer tables.now) }
 {
-    let begun = begin(alloc, start)?;
-    if judge(in_force(tables, begun.yard()), start).is_err() {
+    let start: State = Vec::from_slice(alloc, &[0])?.into();
+    let begun = begin(alloc, &start)?;
+    if judge(in_force(tables, begun.yard()), &start).is_err() {
         return Err("a legal start".into());
     }
     match PlainYard::new(tables, begun) {
@@ -59,24 +60,21 @@ fn finished<A: CheckedTable>(alloc: Global, tables: &[A], start: &State) -> Resu
     }
 }
 
+// The line of the train's move from one point to another.
+fn step(from: u32, to: u32) -> Line {
+    Line::Move {
+        train: 0,
+        from,
+        to: Some(to),
+    }
+}
+
 #[test]
 fn finishes_the_first_path(rt: HostRuntime) -> Result<(), Fail> {
     let alloc = rt.alloc();
     let tables = [accepted(alloc, &[0, 1, 2], 0)?];
-    let start: State = Vec::from_slice(alloc, &[0])?.into();
-    let state = finished(alloc, &tables, &start)?;
-    let lines = [
-        Line::Move {
-            train: 0,
-            from: 0,
-            to: Some(1),
-        },
-        Line::Move {
-            train: 0,
-            from: 1,
-            to: Some(2),
-        },
-    ];
+    let state = finished(alloc, &tables)?;
+    let lines = [step(0, 1), step(1, 2)];
     assert_eq!(rt; state.lines(), lines.as_slice());
     Ok(())
 }
@@ -88,30 +86,13 @@ fn keeps_out_another_point(rt: HostRuntime) -> Result<(), Fail> {
         accepted(alloc, &[0, 1, 0, 2], 0)?,
         accepted(alloc, &[0, 3, 0, 2], 2)?,
     ];
-    let start: State = Vec::from_slice(alloc, &[0])?.into();
-    let state = finished(alloc, &tables, &start)?;
-    let lines = [
-        Line::Move {
-            train: 0,
-            from: 0,
-            to: Some(1),
-        },
-        Line::Move {
-            train: 0,
-            from: 1,
-            to: Some(0),
-        },
-        Line::KeptDiffers {
-            table: 1,
-            train: 0,
-            place: 1,
-        },
-        Line::Move {
-            train: 0,
-            from: 0,
-            to: Some(2),
-        },
-    ];
+    let state = finished(alloc, &tables)?;
+    let kept = Line::KeptDiffers {
+        table: 1,
+        train: 0,
+        place: 1,
+    };
+    let lines = [step(0, 1), step(1, 0), kept, step(0, 2)];
     assert_eq!(rt; state.lines(), lines.as_slice());
     assert_eq!(rt; state.yard().tried(), 1);
     Ok(())

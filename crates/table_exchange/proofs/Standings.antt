@@ -1,6 +1,8 @@
 -- A yard that stands goes on standing, and what its answers rest on.
 use Rattle.std.proofs.Common.{◌≡◌, ℕ, suc, zero, ◌+◌, ◌*◌, ◌<◌, ◌≤◌, List, length, sym, ◌∙◌, subst, arith}
 use Rattle.std.proofs.lemmas.List.{length-set}
+use Rattle.rail_model.specs.declared.types.Line.{Line}
+use Rattle.rail_model.specs.declared.types.Line.TheVariants.{Move as MoveLine, Table as TableLine, KeptDiffers, KeptOver}
 use Rattle.rail_model.specs.declared.types.Tried.{Tried}
 use Rattle.rail_model.specs.declared.types.Tried.TheVariants.{Exchanged}
 use Rattle.rail_model.specs.Sums.{sum_below}
@@ -8,6 +10,7 @@ use Rattle.rail_model.specs.Table.{Table, IsTable, place}
 use Rattle.rail_model.specs.State.{Legal}
 use Rattle.rail_model.specs.Move.{Move, advance}
 use Rattle.rail_model.specs.Exchange.{Admits}
+use Rattle.rail_model.specs.Journal.{IsLine, after_line}
 use Rattle.rail_model.specs.Yard.{Offer, Yard, in_force, next_offer, moved, exchanged, IsOpen}
 use Rattle.rail_model.proofs.Sums.{sum_step}
 use Rattle.rail_model.proofs.Moves.{place_moved, place_other}
@@ -50,6 +53,13 @@ stands_exchanged tables y are s still a = record {
   legal = legal_exchange (in_force tables y) (next_offer tables y).table y.positions (are.same (y.tried + 1) still ∙ sym (are.same y.table s.in_range)) s.legal a.0 a.1;
   moves = s.moves;
 }
+
+-- a right line leads from a yard that stands to one that stands
+pub stands_line : (tables : List Offer) (y : Yard) (l : Line) → AreTables tables → Stands tables y → IsLine tables y l → Stands tables (after_line y l)
+stands_line tables y (MoveLine i from to) are s line = stands_moved tables y i s line.0
+stands_line tables y (TableLine t) are s line = stands_exchanged tables y are s line.1.0.0 line.1.1
+stands_line tables y (KeptDiffers t i k) are s line = record { in_range = s.in_range; tried = line.1.0.0; legal = s.legal; moves = s.moves }
+stands_line tables y (KeptOver t c n) are s line = record { in_range = s.in_range; tried = line.1.0.0; legal = s.legal; moves = s.moves }
 
 -- the answer of equal tables at equal positions
 pub admits_same : (T U new given : Table) (p q : List ℕ) (r : Tried) → T ≡ U → new ≡ given → p ≡ q → Admits T new p r → Admits U given q r

@@ -21,11 +21,10 @@ returns-in-Some-clause-adds g c =
 pub returns-in-Some-clause-ready : goal.returns-in-Some-clause-ready
 returns-in-Some-clause-ready g c =
     let tables = map g.A.HasTable.offer c.args.tables.now in
-    let adds = c.push_line.ensures.items ∙ ap (λ (ls : List Line). c.args.lines.now.items ++ ls) (c.in-Some.ensures tables c.args.yard.now (omega (arith, c.tried-table.ensures))) in
     record {
       are = c.requires.are;
       stands = c.try_table-tried.ensures.stands;
-      counted = counted_tried tables c.args.yard.now c.try_table-tried.new.yard c.try_table-tried.result c.args.lines.now.items _ c.requires.counted c.try_table-tried.ensures.after adds;
+      counted = counted_tried tables c.args.yard.now c.try_table-tried.new.yard c.try_table-tried.result c.args.lines.now.items _ c.requires.counted c.try_table-tried.ensures.after (returns-in-Some-clause-adds g c);
       room = omega (arith, c.push_line.ensures.capacity, c.requires.room);
     }
 
@@ -37,10 +36,9 @@ returns-in_default-clause-adds g c =
 pub returns-in_default-clause-ready : goal.returns-in_default-clause-ready
 returns-in_default-clause-ready g c =
     let tables = map g.A.HasTable.offer c.args.tables.now in
-    let adds = sym (append-nil c.args.lines.now.items) ∙ ap (λ (ls : List Line). c.args.lines.now.items ++ ls) (c.in_default.ensures tables c.args.yard.now (omega (arith, c.tried-table.ensures))) in
     record {
       are = c.requires.are;
       stands = c.try_table-tried.ensures.stands;
-      counted = counted_tried tables c.args.yard.now c.try_table-tried.new.yard c.try_table-tried.result c.args.lines.now.items _ c.requires.counted c.try_table-tried.ensures.after adds;
+      counted = counted_tried tables c.args.yard.now c.try_table-tried.new.yard c.try_table-tried.result c.args.lines.now.items _ c.requires.counted c.try_table-tried.ensures.after (returns-in_default-clause-adds g c);
       room = c.requires.room;
     }

@@ -5,8 +5,8 @@ use Rattle.plain_yard.specs.Lines.{IsReady}
 use Rattle.plain_yard.proofs.Turns.{Turn, left}
 use Rattle.plain_yard.proofs.rounds.finish_lines.Given as goal
 
-abbrev pub invariant-asks : goal.invariant-asks
-invariant-asks g l =
+abbrev pub invariant-loop-asked : goal.invariant-loop-asked
+invariant-loop-asked g l =
     let tables = map g.A.HasTable.offer l.tables in
     record {
       ready : IsReady tables l.yard l.lines.items (vec_capacity l.lines);
@@ -14,5 +14,5 @@ invariant-asks g l =
       turn : Turn tables l.fn.yard (trains (offer tables 0).table - 1) l.fn.lines.items l.yard l.before l.asked l.lines.items;
     }
 
-abbrev pub decreases-asks : goal.decreases-asks
-decreases-asks g l = left (map g.A.HasTable.offer l.tables) l.yard l.asked
+abbrev pub decreases-loop-asked : goal.decreases-loop-asked
+decreases-loop-asked g l = left (map g.A.HasTable.offer l.tables) l.yard l.asked
