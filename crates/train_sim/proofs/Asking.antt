@@ -1,6 +1,6 @@
 -- Who asks next, and how trains that ask in vain are put off until one moves.
 use Rattle.std.proofs.Common.{◌≡◌, ℕ, zero, suc, ◌<◌, ◌≤◌, Option, Some, None, refl, ◌∙◌, ap, arith, inl, inr}
-use Rattle.std.specs.Prelude.{nat_le}
+use Rattle.std.specs.Prelude.{Bool, Decides, nat_le}
 use Rattle.std.specs.List.{list_all}
 use Rattle.std.proofs.lemmas.Bool.{cases_eq, cases_lt}
 use Rattle.rail_model.specs.Checks.{below}
@@ -42,11 +42,15 @@ pub record AsksNext (c : Clock) (n i : ℕ) : Type 0 where
 abbrev HasLeast : Clock → ℕ → ℕ → Type 0
 HasLeast c n i = (j : ℕ) → j < n → due_of c i ≤ due_of c j
 
+abbrev has_least : Clock → ℕ → ℕ → Bool
+has_least c n i = list_all (λ j. nat_le (due_of c i) (due_of c j)) (below n)
+
+Decides-has_least : (c : Clock) (n i : ℕ) → Decides (has_least c n i) (HasLeast c n i)
+Decides-has_least c n i = Decides-all_below (λ j. nat_le (due_of c i) (due_of c j)) (λ j. due_of c i ≤ due_of c j) (λ j. Decides-leb (due_of c i) (due_of c j)) n
+
 pub next_found : (c : Clock) (n i : ℕ) → next_asker c n ≡ Some i → AsksNext c n i
 next_found c n i found =
-    let is = first_found (λ k. list_all (λ j. nat_le (due_of c k) (due_of c j)) (below n)) (HasLeast c n)
-    (λ k. Decides-all_below (λ j. nat_le (due_of c k) (due_of c j)) (λ j. due_of c k ≤ due_of c j) (λ j. Decides-leb (due_of c k) (due_of c j)) n)
-    n i found in
+    let is = first_found (has_least c n) (HasLeast c n) (Decides-has_least c n) n i found in
     let least : HasLeast c n i = is.0.1 in
     record {
       train = is.0.0;
@@ -61,9 +65,7 @@ some_next : (c : Clock) (n : ℕ) (found : Option ℕ) → next_asker c n ≡ fo
 some_next c n (Some i) is some = (i, refl)
 some_next c n None is some =
     let w = some_least (due_of c) n some in
-    absurd (none_found (λ k. list_all (λ j. nat_le (due_of c k) (due_of c j)) (below n)) (HasLeast c n)
-    (λ k. Decides-all_below (λ j. nat_le (due_of c k) (due_of c j)) (λ j. due_of c k ≤ due_of c j) (λ j. Decides-leb (due_of c k) (due_of c j)) n)
-    n is w.0 (w.1, w.2))
+    absurd (none_found (has_least c n) (HasLeast c n) (Decides-has_least c n) n is w.0 (w.1, w.2))
 
 -- some train asks next
 pub some_asker : (c : Clock) (n : ℕ) → 0 < n → (i : ℕ) × (next_asker c n ≡ Some i) × AsksNext c n i
@@ -80,7 +82,7 @@ one_asks c n i j a b = elim (cases_lt i j) [
   ]
 ]
 
--- and it is the one
+-- a train that asks next is the one that is found
 pub asks_next : (c : Clock) (n i : ℕ) → AsksNext c n i → next_asker c n ≡ Some i
 asks_next c n i a =
     let w = some_asker c n (omega (arith, a.train)) in

@@ -32,10 +32,10 @@ record Within (tables : List Offer) (times : List (List (List ℕ))) (n w : ℕ)
   most : TakeAtMost tables times w
 
 -- The next move from the clock on comes at tick `by` at most.
-record Inv (tables : List Offer) (n w : ℕ) (c : Clock) (by : ℕ) : Type 0 where
+record MovesBy (tables : List Offer) (n w : ℕ) (c : Clock) (by : ℕ) : Type 0 where
   there : c.yard.table < length tables
-  len : length c.due ≡ n
-  now_le : (i : ℕ) → i < n → c.now ≤ due_of c i
+  one_each : length c.due ≡ n
+  from_now : (i : ℕ) → i < n → c.now ≤ due_of c i
   near : by ≤ c.now + w
   most : (i : ℕ) → i < n → due_of c i ≤ max by (c.now + 1)
   movers : (i : ℕ) → i < n → Move (in_force tables c.yard) c.yard.positions i (advance c.yard.positions i) → due_of c i ≤ by
@@ -52,19 +52,19 @@ due-other : (c : Clock) (y : Yard) (i d j : ℕ) → j ≢ i → due_of (later_d
 due-other c y i d j e = get_or-set_other c.due i j d 0 e
 
 -- after a grant
-inv_moved : (tables : List Offer) (n w : ℕ) (c : Clock) (by i t : ℕ) → Inv tables n w c by → AsksNext c n i → t ≤ w → 1 ≤ t
-    → Inv tables n w (later_due c (moved c.yard i) i (due_of c i + t)) (due_of c i + w)
-inv_moved tables n w c by i t inv asks short some =
-    let k : i < length c.due = omega (arith, inv.len, asks.train) in
+MovesBy-moved : (tables : List Offer) (n w : ℕ) (c : Clock) (by i t : ℕ) → MovesBy tables n w c by → AsksNext c n i → t ≤ w → 1 ≤ t
+    → MovesBy tables n w (later_due c (moved c.yard i) i (due_of c i + t)) (due_of c i + w)
+MovesBy-moved tables n w c by i t bound asks short some =
+    let k : i < length c.due = omega (arith, bound.one_each, asks.train) in
     let own : due_of (later_due c (moved c.yard i) i (due_of c i + t)) i ≡ due_of c i + t = due-own c (moved c.yard i) i (due_of c i + t) k in
     let all : (j : ℕ) → j < n → due_of (later_due c (moved c.yard i) i (due_of c i + t)) j ≤ due_of c i + w = λ j lj. elim (cases_eq j i) [
       | inl e ↦ subst (λ v. due_of (later_due c (moved c.yard i) i (due_of c i + t)) v ≤ due_of c i + w) (sym e) (omega arith)
-      | inr e ↦ omega (arith, due-other c (moved c.yard i) i (due_of c i + t) j e, inv.most j lj, inv.near, inv.now_le i asks.train)
+      | inr e ↦ omega (arith, due-other c (moved c.yard i) i (due_of c i + t) j e, bound.most j lj, bound.near, bound.from_now i asks.train)
     ] in
     record {
-      there = inv.there;
-      len = length-set c.due i (due_of c i + t) ∙ inv.len;
-      now_le = λ j lj. elim (cases_eq j i) [
+      there = bound.there;
+      one_each = length-set c.due i (due_of c i + t) ∙ bound.one_each;
+      from_now = λ j lj. elim (cases_eq j i) [
         | inl e ↦ subst (λ v. due_of c i ≤ due_of (later_due c (moved c.yard i) i (due_of c i + t)) v) (sym e) (omega arith)
         | inr e ↦ omega (arith, due-other c (moved c.yard i) i (due_of c i + t) j e, asks.least j lj)
       ];
@@ -75,36 +75,36 @@ inv_moved tables n w c by i t inv asks short some =
     }
 
 -- after another answer
-inv_waited : (tables : List Offer) (n w : ℕ) (c : Clock) (by i : ℕ) → Inv tables n w c by → AsksNext c n i → (Move (in_force tables c.yard) c.yard.positions i (advance c.yard.positions i) → ⊥)
-    → (IsNextDue tables c.yard → ⊥) → Inv tables n w (later_due c c.yard i (due_of c i + 1)) by
-inv_waited tables n w c by i inv asks stays undue =
-    let k : i < length c.due = omega (arith, inv.len, asks.train) in
+MovesBy-waited : (tables : List Offer) (n w : ℕ) (c : Clock) (by i : ℕ) → MovesBy tables n w c by → AsksNext c n i → (Move (in_force tables c.yard) c.yard.positions i (advance c.yard.positions i) → ⊥)
+    → (IsNextDue tables c.yard → ⊥) → MovesBy tables n w (later_due c c.yard i (due_of c i + 1)) by
+MovesBy-waited tables n w c by i bound asks stays undue =
+    let k : i < length c.due = omega (arith, bound.one_each, asks.train) in
     let own : due_of (later_due c c.yard i (due_of c i + 1)) i ≡ due_of c i + 1 = due-own c c.yard i (due_of c i + 1) k in
     record {
-      there = inv.there;
-      len = length-set c.due i (due_of c i + 1) ∙ inv.len;
-      now_le = λ j lj. elim (cases_eq j i) [
+      there = bound.there;
+      one_each = length-set c.due i (due_of c i + 1) ∙ bound.one_each;
+      from_now = λ j lj. elim (cases_eq j i) [
         | inl e ↦ subst (λ v. due_of c i ≤ due_of (later_due c c.yard i (due_of c i + 1)) v) (sym e) (omega arith)
         | inr e ↦ omega (arith, due-other c c.yard i (due_of c i + 1) j e, asks.least j lj)
       ];
-      near = omega (arith, inv.near, inv.now_le i asks.train);
+      near = omega (arith, bound.near, bound.from_now i asks.train);
       most = λ j lj. elim (cases_eq j i) [
         | inl e ↦ subst (λ v. due_of (later_due c c.yard i (due_of c i + 1)) v ≤ max by (due_of c i + 1)) (sym e) (omega arith)
-        | inr e ↦ omega (arith, due-other c c.yard i (due_of c i + 1) j e, inv.most j lj, inv.now_le i asks.train)
+        | inr e ↦ omega (arith, due-other c c.yard i (due_of c i + 1) j e, bound.most j lj, bound.from_now i asks.train)
       ];
       movers = λ j lj m. elim (cases_eq j i) [
         | inl e ↦ absurd (stays (subst (λ v. Move (in_force tables c.yard) c.yard.positions v (advance c.yard.positions v)) e m))
-        | inr e ↦ omega (arith, due-other c c.yard i (due_of c i + 1) j e, inv.movers j lj m)
+        | inr e ↦ omega (arith, due-other c c.yard i (due_of c i + 1) j e, bound.movers j lj m)
       ];
       fresh = inr undue;
     }
 
 -- after an answer of the control, which comes only where all trains are due by then
-inv_tried : (tables : List Offer) (n w : ℕ) (c : Clock) (by : ℕ) (y : Yard) → Inv tables n w c by → IsNextDue tables c.yard → y.table < length tables
-    → Inv tables n w (record c { yard = y }) by
-inv_tried tables n w c by y inv due there =
-    let all : (i : ℕ) → i < n → due_of c i ≤ by = elim (inv.fresh) [ inl f ↦ f | inr f ↦ absurd (f due) ] in
-    record { there = there; len = inv.len; now_le = inv.now_le; near = inv.near; most = inv.most; movers = λ i l m. all i l; fresh = inl all }
+MovesBy-tried : (tables : List Offer) (n w : ℕ) (c : Clock) (by : ℕ) (y : Yard) → MovesBy tables n w c by → IsNextDue tables c.yard → y.table < length tables
+    → MovesBy tables n w (record c { yard = y }) by
+MovesBy-tried tables n w c by y bound due there =
+    let all : (i : ℕ) → i < n → due_of c i ≤ by = elim (bound.fresh) [ inl f ↦ f | inr f ↦ absurd (f due) ] in
+    record { there = there; one_each = bound.one_each; from_now = bound.from_now; near = bound.near; most = bound.most; movers = λ i l m. all i l; fresh = inl all }
 
 -- lines take back no move
 moves_grow : (y : Yard) (lines : List Line) → y.moves ≤ (after_lines y lines).moves
@@ -149,70 +149,70 @@ soon_move tables y by w i t ls in_time soon x more =
 
 -- what is known of all that follows a clock
 abbrev Later : List Offer → List (List (List ℕ)) → ℕ → ℕ → List Stamped → Type 0
-Later tables times n w later = (c : Clock) (by : ℕ) → Inv tables n w c by → IsTimed tables times c later → Soon c.yard by w (timed_lines tables c.yard later)
+Later tables times n w later = (c : Clock) (by : ℕ) → MovesBy tables n w c by → IsTimed tables times c later → Soon c.yard by w (timed_lines tables c.yard later)
 
 -- an answer that is no grant in front
-soon_waited : (tables : List Offer) (times : List (List (List ℕ))) (n w : ℕ) (c : Clock) (by t who : ℕ) (ask : Ask) (later : List Stamped) → Within tables times n w → Inv tables n w c by
+soon_waited : (tables : List Offer) (times : List (List (List ℕ))) (n w : ℕ) (c : Clock) (by t who : ℕ) (ask : Ask) (later : List Stamped) → Within tables times n w → MovesBy tables n w c by
     → ask ≢ Yes → IsNext tables c (stamped t who (Driver ask)) → IsTimed tables times (later_due c c.yard who (due_of c who + 1)) later → Later tables times n w later
     → Soon c.yard by w (timed_lines tables c.yard later)
-soon_waited tables times n w c by t who ask later within inv other next timed rest =
+soon_waited tables times n w c by t who ask later within bound other next timed rest =
     let T = in_force tables c.yard in
-    let asks = next_found c n who (subst (λ v. next_asker c v ≡ Some who) (within.have c.yard.table inv.there) next.2) in
+    let asks = next_found c n who (subst (λ v. next_asker c v ≡ Some who) (within.have c.yard.table bound.there) next.2) in
     rest (later_due c c.yard who (due_of c who + 1)) by
-    (inv_waited tables n w c by who inv asks (λ v. other (told_once T c.yard.positions who ask Yes v.before next.4.1 v)) next.0)
+    (MovesBy-waited tables n w c by who bound asks (λ v. other (told_once T c.yard.positions who ask Yes v.before next.4.1 v)) next.0)
     timed
 
 -- a grant in front
-soon_granted : (tables : List Offer) (times : List (List (List ℕ))) (n w : ℕ) (c : Clock) (by t who : ℕ) (later : List Stamped) → Within tables times n w → Inv tables n w c by
+soon_granted : (tables : List Offer) (times : List (List (List ℕ))) (n w : ℕ) (c : Clock) (by t who : ℕ) (later : List Stamped) → Within tables times n w → MovesBy tables n w c by
     → IsNext tables c (stamped t who (Driver Yes)) → IsTimed tables times (after_stamped times c (record { who = who; reply = Driver Yes })) later → Later tables times n w later
     → Soon c.yard by w ((t, move_line tables c.yard who) ∷ timed_lines tables (moved c.yard who) later)
-soon_granted tables times n w c by t who later within inv next timed rest =
+soon_granted tables times n w c by t who later within bound next timed rest =
     let T = in_force tables c.yard in
     let move : Move T c.yard.positions who (advance c.yard.positions who) = next.4.1 in
-    let asks = next_found c n who (subst (λ v. next_asker c v ≡ Some who) (within.have c.yard.table inv.there) next.2) in
+    let asks = next_found c n who (subst (λ v. next_asker c v ≡ Some who) (within.have c.yard.table bound.there) next.2) in
     let takes : ℕ = time times c.yard.table who (place c.yard.positions who) in
     let below : place c.yard.positions who < last T who = move_unfinished T c.yard.positions who move in
-    let most : takes ≤ w = within.most c.yard.table who (place c.yard.positions who) inv.there move.train below in
-    let some : 1 ≤ takes = within.some c.yard.table who (place c.yard.positions who) inv.there move.train below in
+    let most : takes ≤ w = within.most c.yard.table who (place c.yard.positions who) bound.there move.train below in
+    let some : 1 ≤ takes = within.some c.yard.table who (place c.yard.positions who) bound.there move.train below in
     let tick : t ≡ due_of c who = next.3 in
-    soon_move tables c.yard by w who t (timed_lines tables (moved c.yard who) later) (omega (arith, inv.movers who asks.train move))
+    soon_move tables c.yard by w who t (timed_lines tables (moved c.yard who) later) (omega (arith, bound.movers who asks.train move))
     (subst (λ v. Soon (moved c.yard who) (v + w) w (timed_lines tables (moved c.yard who) later)) (sym tick)
-    (rest (after_stamped times c (record { who = who; reply = Driver Yes })) (due_of c who + w) (inv_moved tables n w c by who takes inv asks most some) timed))
+    (rest (after_stamped times c (record { who = who; reply = Driver Yes })) (due_of c who + w) (MovesBy-moved tables n w c by who takes bound asks most some) timed))
 
 -- one entry in front
-soon_entry : (tables : List Offer) (times : List (List (List ℕ))) (n w : ℕ) (c : Clock) (by t who : ℕ) (reply : Reply) (later : List Stamped) → Within tables times n w → Inv tables n w c by
+soon_entry : (tables : List Offer) (times : List (List (List ℕ))) (n w : ℕ) (c : Clock) (by t who : ℕ) (reply : Reply) (later : List Stamped) → Within tables times n w → MovesBy tables n w c by
     → IsNext tables c (stamped t who reply) → IsTimed tables times (after_stamped times c (record { who = who; reply = reply })) later → Later tables times n w later
     → Soon c.yard by w (timed_lines tables c.yard (stamped t who reply ∷ later))
-soon_entry tables times n w c by t who (Driver Yes) later within inv next timed rest = soon_granted tables times n w c by t who later within inv next timed rest
-soon_entry tables times n w c by t who (Driver AtEnd) later within inv next timed rest = soon_waited tables times n w c by t who AtEnd later within inv (λ e. cc) next timed rest
-soon_entry tables times n w c by t who (Driver (Occupied o)) later within inv next timed rest = soon_waited tables times n w c by t who (Occupied o) later within inv (λ e. cc) next timed rest
-soon_entry tables times n w c by t who (Driver (Full s k)) later within inv next timed rest = soon_waited tables times n w c by t who (Full s k) later within inv (λ e. cc) next timed rest
-soon_entry tables times n w c by t who (Driver (Waits k)) later within inv next timed rest = soon_waited tables times n w c by t who (Waits k) later within inv (λ e. cc) next timed rest
-soon_entry tables times n w c by t who (NotWhole s a) later within inv next timed rest = absurd next
-soon_entry tables times n w c by t who (Control Exchanged) later within inv next timed rest =
-    rest (record c { yard = exchanged c.yard }) by (inv_tried tables n w c by (exchanged c.yard) inv next.0 next.2.1) timed
-soon_entry tables times n w c by t who (Control (Differs i k)) later within inv next timed rest =
-    rest (record c { yard = kept_out c.yard }) by (inv_tried tables n w c by (kept_out c.yard) inv next.0 inv.there) timed
-soon_entry tables times n w c by t who (Control (Over s k)) later within inv next timed rest =
-    rest (record c { yard = kept_out c.yard }) by (inv_tried tables n w c by (kept_out c.yard) inv next.0 inv.there) timed
-soon_entry tables times n w c by t who (Control (Early k)) later within inv next timed rest = absurd (next.2.2.2 next.0)
-soon_entry tables times n w c by t who (Control NoMore) later within inv next timed rest = absurd (let a = next.2.1 in let b = next.2.2 in omega arith)
+soon_entry tables times n w c by t who (Driver Yes) later within bound next timed rest = soon_granted tables times n w c by t who later within bound next timed rest
+soon_entry tables times n w c by t who (Driver AtEnd) later within bound next timed rest = soon_waited tables times n w c by t who AtEnd later within bound (λ e. cc) next timed rest
+soon_entry tables times n w c by t who (Driver (Occupied o)) later within bound next timed rest = soon_waited tables times n w c by t who (Occupied o) later within bound (λ e. cc) next timed rest
+soon_entry tables times n w c by t who (Driver (Full s k)) later within bound next timed rest = soon_waited tables times n w c by t who (Full s k) later within bound (λ e. cc) next timed rest
+soon_entry tables times n w c by t who (Driver (Waits k)) later within bound next timed rest = soon_waited tables times n w c by t who (Waits k) later within bound (λ e. cc) next timed rest
+soon_entry tables times n w c by t who (NotWhole s a) later within bound next timed rest = absurd next
+soon_entry tables times n w c by t who (Control Exchanged) later within bound next timed rest =
+    rest (record c { yard = exchanged c.yard }) by (MovesBy-tried tables n w c by (exchanged c.yard) bound next.0 next.2.1) timed
+soon_entry tables times n w c by t who (Control (Differs i k)) later within bound next timed rest =
+    rest (record c { yard = kept_out c.yard }) by (MovesBy-tried tables n w c by (kept_out c.yard) bound next.0 bound.there) timed
+soon_entry tables times n w c by t who (Control (Over s k)) later within bound next timed rest =
+    rest (record c { yard = kept_out c.yard }) by (MovesBy-tried tables n w c by (kept_out c.yard) bound next.0 bound.there) timed
+soon_entry tables times n w c by t who (Control (Early k)) later within bound next timed rest = absurd (next.2.2.2 next.0)
+soon_entry tables times n w c by t who (Control NoMore) later within bound next timed rest = absurd (let a = next.2.1 in let b = next.2.2 in omega arith)
 
 timed_soon : (tables : List Offer) (times : List (List (List ℕ))) (n w : ℕ) (h : List Stamped) → Within tables times n w → Later tables times n w h
-timed_soon tables times n w [] within c by inv timed = λ x more. absurd (omega arith)
-timed_soon tables times n w (s ∷ later) within c by inv timed =
-    soon_entry tables times n w c by s.tick s.entry.who s.entry.reply later within inv timed.0 timed.1 (timed_soon tables times n w later within)
+timed_soon tables times n w [] within c by bound timed = λ x more. absurd (omega arith)
+timed_soon tables times n w (s ∷ later) within c by bound timed =
+    soon_entry tables times n w c by s.tick s.entry.who s.entry.reply later within bound timed.0 timed.1 (timed_soon tables times n w later within)
 
 zeros-at : (n i : ℕ) → slice_index (replicate n 0) i ≡ 0
 zeros-at zero i = refl
 zeros-at (suc n) zero = refl
 zeros-at (suc n) (suc i) = zeros-at n i
 
-first_inv : (tables : List Offer) (y : Yard) (n w : ℕ) → y.table < length tables → Inv tables n w (starting y n) 0
-first_inv tables y n w there = record {
+MovesBy-starting : (tables : List Offer) (y : Yard) (n w : ℕ) → y.table < length tables → MovesBy tables n w (starting y n) 0
+MovesBy-starting tables y n w there = record {
   there = there;
-  len = length-replicate n 0;
-  now_le = λ i l. omega arith;
+  one_each = length-replicate n 0;
+  from_now = λ i l. omega arith;
   near = omega arith;
   most = λ i l. omega (arith, zeros-at n i);
   movers = λ i l m. omega (arith, zeros-at n i);
@@ -228,7 +228,7 @@ last_soon tables times y n w h within there timed =
       | inl none ↦ let same : last_tick_or 0 ls ≡ 0 = no_move-tick 0 y ls none in omega arith
       | inr some ↦
           let in_time : last_tick_or 0 ls ≤ 0 + (end - suc y.moves) * w =
-          timed_soon tables times n w h within (starting y n) 0 (first_inv tables y n w there) timed 0 (omega (arith, moves_grow y (lines_of ls))) in
+          timed_soon tables times n w h within (starting y n) 0 (MovesBy-starting tables y n w there) timed 0 (omega (arith, moves_grow y (lines_of ls))) in
           let e : end - suc y.moves ≡ end - y.moves - 1 = omega arith in
           let f : (end - suc y.moves) * w ≡ (end - y.moves - 1) * w = ap (λ (m : ℕ). m * w) e in
           omega arith

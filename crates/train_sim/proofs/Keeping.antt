@@ -1,8 +1,8 @@
 -- What each turn keeps: one due tick per train, low enough, and one tick per line.
-use Rattle.std.proofs.Common.{◌≡◌, ◌⊎◌, ℕ, ◌+◌, ◌*◌, ◌<◌, ◌≤◌, List, [], ◌∷◌, ◌++◌, length, map, get_or, sym, ◌∙◌, ap, subst, arith, inl, inr, lit≤}
+use Rattle.std.proofs.Common.{◌≡◌, ◌⊎◌, ℕ, ◌+◌, ◌*◌, ◌<◌, ◌≤◌, List, [], ◌∷◌, ◌++◌, length, sym, ◌∙◌, ap, subst, arith, inl, inr}
 use Rattle.std.specs.Prelude.{max, slice_index}
 use Rattle.std.proofs.lemmas.Bool.{cases_eq}
-use Rattle.std.proofs.lemmas.List.{get_or-map, length-map, get_or-set_same, get_or-set_other}
+use Rattle.std.proofs.lemmas.List.{get_or-set_same, get_or-set_other}
 use Rattle.std.proofs.Math.ListN.{length-append, length-set}
 use Rattle.rail_model.specs.declared.types.Ask.{Ask}
 use Rattle.rail_model.specs.declared.types.Ask.TheVariants.{Yes}
@@ -12,39 +12,16 @@ use Rattle.rail_model.specs.Journal.{IsDone}
 use Rattle.rail_model.specs.Move.{Move, Answers, Live, advance}
 use Rattle.rail_model.specs.State.{Legal}
 use Rattle.rail_model.specs.Table.{IsTable, trains}
-use Rattle.rail_model.specs.Yard.{Offer, Yard, IsNextDue, offer, in_force, moved}
+use Rattle.rail_model.specs.Yard.{Offer, Yard, IsNextDue, in_force, moved}
 use Rattle.rail_model.proofs.Asks.{told_once}
 use Rattle.rail_model.proofs.Live.{arrived_or_moves}
 use Rattle.table_exchange.specs.Steps.{after_ask}
 use Rattle.table_exchange.specs.Tables.{AreTables, Stands}
-use Rattle.plain_yard.specs.Keeps.{Keeps}
-use Rattle.plain_yard.specs.Lines.{asked_lines}
-use Rattle.plain_yard.proofs.Keeping.{few_moves, keeps_ready}
+use Rattle.plain_yard.specs.Lines.{asked_lines, most_lines}
+use Rattle.plain_yard.proofs.Keeping.{few_moves}
 use Rattle.plain_yard.proofs.Turns.{falls, left}
 use Rattle.train_sim.specs.Steps.{Watched, Grants, IsKept, not_before}
 use Rattle.train_sim.proofs.Waiting.{put_cases}
-
--- what is at a number offers the table of that number
-pub offer_at : {X : Type 0} (offer_of : X → Offer) (xs : List X) (x : X) (t : ℕ) → t < length xs → x ≡ get_or xs t x → (offer_of x).table ≡ (offer (map offer_of xs) t).table
-offer_at offer_of xs x t below is =
-    ap (λ z. (offer_of z).table) is
-    ∙ ap (λ (o : Offer). o.table) (sym (get_or-map offer_of xs t x (record { table = record { missions = []; sections = []; connections = [] }; after = 0 }) below))
-
--- the table at the number of the table in force
-pub force_at : {X : Type 0} (offer_of : X → Offer) (xs : List X) (x : X) (t : ℕ) (tables : List Offer) (y : Yard) → t < length xs → x ≡ get_or xs t x → map offer_of xs ≡ tables → t ≡ y.table
-    → (offer_of x).table ≡ in_force tables y
-force_at offer_of xs x t tables y below is are same = offer_at offer_of xs x t below is ∙ ap (λ os. (offer os t).table) are ∙ ap (λ k. (offer tables k).table) same
-
-pub in_tables : {X : Type 0} (offer_of : X → Offer) (xs : List X) (t : ℕ) (tables : List Offer) (y : Yard) → Stands tables y → map offer_of xs ≡ tables → t ≡ y.table → t < length xs
-in_tables offer_of xs t tables y stands are same =
-    let size : length xs ≡ length tables = sym (length-map xs offer_of) ∙ ap length are in
-    omega (arith, stands.in_range)
-
--- a run has few lines
-pub few_lines : (tables : List Offer) (y : Yard) (lines : List Line) → Keeps tables y lines → IsTable (in_force tables y) → length lines ≤ 4079
-few_lines tables y lines k formed =
-    let ready = keeps_ready tables y lines 4079 k (lit≤ tt) in
-    omega (arith, ready.counted, few_moves tables y ready.stands formed, ready.stands.tried, ready.are.few)
 
 -- all tables have the trains that have due ticks
 pub same_trains : (tables : List Offer) (y : Yard) (w : Watched) (lines : List Line) → AreTables tables → Stands tables y → IsKept tables y w lines → length w.due ≡ trains (in_force tables y)
@@ -62,7 +39,7 @@ has_moved tables y z lines longer i a move answer after adds =
     let yes : a ≡ Yes = told_once (in_force tables y) y.positions i a Yes move.before answer move in
     (after ∙ ap (after_ask y i) yes, adds ∙ ap (λ (b : Ask). lines ++ asked_lines tables y i b) yes)
 
-pub room_granted : (tables : List Offer) (y : Yard) (w : Watched) (lines longer : List Line) (l : Line) → IsKept tables y w lines → longer ≡ lines ++ l ∷ [] → length longer ≤ 4079 → length w.ticks < 4079
+pub room_granted : (tables : List Offer) (y : Yard) (w : Watched) (lines longer : List Line) (l : Line) → IsKept tables y w lines → longer ≡ lines ++ l ∷ [] → length longer ≤ most_lines → length w.ticks < most_lines
 room_granted tables y w lines longer l kept adds few =
     let all : length longer ≡ length lines + 1 = ap length adds ∙ length-append lines (l ∷ []) in
     omega (arith, kept.counted)

@@ -13,10 +13,10 @@ use Rattle.rail_model.specs.Plain.{Plain}
 use Rattle.rail_model.specs.Table.{trains}
 use Rattle.rail_model.specs.Yard.{Offer, Yard, IsNextDue, Tries, after_entry, control, in_force}
 use Rattle.table_exchange.specs.Steps.{after_tried}
-use Rattle.plain_yard.specs.Lines.{tried_lines}
+use Rattle.plain_yard.specs.Lines.{is_answer, tried_lines}
 use Rattle.plain_yard.proofs.Reaching.{after_append}
 use Rattle.train_sim.specs.Report.{Simulates}
-use Rattle.train_sim.specs.Steps.{Watched, Leads, begun, clock, is_answer, noted}
+use Rattle.train_sim.specs.Steps.{Watched, Leads, begun, clock, noted}
 use Rattle.train_sim.specs.Timed.{Stamped, IsTimed, timed_lines, lines_of, ticks_of, last_tick_or}
 
 nothing_new : (tables : List Offer) (times : List (List (List ℕ))) (y : Yard) (w : Watched) (lines : List Line) → Leads tables times y w lines y w (lines ++ [])

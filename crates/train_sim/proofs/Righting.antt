@@ -1,16 +1,13 @@
 -- The lines of a timed journal are right.
-use Rattle.std.proofs.Common.{ℕ, List, [], ◌∷◌, refl, sym, subst}
+use Rattle.std.proofs.Common.{ℕ, List, [], ◌∷◌, refl}
 use Rattle.rail_model.specs.declared.types.Ask.TheVariants.{Yes, Arrived as AtEnd, Occupied, Full, Waits}
-use Rattle.rail_model.specs.declared.types.Line.{Line}
 use Rattle.rail_model.specs.declared.types.Reply.{Reply}
 use Rattle.rail_model.specs.declared.types.Reply.TheVariants.{Driver, NotWhole, Control}
 use Rattle.rail_model.specs.declared.types.Tried.TheVariants.{Exchanged, Differs, Over, Early, NoMore}
 use Rattle.rail_model.specs.Journal.{IsRight}
-use Rattle.rail_model.specs.Table.{trains}
-use Rattle.rail_model.specs.Yard.{Offer, Yard, in_force}
+use Rattle.rail_model.specs.Yard.{Offer}
 use Rattle.plain_yard.proofs.Moving.{move_line_right}
-use Rattle.train_sim.specs.Report.{Simulates}
-use Rattle.train_sim.specs.Timed.{Clock, Stamped, IsNext, IsTimed, after_stamped, lines_of, starting, timed_lines}
+use Rattle.train_sim.specs.Timed.{Clock, Stamped, IsNext, IsTimed, after_stamped, lines_of, timed_lines}
 
 abbrev pub stamped : ℕ → ℕ → Reply → Stamped
 stamped t who reply = record { tick = t; entry = record { who = who; reply = reply } }
@@ -35,9 +32,3 @@ pub timed_right : (tables : List Offer) (times : List (List (List ℕ))) (c : Cl
 timed_right tables times c [] timed = tt
 timed_right tables times c (s ∷ later) timed =
     entry_right tables times c s.tick s.entry.who s.entry.reply later timed.0 (timed_right tables times (after_stamped times c s.entry) later timed.1)
-
--- where there were no lines before, the reported lines are right
-pub simulated_right : (tables : List Offer) (times : List (List (List ℕ))) (y z : Yard) (lines : List Line) (ticks : List ℕ) (last_tick : ℕ) → Simulates tables times y [] lines ticks last_tick z
-    → IsRight tables y lines
-simulated_right tables times y z lines ticks last_tick s =
-    subst (IsRight tables y) (sym s.lines_are) (timed_right tables times (starting y (trains (in_force tables y))) s.entries s.timed)

@@ -13,7 +13,7 @@ use Rattle.rail_model.specs.Lines.{move_line}
 use Rattle.rail_model.specs.Move.{Move, Answers, advance}
 use Rattle.rail_model.specs.State.{Arrived}
 use Rattle.rail_model.specs.Sums.{sum_below}
-use Rattle.rail_model.specs.Table.{IsTable, trains, last, place}
+use Rattle.rail_model.specs.Table.{Table, IsTable, trains, last, place}
 use Rattle.rail_model.specs.Times.{time}
 use Rattle.rail_model.specs.Yard.{Offer, Yard, in_force, IsNextDue, moved}
 use Rattle.rail_model.proofs.Asks.{told}
@@ -166,19 +166,21 @@ less_left tables c i j later b j_in more =
     (omega (arith, facts.2, facts.3))
     (λ k lt ne. ap (λ (t : ℕ). slice_index later k - t) (sym (get_or-set_other c.due j k (due_of c j + 1) 0 ne)))
 
+-- where a train may move, not all have arrived
+not_arrived : (T : Table) (p : List ℕ) (i : ℕ) → Move T p i (advance p i) → Arrived T p → ⊥
+not_arrived T p i move arrived =
+    let at_end : place p i ≡ last T i = arrived i move.train in
+    omega (arith, move_unfinished T p i move)
+
 -- one more ask in vain
 one_waits : (tables : List Offer) (times : List (List (List ℕ))) (c : Clock) (i j : ℕ) (a : Ask) (later : List ℕ) → Before tables c i later → next_asker c (trains (in_force tables c.yard)) ≡ Some j
     → j < trains (in_force tables c.yard) → a ≢ Yes → Answers (in_force tables c.yard) c.yard.positions j a → Waits tables times (waited c j) later → Waits tables times c later
 one_waits tables times c i j a later b asks j_in ne answer w =
-    let T = in_force tables c.yard in
-    let unfinished : Arrived T c.yard.positions → ⊥ = λ arrived.
-    let at_end : place c.yard.positions i ≡ last T i = arrived i b.next.move.train in
-    omega (arith, move_unfinished T c.yard.positions i b.next.move) in
     record {
       entries = in_vain c j a ∷ w.entries;
       now = w.now;
       timed = λ rest t. (
-        (b.undue, unfinished, asks, refl, (j_in, answer)),
+        (b.undue, not_arrived (in_force tables c.yard) c.yard.positions i b.next.move, asks, refl, (j_in, answer)),
         subst (λ (d : Clock). IsTimed tables times d (w.entries ++ rest)) (sym (after_in_vain times c j a ne)) (w.timed rest t),
       );
       no_lines = λ rest. no_line tables c j a (w.entries ++ rest) ne ∙ w.no_lines rest;
@@ -230,9 +232,6 @@ leads_moved tables times y w lines i v formed undue one_each next g =
           let j_put : slice_index g.later j ≡ max (slice_index w.due j) (not_before i tick j) = g.puts_off.1 j (omega (arith, next.move.train)) in
           elim (put_cases i tick j) [ inl below ↦ omega (arith, below.1) | inr behind ↦ absurd (omega (arith, behind.0)) ];
     }) in
-    let unfinished : Arrived T y.positions → ⊥ = λ arrived.
-    let at_end : place y.positions i ≡ last T i = arrived i next.move.train in
-    omega (arith, move_unfinished T y.positions i next.move) in
     let takes : ℕ = time times y.table i (place y.positions i) in
     let due_is : v.due ≡ slice_set g.later i (slice_index g.later i + takes) = g.due ∙ ap (λ (t : ℕ). slice_set g.later i (t + takes)) (sym i_tick) in
     let now_is : v.last ≡ slice_index g.later i = g.last ∙ sym i_tick in
@@ -241,7 +240,7 @@ leads_moved tables times y w lines i v formed undue one_each next g =
       added = (tick, move_line tables y i) ∷ [];
       timed = λ later t. subst (IsTimed tables times (clock y w)) (sym (append_assoc vain.entries (e ∷ []) later))
           (vain.timed (e ∷ later) (
-            (undue, unfinished, asks, sym i_tick, (next.move.train, next.move)),
+            (undue, not_arrived T y.positions i next.move, asks, sym i_tick, (next.move.train, next.move)),
             subst (λ (d : List ℕ). IsTimed tables times (record { yard = moved y i; due = d; now = slice_index g.later i }) later) due_is
                 (subst (λ (n : ℕ). IsTimed tables times (record { yard = moved y i; due = v.due; now = n }) later) now_is t),
           ));

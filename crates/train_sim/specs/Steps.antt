@@ -1,8 +1,6 @@
 -- The ticks that a simulation keeps, and what leads from one state of it to another.
-use Rattle.std.specs.Prelude.{◌≡◌, ◌⊎◌, ℕ, ◌+◌, ◌*◌, ◌<◌, ◌≤◌, max, nat_lt, if◌then◌else◌, List, [], ◌∷◌, ◌++◌, length, replicate, slice_index, slice_set, Bool, true, false, Option, Some, None}
+use Rattle.std.specs.Prelude.{◌≡◌, ◌⊎◌, ℕ, ◌+◌, ◌*◌, ◌<◌, ◌≤◌, max, nat_lt, if◌then◌else◌, List, [], ◌∷◌, ◌++◌, length, replicate, slice_index, slice_set, Option, Some, None}
 use Rattle.rail_model.specs.declared.types.Line.{Line}
-use Rattle.rail_model.specs.declared.types.Tried.{Tried}
-use Rattle.rail_model.specs.declared.types.Tried.TheVariants.{Early, NoMore}
 use Rattle.rail_model.specs.Journal.{after_lines}
 use Rattle.rail_model.specs.Move.{Move, advance}
 use Rattle.rail_model.specs.Table.{Table, trains}
@@ -26,12 +24,6 @@ clock y w = record { yard = y; due = w.due; now = w.last }
 -- with the line of a table, which a move made due
 abbrev pub noted : Watched → Watched
 noted w = record w { ticks = w.ticks ++ w.last ∷ [] }
-
--- whether the next table has its answer
-abbrev pub is_answer : Tried → Bool
-is_answer (Early m) = false
-is_answer NoMore = false
-is_answer _ = true
 
 -- Train i moves next: it may move, and of those that may it is the first with the least due tick.
 pub record MovesNext (T : Table) (p due : List ℕ) (i : ℕ) : Type 0 where

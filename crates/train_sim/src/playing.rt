@@ -1,37 +1,20 @@
 // The simulation, turn by turn.
-ghost use Rattle.std.specs.Prelude.{◌≡◌, ◌⊎◌, ◌≤◌, ◌↔◌, ℕ, ◌+◌, ◌<◌, length, List, IsTrue, MatchOption, if◌then◌else◌, false};
+ghost use Rattle.std.specs.Prelude.{◌≡◌, ◌⊎◌, ◌≤◌, ◌↔◌, ℕ, ◌+◌, ◌<◌, ◌∷◌, ◌++◌, [], length, List, IsTrue, MatchOption, if◌then◌else◌, false};
 ghost use Rattle.rail_model.specs.Journal.{IsDone};
-ghost use Rattle.rail_model.specs.Move.{Live, Move, advance};
+ghost use Rattle.rail_model.specs.Lines.{move_line};
+ghost use Rattle.rail_model.specs.Move.{Move, advance};
 ghost use Rattle.rail_model.specs.Table.{IsTable, place};
 ghost use Rattle.rail_model.specs.Times.{time};
 ghost use Rattle.rail_model.specs.Yard.{in_force, moved, IsNextDue};
-ghost use Rattle.table_exchange.specs.Tables.{AreTables, Stands};
+ghost use Rattle.table_exchange.specs.Tables.{Stands};
+ghost use Rattle.plain_yard.specs.Lines.{most_lines};
 ghost use Rattle.train_sim.specs.Report.{HaveTimes};
-ghost use Rattle.train_sim.specs.Steps.{is_answer, IsKept, Leads, MovesNext};
+ghost use Rattle.train_sim.specs.Steps.{IsKept, Leads, MovesNext};
 
 use crate::mover::first_mover;
 use crate::watch::Watch;
-use plain_yard::{CheckedTable, PlainYard};
-use rail_model::{Table, Times, Tried};
-
-/// The table in force, of which no state is stuck.
-pub(crate) fn live_in_force<'r, A: CheckedTable>(run: &'r PlainYard<'_, A>) -> &'r Table
-    ensures given { result.now ≡ in_force run.entry.now.tables run.entry.now.yard }
-    ensures formed { IsTable result.now }
-    ensures live { Live result.now }
-    ensures tables { AreTables run.entry.now.tables }
-    ensures stands { Stands run.entry.now.tables run.entry.now.yard }
-    ensures few { length run.entry.now.lines ≤ 4079 }
-{
-    run.tables()[run.yard().table() as usize].checked()
-}
-
-// Whether the next table has its answer.
-fn has_answer(tried: Tried) -> bool
-    ensures { result ≡ is_answer tried }
-{
-    !matches!(tried, Tried::Early { .. } | Tried::NoMore)
-}
+use plain_yard::{CheckedTable, PlainYard, has_answer};
+use rail_model::Times;
 
 // Tries the next table, and says whether it was due.
 fn try_next<A: CheckedTable>(run: &mut PlainYard<'_, A>, watch: &mut Watch) -> bool
@@ -44,7 +27,7 @@ fn try_next<A: CheckedTable>(run: &mut PlainYard<'_, A>, watch: &mut Watch) -> b
     ensures tables { run.new.tables ≡ run.old.tables }
 {
     let tried = run.try_table();
-    let _table = live_in_force(run);
+    let _table = run.live_in_force();
     if !has_answer(tried) {
         return false;
     }
@@ -64,7 +47,7 @@ fn try_due<A: CheckedTable>(run: &mut PlainYard<'_, A>, watch: &mut Watch)
     ensures tables { run.new.tables ≡ run.old.tables }
 {
     while try_next(run, watch) {}
-    let _table = live_in_force(run);
+    let _table = run.live_in_force();
 }
 
 // The train that moves next; none where no train may move.
@@ -73,7 +56,7 @@ fn next_mover<A: CheckedTable>(run: &PlainYard<'_, A>, watch: &Watch) -> Option<
     ensures { MatchOption result ((i : ℕ) → Move (in_force run.now.tables run.now.yard) run.now.yard.positions i (advance run.now.yard.positions i) → ⊥)
         (λ train. MovesNext (in_force run.now.tables run.now.yard) run.now.yard.positions watch.now.due train) }
 {
-    first_mover(live_in_force(run), run.yard().positions(), watch.due())
+    first_mover(run.live_in_force(), run.yard().positions(), watch.due())
 }
 
 // How long the step of a train that moves takes.
@@ -83,9 +66,21 @@ fn step_time<A: CheckedTable>(run: &PlainYard<'_, A>, times: &Times, train: u32)
     ensures takes { result ≡ time times.now run.now.yard.table train (place run.now.yard.positions train) }
     ensures short { result ≤ 1000 }
 {
-    let _table = live_in_force(run);
+    let _table = run.live_in_force();
     let yard = run.yard();
     times.time(yard.table(), train, yard.positions().place(train))
+}
+
+// A train that may move asks, and so it has moved.
+fn move_train<A: CheckedTable>(run: &mut PlainYard<'_, A>, train: u32)
+    requires { Move (in_force run.old.tables run.old.yard) run.old.yard.positions train (advance run.old.yard.positions train) }
+    ensures moved { run.new.yard ≡ moved run.old.yard train }
+    ensures adds { run.new.lines ≡ run.old.lines ++ move_line run.old.tables run.old.yard train ∷ [] }
+    ensures few { length run.new.lines ≤ most_lines }
+    ensures tables { run.new.tables ≡ run.old.tables }
+{
+    let _yes = run.ask(train);
+    let _table = run.live_in_force();
 }
 
 // A train moves at its due tick, and asks again after the time that its step takes.
@@ -104,10 +99,9 @@ fn move_next<A: CheckedTable>(
     ensures kept { IsKept run.new.tables run.new.yard watch.new run.new.lines }
     ensures tables { run.new.tables ≡ run.old.tables }
 {
-    let _before = live_in_force(run);
+    let _table = run.live_in_force();
     let takes = step_time(run, times, train);
-    let _yes = run.ask(train);
-    let _after = live_in_force(run);
+    move_train(run, train);
     watch.grant(train, takes);
 }
 
@@ -124,5 +118,5 @@ pub(crate) fn play<A: CheckedTable>(run: &mut PlainYard<'_, A>, watch: &mut Watc
         move_next(run, watch, times, train);
         try_due(run, watch);
     }
-    let _table = live_in_force(run);
+    let _table = run.live_in_force();
 }

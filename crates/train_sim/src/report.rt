@@ -4,7 +4,7 @@ ghost use Rattle.rail_model.specs.Journal.{IsDone};
 ghost use Rattle.plain_yard.specs.Keeps.{Keeps};
 ghost use Rattle.train_sim.specs.Report.{HaveTimes, IsSoon, Simulates};
 
-use crate::playing::{live_in_force, play};
+use crate::playing::play;
 use crate::watch::Watch;
 use plain_yard::{CheckedTable, PlainYard};
 use rail_model::{PlainState, Times, trains_of};
@@ -24,6 +24,7 @@ pub struct SimReport {
 /// before it. With m moves and no step longer than w ticks, the last move comes at tick (m - 1) * w at most.
 ///
 /// # Errors
+///
 /// Want of memory alone; the run comes back as it was.
 pub fn simulate<'a, A: CheckedTable>(
     alloc: Global,
@@ -39,7 +40,7 @@ pub fn simulate<'a, A: CheckedTable>(
     ensures soon { IfOk result (λ report. IsSoon run.entry.tables times.now (report.state.yard.moves - run.entry.yard.moves) report.last_tick) }
     ensures err { IfErr result (λ back. back ≡ run.entry) }
 {
-    let trains = trains_of(live_in_force(&run)) as usize;
+    let trains = trains_of(run.live_in_force()) as usize;
     let Ok(mut watch) = Watch::begin(alloc, trains, run.lines().len()) else {
         return Err(run);
     };

@@ -1,12 +1,11 @@
 // The ticks that a simulation keeps.
 ghost use Rattle.std.specs.Prelude.{◌≡◌, ℕ, ◌+◌, ◌<◌, ◌≤◌, ◌^◌, ◌∷◌, ◌++◌, [], length, max, slice_index, IfOk};
+ghost use Rattle.plain_yard.specs.Lines.{most_lines};
 ghost use Rattle.train_sim.specs.Steps.{begun, noted, not_before, Grants};
 
+use plain_yard::MOST_LINES;
 use std::alloc::{AllocError, Global};
 use std::marker::Model;
-
-// Lines for 4,064 moves and 15 tables.
-const MOST_LINES: usize = 4_079;
 
 /// When each train asks next, the tick of the last move, or 0, and one tick per line, with room for the ticks of all
 /// lines that a run can have.
@@ -19,13 +18,14 @@ pub(crate) struct Watch {
 
 impl Model for Watch {
     ghost use Rattle.std.specs.Prelude.{◌≤◌, vec_capacity};
+    ghost use Rattle.plain_yard.specs.Lines.{most_lines};
     ghost use Rattle.train_sim.specs.Steps.{Watched};
 
     ghost Value = { Watched };
 
     ghost view = { λ w. record { due = w.due.items; last = w.last; ticks = w.ticks.items } };
 
-    ghost invariant = { λ w. 4079 ≤ vec_capacity w.ticks };
+    ghost invariant = { λ w. most_lines ≤ vec_capacity w.ticks };
 }
 
 // The trains that asked in vain until one asks at its due tick, and now again, are due behind that.
@@ -67,7 +67,7 @@ impl Watch {
 
     // Notes the tick of a line.
     fn push_tick(&mut self, tick: u32)
-        requires { length self.old.ticks < 4079 }
+        requires { length self.old.ticks < most_lines }
         ensures { self.new ≡ record self.old { ticks = self.old.ticks ++ tick ∷ [] } }
     {
         match self.ticks.push(tick) {
@@ -78,7 +78,7 @@ impl Watch {
 
     /// A table has its answer, at the tick of the move that made it due.
     pub(crate) fn note_table(&mut self)
-        requires { length self.old.ticks < 4079 }
+        requires { length self.old.ticks < most_lines }
         ensures { self.new ≡ noted self.old }
     {
         self.push_tick(self.last);
@@ -89,7 +89,7 @@ impl Watch {
         requires train { train < length self.old.due }
         requires low { slice_index self.old.due train < 2 ^ 31 }
         requires short { takes < 2 ^ 31 }
-        requires room { length self.old.ticks < 4079 }
+        requires room { length self.old.ticks < most_lines }
         ensures { Grants self.old train takes self.new }
     {
         let tick = self.due[train as usize];

@@ -4,13 +4,13 @@ use Rattle.rail_model.specs.Lines.{move_line}
 use Rattle.rail_model.specs.Table.{IsTable}
 use Rattle.rail_model.specs.Yard.{Offer, Yard}
 use Rattle.train_sim.specs.Steps.{IsKept}
-use Rattle.train_sim.proofs.Keeping.{has_moved, kept_granted, low_due, room_granted, same_trains}
+use Rattle.train_sim.proofs.Keeping.{kept_granted, low_due, room_granted, same_trains}
 use Rattle.train_sim.proofs.Waiting.{leads_granted}
 use Rattle.train_sim.proofs.playing.move_next.Goals as goal
 
 pub grant-requires-clause-low : goal.grant-requires-clause-low
 grant-requires-clause-low g c =
-    let before = c.live_in_force-before.ensures in
+    let before = c.live_in_force-table.ensures in
     let low : slice_index c.args.watch.now.due c.args.train ≤ 4064000 =
     low_due _ _ _ _ c.args.train before.tables before.stands (subst IsTable before.given before.formed) c.requires.kept c.requires.next.move.train in
     omega arith
@@ -18,39 +18,28 @@ grant-requires-clause-low g c =
 pub grant-requires-clause-room : goal.grant-requires-clause-room
 grant-requires-clause-room g c =
     let run = c.args.run.now in
-    let ask = c.ask-yes.ensures in
-    let new = c.ask-yes.new.self in
-    let done = has_moved run.tables run.yard new.yard run.lines new.lines c.args.train c.ask-yes.result c.requires.next.move ask.answer ask.after ask.adds in
-    room_granted run.tables run.yard c.args.watch.now run.lines new.lines (move_line run.tables run.yard c.args.train) c.requires.kept done.1 c.live_in_force-after.ensures.few
-
-pub returns-clause-moved : goal.returns-clause-moved
-returns-clause-moved g c =
-    let run = c.args.run.now in
-    let ask = c.ask-yes.ensures in
-    let new = c.ask-yes.new.self in
-    (has_moved run.tables run.yard new.yard run.lines new.lines c.args.train c.ask-yes.result c.requires.next.move ask.answer ask.after ask.adds).0
+    let moved = c.move_train.ensures in
+    room_granted run.tables run.yard c.args.watch.now run.lines c.move_train.new.run.lines (move_line run.tables run.yard c.args.train) c.requires.kept moved.adds moved.few
 
 pub returns-clause-leads : goal.returns-clause-leads
 returns-clause-leads g c =
     let run = c.args.run.now in
-    let ask = c.ask-yes.ensures in
-    let new = c.ask-yes.new.self in
-    let before = c.live_in_force-before.ensures in
-    let i = c.args.train in
-    let done = has_moved run.tables run.yard new.yard run.lines new.lines i c.ask-yes.result c.requires.next.move ask.answer ask.after ask.adds in
-    leads_granted run.tables c.args.times.now run.yard new.yard c.args.watch.now c.grant.new.self run.lines new.lines i c.step_time-takes.result (subst IsTable before.given before.formed) c.requires.undue
-    (same_trains run.tables run.yard c.args.watch.now run.lines before.tables before.stands c.requires.kept) c.requires.next c.step_time-takes.ensures.takes c.grant.ensures done.0 done.1
+    let new = c.move_train.new.run in
+    let moved = c.move_train.ensures in
+    let before = c.live_in_force-table.ensures in
+    leads_granted run.tables c.args.times.now run.yard new.yard c.args.watch.now c.grant.new.self run.lines new.lines c.args.train c.step_time-takes.result
+    (subst IsTable before.given before.formed) c.requires.undue
+    (same_trains run.tables run.yard c.args.watch.now run.lines before.tables before.stands c.requires.kept) c.requires.next c.step_time-takes.ensures.takes c.grant.ensures moved.moved moved.adds
 
 pub returns-clause-kept : goal.returns-clause-kept
 returns-clause-kept g c =
     let run = c.args.run.now in
-    let ask = c.ask-yes.ensures in
-    let new = c.ask-yes.new.self in
-    let before = c.live_in_force-before.ensures in
+    let new = c.move_train.new.run in
+    let moved = c.move_train.ensures in
+    let before = c.live_in_force-table.ensures in
     let i = c.args.train in
-    let done = has_moved run.tables run.yard new.yard run.lines new.lines i c.ask-yes.result c.requires.next.move ask.answer ask.after ask.adds in
     let within : i < length c.args.watch.now.due = omega (arith, same_trains run.tables run.yard c.args.watch.now run.lines before.tables before.stands c.requires.kept, c.requires.next.move.train) in
-    subst (λ (ts : List Offer). IsKept ts new.yard c.grant.new.self new.lines) (sym ask.tables)
-    (subst (λ (y : Yard). IsKept run.tables y c.grant.new.self new.lines) (sym done.0)
+    subst (λ (ts : List Offer). IsKept ts new.yard c.grant.new.self new.lines) (sym moved.tables)
+    (subst (λ (y : Yard). IsKept run.tables y c.grant.new.self new.lines) (sym moved.moved)
     (kept_granted run.tables run.yard c.args.watch.now c.grant.new.self run.lines new.lines (move_line run.tables run.yard i) i c.step_time-takes.result c.requires.kept within c.grant.ensures
-    c.step_time-takes.ensures.short done.1))
+    c.step_time-takes.ensures.short moved.adds))

@@ -1,12 +1,17 @@
-use Rattle.std.proofs.Common.{◌≡◌, ℕ, ◌+◌, ◌<◌, List, [], ◌∷◌, ◌++◌, length, map, sym, ap, ◌∙◌, subst, arith, inl, inr}
+use Rattle.std.proofs.Common.{◌≡◌, ℕ, ◌+◌, ◌<◌, List, [], ◌∷◌, ◌++◌, length, map, get_or, sym, ap, ◌∙◌, subst, arith, inl, inr}
 use Rattle.std.specs.Prelude.{slice_index_or}
 use Rattle.std.proofs.lemmas.Bool.{cases_eq}
-use Rattle.std.proofs.lemmas.List.{get_or_append_left, get_or_push, length-append}
+use Rattle.std.proofs.lemmas.List.{get_or-map, get_or_append_left, get_or_push, length-append}
 use Rattle.rail_model.specs.Table.{Table}
 use Rattle.rail_model.specs.Times.{AreTimes}
 use Rattle.rail_model.specs.Yard.{Offer, offer}
-use Rattle.train_sim.proofs.Keeping.{offer_at}
 use Rattle.train_sim.proofs.tests.same_times.Goals as goal
+
+-- what is at a number offers the table of that number
+offer_at : {X : Type 0} (offer_of : X → Offer) (xs : List X) (x : X) (t : ℕ) → t < length xs → x ≡ get_or xs t x → (offer_of x).table ≡ (offer (map offer_of xs) t).table
+offer_at offer_of xs x t below is =
+    ap (λ z. (offer_of z).table) is
+    ∙ ap (λ (o : Offer). o.table) (sym (get_or-map offer_of xs t x (record { table = record { missions = []; sections = []; connections = [] }; after = 0 }) below))
 
 -- one more table has its times
 each_push : (offers : List Offer) (ts longer : List (List (List ℕ))) (x : List (List ℕ)) (n : ℕ) (T : Table) → length ts ≡ n → longer ≡ ts ++ x ∷ []
