@@ -18,7 +18,7 @@ use Rattle.rail_model.specs.Journal.{words}
 use Rattle.move_journal.specs.Printable.{IsPrintable}
 use Rattle.move_journal.specs.Words.{called, target_of, move_of, table_of, differs_of, over_of, kept_of, line_of, numbered_of, field_of, end_of, word_list}
 use Rattle.decimal_number.proofs.Numbers.{number_of-decimal}
-use Rattle.move_journal.proofs.Lookups.{called_found, other}
+use Rattle.move_journal.proofs.Lookups.{called_found, bytes_eq-false}
 use Rattle.move_journal.proofs.Splitting.{IsWord, word_list_more, word_list_last}
 use Rattle.move_journal.proofs.Forms.{line_words, end_words, joined, end_joined, end_content}
 
@@ -40,14 +40,14 @@ literal (b ∷ w) e =
 visible-decimal : (n : ℕ) → n < 2 ^ 32 → IsVisible (decimal n)
 visible-decimal n small = All-from_get_or (λ b. 32 < b) (decimal n) 0 (λ i h. let p : IsInRange 48 57 (get_or (decimal n) i 0) = digit_at (decimal n) i (decimal_is_IsNumeral n (omega arith)).0.1 h in omega arith)
 
-above : (b : ℕ) → IsNameByte b → 32 < b
-above b (inl p) = omega arith
-above b (inr (inl p)) = omega arith
-above b (inr (inr (inl p))) = omega arith
-above b (inr (inr (inr p))) = omega arith
+visible-name_byte : (b : ℕ) → IsNameByte b → 32 < b
+visible-name_byte b (inl p) = omega arith
+visible-name_byte b (inr (inl p)) = omega arith
+visible-name_byte b (inr (inr (inl p))) = omega arith
+visible-name_byte b (inr (inr (inr p))) = omega arith
 
 visible-name : (names : List (List ℕ)) (i : ℕ) → AreNames names → i < length names → IsVisible (get_or names i [])
-visible-name names i are within = All-weaker (λ b. IsNameByte b) (λ b. 32 < b) above (get_or names i []) (are.each i within).plain
+visible-name names i are within = All-weaker (λ b. IsNameByte b) (λ b. 32 < b) visible-name_byte (get_or names i []) (are.each i within).plain
 
 visible-target : (N : Names) (to : Option ℕ) → IsNames N → IfSome to (λ q. q < length N.points) → IsVisible (target_name N to)
 visible-target N None names h = literal (codes "-") refl
@@ -94,7 +94,7 @@ same_test a = (bytes_eq-Decides a a).1 refl
 -- no point is called -
 named : (N : Names) (q : ℕ) → IsNames N → q < length N.points → bytes_eq (point_name N q) (codes "-") ≡ false
 named N q names h =
-    other (point_name N q) (codes "-") (λ e.
+    bytes_eq-false (point_name N q) (codes "-") (λ e.
     let is = names.points.each q h in
     let c : IsNameByte 45 = subst (λ w. IsNameByte (get_or w 0 0)) e (is.plain 0 0 is.some) in
     no_name_byte c)

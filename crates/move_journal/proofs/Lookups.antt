@@ -10,8 +10,8 @@ use Rattle.std.proofs.lemmas.Slice.Eq.{bytes_eq-Decides}
 use Rattle.rail_model.specs.Names.{AreNames}
 use Rattle.move_journal.specs.Words.{called}
 
-pub other : (a b : List ℕ) → (a ≡ b → ⊥) → bytes_eq a b ≡ false
-other a b ne = elim (bytes_eq a b) as (λ t. bytes_eq a b ≡ t → t ≡ false) [
+pub bytes_eq-false : (a b : List ℕ) → (a ≡ b → ⊥) → bytes_eq a b ≡ false
+bytes_eq-false a b ne = elim (bytes_eq a b) as (λ t. bytes_eq a b ≡ t → t ≡ false) [
   | true ↦ λ e. absurd (ne ((bytes_eq-Decides a b).0 e))
   | false ↦ λ e. refl
 ] refl
@@ -22,7 +22,7 @@ called_found names word i are within is =
     let test = λ (name : List ℕ). bytes_eq name word in
     let at : position_or_len test names ≡ i =
     position_or_len_is test names i [] (omega arith)
-    (λ k below. other _ _ (λ e. absurd (let same : k ≡ i = are.apart k i (omega arith) within (e ∙ is) in omega arith)))
+    (λ k below. bytes_eq-false _ _ (λ e. absurd (let same : k ≡ i = are.apart k i (omega arith) within (e ∙ is) in omega arith)))
     (λ h. (bytes_eq-Decides _ _).1 (sym is)) in
     rw at (cond-true _ _ _ (lt-ltb i (length names) within))
 
@@ -32,7 +32,7 @@ called_none names word none =
     let test = λ (name : List ℕ). bytes_eq name word in
     let at : position_or_len test names ≡ length names =
     position_or_len_is test names (length names) [] (omega arith)
-    (λ k below. other _ _ (λ e. none k below (sym e)))
+    (λ k below. bytes_eq-false _ _ (λ e. none k below (sym e)))
     (λ h. absurd (omega arith)) in
     rw at (cond-false _ _ _ (le-ltb (length names) (length names) (omega arith)))
 

@@ -10,7 +10,7 @@ use Rattle.rail_model.specs.Yard.{Offer, Yard, in_force}
 use Rattle.rail_model.specs.Journal.{IsLine, IsRight, after_line, after_lines}
 use Rattle.rail_model.proofs.Asks.{told_once}
 use Rattle.table_exchange.specs.Tables.{AreTables, Stands}
-use Rattle.table_exchange.proofs.Standings.{stands_moved, stands_exchanged}
+use Rattle.table_exchange.proofs.Standings.{stands_line}
 use Rattle.move_journal.specs.declared.faults.BadLine.{BadLine}
 use Rattle.move_journal.specs.declared.faults.BadLine.TheVariants as bad
 use Rattle.move_journal.specs.Replays.{IsRefused, IsMisplaced, IsWrongTable, IsBad, HasBadLine}
@@ -94,13 +94,6 @@ pub right_or_bad : (tables : List Offer) (y : Yard) (lines : List Line) (e : Bad
 right_or_bad tables y lines e right h =
     right_not_bad tables (after_lines y h.0) (length h.0 + 1) h.1 e (line_within tables y h.0 h.1 h.2 (subst (IsRight tables y) h.3 right))
     (cause_of tables (after_lines y h.0) (length h.0 + 1) h.1 e h.5)
-
--- a line that is right leaves a yard that stands
-pub stands_line : (tables : List Offer) (y : Yard) (l : Line) → AreTables tables → Stands tables y → IsLine tables y l → Stands tables (after_line y l)
-stands_line tables y (Move i from to) are s line = stands_moved tables y i s line.0
-stands_line tables y (TableLine t) are s line = stands_exchanged tables y are s line.1.0.0 line.1.1
-stands_line tables y (KeptDiffers t i k) are s line = record { in_range = s.in_range; tried = line.1.0.0; legal = s.legal; moves = s.moves }
-stands_line tables y (KeptOver t c n) are s line = record { in_range = s.in_range; tried = line.1.0.0; legal = s.legal; moves = s.moves }
 
 -- two first bad lines of the same lines, counted from k on
 one_bad_from : (tables : List Offer) (y : Yard) (m n k : ℕ) (xs ys : List Line) (l r : Line) (ls rs : List Line) (e f : BadLine) → AreTables tables → Stands tables y

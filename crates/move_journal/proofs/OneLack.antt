@@ -5,16 +5,18 @@ use Rattle.rail_model.specs.Move.{IsFirst}
 use Rattle.rail_model.specs.Yard.{Offer, Yard, in_force, IsOpen}
 use Rattle.rail_model.specs.Journal.{Journal, IsDone, IsWhole, after_lines}
 use Rattle.rail_model.proofs.Decide.{same_first}
+use Rattle.table_exchange.specs.Arrivals.{IsUnfinished}
 use Rattle.table_exchange.specs.Tables.{AreTables, Stands}
+use Rattle.table_exchange.proofs.Arrivals.{none_unfinished}
 use Rattle.move_journal.specs.declared.faults.BadLine.{BadLine}
 use Rattle.move_journal.specs.declared.faults.BadLine.TheVariants as bad
 use Rattle.move_journal.specs.Counted.{AreTrue}
-use Rattle.move_journal.specs.Replays.{IsShort, Lacks, IsNotWhole}
+use Rattle.move_journal.specs.Replays.{Lacks, IsNotWhole}
 use Rattle.move_journal.proofs.OneBadLine.{right_or_bad, one_bad}
 
 -- one of three things that are lacking
 data Lack (tables : List Offer) (y : Yard) (K : Journal) (e : BadLine) : Type 0 where
-  arrival : (i : ℕ) → e ≡ bad.Unfinished i → IsFirst (IsShort (in_force tables y) y.positions) i → Lack tables y K e
+  arrival : (i : ℕ) → e ≡ bad.Unfinished i → IsFirst (IsUnfinished (in_force tables y) y.positions) i → Lack tables y K e
   answer : e ≡ bad.Open (y.tried + 1) → Arrived (in_force tables y) y.positions → IsOpen tables y → Lack tables y K e
   counts : e ≡ bad.Counts → IsDone tables y → (AreTrue K → ⊥) → Lack tables y K e
 
@@ -28,22 +30,18 @@ lack_of tables y K (bad.Table j) h = absurd h
 lack_of tables y K bad.Memory h = absurd h
 
 nothing_lacks : (tables : List Offer) (y : Yard) (K : Journal) (e : BadLine) → IsDone tables y → AreTrue K → Lack tables y K e → ⊥
-nothing_lacks tables y K e done true_counts (arrival i is first) = first.0.1 (done.0 i first.0.0)
+nothing_lacks tables y K e done true_counts (arrival i is first) = none_unfinished (in_force tables y) y.positions i done.0 first.0
 nothing_lacks tables y K e done true_counts (answer is arrived open_table) = done.1 open_table
 nothing_lacks tables y K e done true_counts (counts is also wrong) = wrong true_counts
 
--- a train that hasn't arrived, where all have
-none_short : (tables : List Offer) (y : Yard) (i : ℕ) → Arrived (in_force tables y) y.positions → IsFirst (IsShort (in_force tables y) y.positions) i → ⊥
-none_short tables y i arrived first = first.0.1 (arrived i first.0.0)
-
 one_lack : (tables : List Offer) (y : Yard) (K : Journal) (e f : BadLine) → Lack tables y K e → Lack tables y K f → e ≡ f
-one_lack tables y K e f (arrival i is p) (arrival j also q) = is ∙ ap bad.Unfinished (same_first (IsShort (in_force tables y) y.positions) i j p q) ∙ sym also
-one_lack tables y K e f (arrival i is p) (answer also arrived q) = absurd (none_short tables y i arrived p)
-one_lack tables y K e f (arrival i is p) (counts also done q) = absurd (none_short tables y i done.0 p)
-one_lack tables y K e f (answer is arrived p) (arrival j also q) = absurd (none_short tables y j arrived q)
+one_lack tables y K e f (arrival i is p) (arrival j also q) = is ∙ ap bad.Unfinished (same_first (IsUnfinished (in_force tables y) y.positions) i j p q) ∙ sym also
+one_lack tables y K e f (arrival i is p) (answer also arrived q) = absurd (none_unfinished (in_force tables y) y.positions i arrived p.0)
+one_lack tables y K e f (arrival i is p) (counts also done q) = absurd (none_unfinished (in_force tables y) y.positions i done.0 p.0)
+one_lack tables y K e f (answer is arrived p) (arrival j also q) = absurd (none_unfinished (in_force tables y) y.positions j arrived q.0)
 one_lack tables y K e f (answer is arrived p) (answer also too q) = is ∙ sym also
 one_lack tables y K e f (answer is arrived p) (counts also done q) = absurd (done.1 p)
-one_lack tables y K e f (counts is done p) (arrival j also q) = absurd (none_short tables y j done.0 q)
+one_lack tables y K e f (counts is done p) (arrival j also q) = absurd (none_unfinished (in_force tables y) y.positions j done.0 q.0)
 one_lack tables y K e f (counts is done p) (answer also arrived q) = absurd (done.1 q)
 one_lack tables y K e f (counts is done p) (counts also too q) = is ∙ sym also
 

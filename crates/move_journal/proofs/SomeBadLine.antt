@@ -15,10 +15,10 @@ use Rattle.rail_model.proofs.Decide.{Dec, decide_×, decide_same}
 use Rattle.rail_model.proofs.Asks.{told}
 use Rattle.rail_model.proofs.Answered.{tried, tried_once}
 use Rattle.table_exchange.specs.Tables.{AreTables, Stands}
+use Rattle.table_exchange.proofs.Standings.{stands_line}
 use Rattle.move_journal.specs.declared.faults.BadLine.{BadLine}
 use Rattle.move_journal.specs.declared.faults.BadLine.TheVariants as bad
 use Rattle.move_journal.specs.Replays.{IsStep, IsBad, HasBadLine}
-use Rattle.move_journal.proofs.OneBadLine.{stands_line}
 
 -- what is offered are tables
 abbrev pub AreSound : List Offer → Type 0

@@ -10,6 +10,7 @@ use Rattle.rail_model.specs.Move.{Answers, IsFirst}
 use Rattle.rail_model.specs.Yard.{Offer, Yard, in_force, IsOpen}
 use Rattle.rail_model.specs.Journal.{Journal, IsLine, IsRight, IsDone, IsWhole, after_lines}
 use Rattle.rail_model.specs.Plain.{Plain}
+use Rattle.table_exchange.specs.Arrivals.{IsUnfinished}
 use Rattle.move_journal.specs.declared.faults.BadLine.{BadLine}
 use Rattle.move_journal.specs.declared.faults.BadLine.TheVariants as bad
 use Rattle.move_journal.specs.Counted.{AreTrue}
@@ -62,13 +63,9 @@ Replays tables y J (Ok plain) = Leads tables y J.lines plain
 Replays tables y J (Err bad.Memory) = Unit {0}
 Replays tables y J (Err e) = HasBadLine tables y J.lines e
 
--- A train that hasn't arrived.
-abbrev pub IsShort : Table → List ℕ → ℕ → Type 0
-IsShort T p i = (i < trains T) × (place p i ≢ last T i)
-
 -- What a right journal lacks where its lines end: an arrival, a table's answer, or true counts.
 abbrev pub Lacks : List Offer → Yard → Journal → BadLine → Type 0
-Lacks tables y J (bad.Unfinished i) = IsFirst (IsShort (in_force tables y) y.positions) i
+Lacks tables y J (bad.Unfinished i) = IsFirst (IsUnfinished (in_force tables y) y.positions) i
 Lacks tables y J (bad.Open t) = Arrived (in_force tables y) y.positions × IsOpen tables y × (t ≡ y.tried + 1)
 Lacks tables y J bad.Counts = IsDone tables y × (AreTrue J → ⊥)
 Lacks tables y J e = ⊥

@@ -16,17 +16,6 @@ pub enum BadText {
     Memory,
 }
 
-impl From<AllocError> for BadText {
-    ghost use Rattle.std.specs.Prelude.{◌≡◌};
-    ghost use Rattle.move_journal.specs.declared.faults.BadText.TheVariants.{Memory};
-
-    ghost from_gives = { λ _ e. e ≡ Memory };
-
-    fn from(_error: AllocError) -> Self {
-        BadText::Memory
-    }
-}
-
 impl<T: Drop> From<AllocFailed<T>> for BadText {
     ghost use Rattle.std.specs.Prelude.{◌≡◌};
     ghost use Rattle.move_journal.specs.declared.faults.BadText.TheVariants.{Memory};

@@ -77,7 +77,7 @@ pub enum Part {
     Open(Journal),
 }
 
-// How many of the lines are moves.
+/// How many of the lines are moves.
 pub(crate) fn moves_of(lines: &[Line]) -> usize
     ensures { result ≡ count_by is_move lines.now }
 {
@@ -87,7 +87,7 @@ pub(crate) fn moves_of(lines: &[Line]) -> usize
         .count()
 }
 
-// How many of the lines are tables that took over.
+/// How many of the lines are tables that took over.
 pub(crate) fn tables_of(lines: &[Line]) -> usize
     ensures { result ≡ count_by is_table lines.now }
 {

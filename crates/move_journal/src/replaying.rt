@@ -17,8 +17,11 @@ use rail_model::{
 use std::alloc::Global;
 use table_exchange::{ask, in_force, try_table};
 
-/// The state that the lines lead to from a start that is legal for table 0, with the lines; or the first line
-/// that isn't right.
+/// The state that the lines lead to from a start that is legal for table 0, with the lines.
+///
+/// # Errors
+///
+/// The first line that isn't right. `Memory` where memory runs out.
 pub fn replay<A: HasTable>(
     alloc: Global,
     tables: &[A],

@@ -78,6 +78,41 @@ fn verdict<A: HasTable>(
     Ok(verify(alloc, tables, &start, &journal))
 }
 
+// Texts under two tables, the second due after one move, and what `verify` answers.
+const VERDICTS: [(&str, Result<(), BadLine>); 7] = [
+    (
+        "1 move T0 A B\n2 table 1\n3 move T0 B C\nend moves=2 tables=1\n",
+        Ok(()),
+    ),
+    (
+        "1 move T0 A B\n2 table 1\n3 move T0 B C\nend moves=3 tables=1\n",
+        Err(BadLine::Counts),
+    ),
+    (
+        "1 move T0 A B\n2 move T0 B C\n3 move T0 C -\nend moves=3 tables=0\n",
+        Err(BadLine::Move {
+            line: 3,
+            ask: Ask::Arrived,
+        }),
+    ),
+    (
+        "1 move T0 B C\nend moves=1 tables=0\n",
+        Err(BadLine::Place { line: 1 }),
+    ),
+    (
+        "1 table 1\nend moves=0 tables=1\n",
+        Err(BadLine::Table { line: 1 }),
+    ),
+    (
+        "1 move T0 A B\nend moves=1 tables=0\n",
+        Err(BadLine::Unfinished { train: 0 }),
+    ),
+    (
+        "1 move T0 A B\n2 move T0 B C\nend moves=2 tables=0\n",
+        Err(BadLine::Open { table: 1 }),
+    ),
+];
+
 #[test]
 fn verifies(rt: HostRuntime) -> Result<(), Fail> {
     let alloc = rt.alloc();
@@ -91,39 +126,7 @@ fn verifies(rt: HostRuntime) -> Result<(), Fail> {
             after: 1,
         },
     ];
-    for (text, want) in [
-        (
-            "1 move T0 A B\n2 table 1\n3 move T0 B C\nend moves=2 tables=1\n",
-            Ok(()),
-        ),
-        (
-            "1 move T0 A B\n2 table 1\n3 move T0 B C\nend moves=3 tables=1\n",
-            Err(BadLine::Counts),
-        ),
-        (
-            "1 move T0 A B\n2 move T0 B C\n3 move T0 C -\nend moves=3 tables=0\n",
-            Err(BadLine::Move {
-                line: 3,
-                ask: Ask::Arrived,
-            }),
-        ),
-        (
-            "1 move T0 B C\nend moves=1 tables=0\n",
-            Err(BadLine::Place { line: 1 }),
-        ),
-        (
-            "1 table 1\nend moves=0 tables=1\n",
-            Err(BadLine::Table { line: 1 }),
-        ),
-        (
-            "1 move T0 A B\nend moves=1 tables=0\n",
-            Err(BadLine::Unfinished { train: 0 }),
-        ),
-        (
-            "1 move T0 A B\n2 move T0 B C\nend moves=2 tables=0\n",
-            Err(BadLine::Open { table: 1 }),
-        ),
-    ] {
+    for (text, want) in VERDICTS {
         assert_eq!(rt; verdict(alloc, &tables, text)?, want, "{text}");
     }
     Ok(())

@@ -1,22 +1,24 @@
 // Journals that are verified: replayed, and looked at where their lines end.
-ghost use Rattle.std.specs.Prelude.{◌≡◌, length, map, OnOk, IfErr};
-ghost use Rattle.rail_model.specs.Table.{trains};
+ghost use Rattle.std.specs.Prelude.{map, OnOk, IfErr};
 ghost use Rattle.rail_model.specs.State.{Legal};
-ghost use Rattle.rail_model.specs.Move.{IsFirstOrNone};
 ghost use Rattle.rail_model.specs.Yard.{offer, opening};
 ghost use Rattle.rail_model.specs.Journal.{IsDone};
 ghost use Rattle.table_exchange.specs.Tables.{AreTables, Stands};
 ghost use Rattle.move_journal.specs.Counted.{AreTrue};
-ghost use Rattle.move_journal.specs.Replays.{IsShort, Lacks, Verifies};
+ghost use Rattle.move_journal.specs.Replays.{Lacks, Verifies};
 
 use crate::lines::{moves_of, tables_of};
 use crate::{BadLine, Journal, replay};
-use rail_model::{HasTable, Standing, State, Table, last_of, trains_of};
+use rail_model::{HasTable, Standing, State};
 use std::alloc::Global;
-use table_exchange::in_force;
+use table_exchange::{first_unfinished, in_force};
 
 /// Whether a journal is whole: its lines are right from a start that is legal for table 0, all trains have
-/// arrived, no table is open, and both counts are true. Else the first line that isn't right, or what it lacks.
+/// arrived, no table is open, and both counts are true.
+///
+/// # Errors
+///
+/// The first line that isn't right, or what the journal lacks at its end. `Memory` where memory runs out.
 pub fn verify<A: HasTable>(
     alloc: Global,
     tables: &[A],
@@ -39,7 +41,7 @@ fn check_end<A: HasTable>(tables: &[A], yard: &Standing, journal: &Journal) -> R
     ensures counted { OnOk result (AreTrue journal.now) }
     ensures lacks { IfErr result (Lacks (map A.offer tables.now) yard.now journal.now) }
 {
-    if let Some(train) = first_short(in_force(tables, yard), yard.positions()) {
+    if let Some(train) = first_unfinished(in_force(tables, yard), yard.positions()) {
         return Err(BadLine::Unfinished { train });
     }
     let next = yard.tried() as usize + 1;
@@ -56,17 +58,4 @@ fn check_end<A: HasTable>(tables: &[A], yard: &Standing, journal: &Journal) -> R
         return Err(BadLine::Counts);
     }
     Ok(())
-}
-
-// The first train that hasn't arrived.
-fn first_short(table: &Table, state: &State) -> Option<u32>
-    requires { length state.now ≡ trains table.now }
-    ensures { IsFirstOrNone (IsShort table.now state.now) result }
-{
-    for train in 0..trains_of(table) {
-        if state.place(train) != last_of(table, train) {
-            return Some(train);
-        }
-    }
-    None
 }

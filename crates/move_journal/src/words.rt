@@ -6,7 +6,7 @@ ghost use Rattle.move_journal.specs.Words as spec;
 use decimal_number::number_of;
 use rail_model::{Line, Names};
 
-// What stands before the first such byte, and what follows it.
+/// What stands before the first such byte, and what follows it.
 pub(crate) fn split_once(bytes: &[u8], at: u8) -> Option<(&[u8], &[u8])>
     ensures { MatchOption result (All (λ b. b ≢ at) bytes.now)
         (λ parts. (bytes.now ≡ parts.0.now ++ at ∷ parts.1.now) × All (λ b. b ≢ at) parts.0.now) }
@@ -158,7 +158,7 @@ fn line_of(names: &Names, rest: &[u8]) -> Option<Line>
     }
 }
 
-// The number and the line that the words are.
+/// The number and the line that the words are.
 #[tactic(auto, using(crate::proofs::Alone::number_alone), unfolding(crate::specs::Words::numbered_of))]
 pub(crate) fn numbered_of(names: &Names, content: &[u8]) -> Option<(u32, Line)>
     ensures { result ≡ spec.numbered_of names.now (spec.word_list content.now) }
@@ -179,7 +179,7 @@ fn field_of(name: &[u8], word: &[u8]) -> Option<u32>
     number_of(digits)
 }
 
-// The two counts of an end line.
+/// The two counts of an end line.
 #[tactic(auto, unfolding(crate::specs::Words::end_of))]
 pub(crate) fn end_of(content: &[u8]) -> Option<(u32, u32)>
     ensures { result ≡ spec.end_of (spec.word_list content.now) }
