@@ -1,3 +1,4 @@
 pub mod Code
+pub mod Open
 pub mod Refused
 pub mod Spelling

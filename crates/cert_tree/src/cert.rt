@@ -1,6 +1,7 @@
 // A certificate: a tree, kept as the list of its nodes in preorder.
 ghost use Rattle.std.specs.Prelude.{◌≡◌, ◌≤◌, length, IfOk};
 ghost use Rattle.rail_model.specs.Certificate.{preorder as nodes_of};
+ghost use Rattle.cert_tree.specs.Spelling.{most_nodes};
 
 use rail_model::{Node, Nodes};
 use std::alloc::{AllocError, Global};
@@ -62,7 +63,8 @@ pub fn preorder(alloc: Global, cert: &Cert) -> Result<Vec<Node>, AllocError>
 
 /// The number of nodes.
 pub fn count(cert: &Cert) -> u64
-    ensures { result ≡ length (nodes_of cert.now) }
+    ensures count { result ≡ length (nodes_of cert.now) }
+    ensures few { result ≤ most_nodes }
 {
     cert.as_slice().len() as u64
 }

@@ -1,13 +1,13 @@
 // A list of nodes, read as the tree that it spells.
-ghost use Rattle.std.specs.Prelude.{◌≡◌, ◌<◌, ◌≤◌, IfOk, IfErr};
+ghost use Rattle.std.specs.Prelude.{◌≡◌, ◌+◌, ◌<◌, ◌≤◌, IfOk, IfErr};
 ghost use Rattle.rail_model.specs.Certificate.{preorder as nodes_of};
 ghost use Rattle.cert_tree.specs.declared.reading.CertRefused.TheVariants.{Memory};
 ghost use Rattle.cert_tree.specs.Refused.{IsRefused};
-ghost use Rattle.cert_tree.specs.Spelling.{wanted_behind};
+ghost use Rattle.cert_tree.specs.Spelling.{most_nodes, wanted_behind};
 
 use crate::{Cert, MOST_NODES};
 use rail_model::{Node, Nodes};
-use std::alloc::{AllocError, AllocFailed, Global};
+use std::alloc::{AllocError, Global};
 
 /// Why a list of nodes spells no certificate.
 #[derive(Clone, Copy, Debug, PartialEq, Eq)]
@@ -30,15 +30,9 @@ impl From<AllocError> for CertRefused {
     }
 }
 
-impl<T: Drop> From<AllocFailed<T>> for CertRefused {
-    ghost from_gives = { λ _ e. e ≡ Memory };
-
-    fn from(_: AllocFailed<T>) -> Self {
-        CertRefused::Memory
-    }
-}
-
 /// The certificate that the nodes spell, read without recursion.
+///
+/// # Errors
 ///
 /// Too many nodes are refused before all else. Want of memory may come for any list.
 pub fn tree(alloc: Global, nodes: &[Node]) -> Result<Cert, CertRefused>
@@ -64,10 +58,10 @@ pub fn tree(alloc: Global, nodes: &[Node]) -> Result<Cert, CertRefused>
     Ok(Cert::spelled(nodes))
 }
 
-// How many trees are wanted behind a node.
-fn behind(node: Node, wanted: u64) -> u64
+/// How many trees are wanted behind a node, where so many were before it.
+pub fn behind(node: Node, wanted: u64) -> u64
     requires some { 0 < wanted }
-    requires small { wanted ≤ MOST_NODES }
+    requires few { wanted ≤ most_nodes + 1 }
     ensures { result ≡ wanted_behind node wanted }
 {
     match node {
