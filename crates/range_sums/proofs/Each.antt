@@ -1,11 +1,8 @@
 -- A list that grows by the item that its next place asks for.
-use Rattle.std.proofs.Common.{◌≡◌, ℕ, ◌+◌, ◌<◌, List, [], ◌∷◌, ◌++◌, length, get_or, refl, sym, subst, arith, inl, inr, length-append}
+use Rattle.std.proofs.Common.{◌≡◌, ℕ, ◌+◌, ◌<◌, List, [], ◌∷◌, ◌++◌, length, get_or, sym, subst, arith, inl, inr, length-append}
 use Rattle.std.proofs.lemmas.Bool.{cases_eq}
 use Rattle.std.proofs.lemmas.List.{get_or_append_left, get_or-append-add}
 use Rattle.range_sums.specs.Each.{IsEach}
-
-pub each_none : {A : Type 0} (P : ℕ → A → Type 0) (none : A) → IsEach P 0 none []
-each_none P none = (refl, λ k lt. absurd (omega arith))
 
 pub at_last : {A : Type 0} (items : List A) (item none : A) (n : ℕ) → n ≡ length items → get_or (items ++ item ∷ []) n none ≡ item
 at_last items item none n same =

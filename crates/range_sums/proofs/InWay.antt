@@ -1,12 +1,11 @@
 -- The first covered spot is of the first train that may stand in the way.
-use Rattle.std.proofs.Common.{◌≡◌, ◌≢◌, ℕ, zero, suc, ◌+◌, ◌-◌, ◌<◌, ◌≤◌, ◌==◌, Bool, true, false, List, [], ◌∷◌, ◌++◌, length, Option, Some, None, refl, sym, ◌∙◌, ap, subst, arith, inl, inr, drop, get_or, append_assoc}
+use Rattle.std.proofs.Common.{◌≡◌, ◌≢◌, ℕ, zero, suc, ◌+◌, ◌-◌, ◌<◌, ◌≤◌, ◌==◌, Bool, true, false, List, [], ◌∷◌, length, Option, Some, None, refl, sym, ◌∙◌, ap, subst, arith, inl, inr}
 use Rattle.std.specs.Prelude.{find, All, MatchOption, Decides, option_map, if◌then◌else◌}
 use Rattle.std.specs.Option.{option_or}
-use Rattle.std.proofs.lemmas.List.{drop_more, drop_all}
 use Rattle.std.proofs.lemmas.List.Elements.{All-nil, All-cons, All-append}
 use Rattle.std.proofs.lemmas.List.Folds.{find-append}
 use Rattle.std.proofs.lemmas.Option.{slice_get_within}
-use Rattle.std.proofs.lemmas.Bool.{cond-true, cond-false, eqb-true, eq-eqb, cases_eq}
+use Rattle.std.proofs.lemmas.Bool.{eqb-true, eq-eqb, cases_eq}
 use Rattle.std.proofs.lemmas.Bool.Decides.{Decides-and, Decides-like}
 use Rattle.rail_model.specs.Table.{Table, mission, trains, last, point}
 use Rattle.rail_model.specs.Move.{IsFirst, IsFirstOrNone}
@@ -27,13 +26,6 @@ Decides-at T q j b =
 
 pub Decides-covered : (B : List Range) (s : Spot) → Decides (is_covered B s) (IsIn s.place (range B s.train))
 Decides-covered B s = Decides-and _ _ (Decides-leb _ _) (Decides-leb _ _)
-
--- the choice of a list
-pub chosen_yes : (b : Bool) (xs : List Spot) → b ≡ true → (if b then xs else []) ≡ xs
-chosen_yes b xs h = cond-true _ _ _ h
-
-pub chosen_no : (b : Bool) (xs : List Spot) → b ≡ false → (if b then xs else []) ≡ []
-chosen_no b xs h = cond-false _ _ _ h
 
 -- what is found among the first b places of train j
 abbrev Hits : Table → List Range → ℕ → ℕ → ℕ → Option Spot → Type 0
@@ -168,33 +160,3 @@ known_ahead T i a n same =
       | None ↦ All-nil (IsKnown n)
       | Some q ↦ known_spots T n i q (trains T) (omega arith)
     ])
-
--- ---- steps of loops
-
-pub column_next : (T : Table) (q j b : ℕ) (old w v : List Spot) → w ≡ old ++ column T q j b →
-    v ≡ w ++ (if is_at T q j b then record { train = j; place = b } ∷ [] else []) → v ≡ old ++ column T q j (b + 1)
-column_next T q j b old w v before here =
-    let next : b + 1 ≡ suc b = omega arith in
-    here ∙ ap (λ (u : List Spot). u ++ (if is_at T q j b then record { train = j; place = b } ∷ [] else [])) before
-    ∙ append_assoc old (column T q j b) (if is_at T q j b then record { train = j; place = b } ∷ [] else [])
-    ∙ ap (λ (n : ℕ). old ++ column T q j n) (sym next)
-
-pub spots_next : (T : Table) (i q n : ℕ) (w v : List Spot) → w ≡ spots T i q n →
-    v ≡ w ++ (if n == i then [] else column T q n (last T n + 1)) → v ≡ spots T i q (n + 1)
-spots_next T i q n w v before here =
-    let next : n + 1 ≡ suc n = omega arith in
-    here ∙ ap (λ (u : List Spot). u ++ (if n == i then [] else column T q n (last T n + 1))) before ∙ ap (spots T i q) (sym next)
-
--- the search goes on behind a spot that isn't covered
-pub search_next : (B : List Range) (xs : List Spot) (k : ℕ) (d : Spot) → k < length xs → find (is_covered B) xs ≡ find (is_covered B) (drop k xs) →
-    is_covered B (get_or xs k d) ≡ false → find (is_covered B) xs ≡ find (is_covered B) (drop (k + 1) xs)
-search_next B xs k d lt before here =
-    before ∙ ap (find (is_covered B)) (drop_more xs k d lt) ∙ cond-false _ _ _ here
-
-pub search_stops : (B : List Range) (xs : List Spot) (k : ℕ) (d : Spot) → k < length xs → find (is_covered B) xs ≡ find (is_covered B) (drop k xs) →
-    is_covered B (get_or xs k d) ≡ true → find (is_covered B) xs ≡ Some (get_or xs k d)
-search_stops B xs k d lt before here =
-    before ∙ ap (find (is_covered B)) (drop_more xs k d lt) ∙ cond-true _ _ _ here
-
-pub search_ends : (B : List Range) (xs : List Spot) (k : ℕ) → length xs ≤ k → find (is_covered B) xs ≡ find (is_covered B) (drop k xs) → find (is_covered B) xs ≡ None
-search_ends B xs k le before = before ∙ ap (find (is_covered B)) (drop_all k xs le)

@@ -1,5 +1,5 @@
 -- The extremes over a span, joined from those of two spans that cover it.
-use Rattle.std.proofs.Common.{◌≡◌, ℕ, zero, suc, ◌+◌, ◌≤◌, ℤ, ◌≤ℤ◌, List, sym, ◌∙◌, subst, arith, inl, inr}
+use Rattle.std.proofs.Common.{◌≡◌, ℕ, zero, suc, ◌+◌, ◌-◌, ◌≤◌, ℤ, ◌≤ℤ◌, List, sym, ◌∙◌, ap, subst, arith, inl, inr}
 use Rattle.std.proofs.lemmas.Bool.{cases_lt}
 use Rattle.std.proofs.lemmas.Int.{ints, clamps}
 use Rattle.std.specs.Int.{int_min, int_max}
@@ -7,7 +7,7 @@ use Rattle.rail_model.specs.Sums.{least, greatest}
 use Rattle.rail_model.specs.Table.{Table, share}
 use Rattle.rail_model.proofs.Sums.{least_le, le_greatest, not_below_least}
 use Rattle.range_sums.specs.declared.extremes.Extremes.{Extremes}
-use Rattle.range_sums.specs.Extremes.{joined, IsExtremes, IsRow, IsJoinedRow}
+use Rattle.range_sums.specs.Extremes.{single, joined, IsExtremes, IsRow, IsJoinedRow}
 
 pub not_above_greatest : (f : ℕ → ℤ) (from n : ℕ) (b : ℤ) → ((k : ℕ) → from ≤ k → k ≤ from + n → f k ≤ℤ b) → greatest f from n ≤ℤ b
 not_above_greatest f from zero b h = h from (omega arith) (omega arith)
@@ -41,6 +41,18 @@ greatest_join f lo n mid a b short low touch ends =
       | inr early ↦ let there : f k ≤ℤ greatest f lo a = le_greatest f lo a k from early in omega (arith, ints, clamps)
     ]) in
     omega (arith, ints, clamps)
+
+-- one place more
+pub extremes_next : (f : ℕ → ℤ) (lo k : ℕ) (value : ℤ) (d e : Extremes) → lo ≤ k → IsExtremes f lo (k - lo) d
+    → e ≡ joined d (single value) → value ≡ f (k + 1) → IsExtremes f lo (k + 1 - lo) e
+extremes_next f lo k value d e le before here is =
+    let more : k + 1 - lo ≡ suc (k - lo) = omega arith in
+    let there : k + 1 ≡ lo + suc (k - lo) = omega arith in
+    let last : value ≡ f (lo + suc (k - lo)) = is ∙ ap f there in
+    subst (λ (n : ℕ). IsExtremes f lo n e) (sym more) (record {
+      least_is = ap (λ (x : Extremes). x.least) here ∙ (λ i. int_min (before.least_is i) (last i));
+      greatest_is = ap (λ (x : Extremes). x.greatest) here ∙ (λ i. int_max (before.greatest_is i) (last i));
+    })
 
 pub extremes_join : (f : ℕ → ℤ) (lo n mid a b : ℕ) (d e : Extremes) → a ≤ n → lo ≤ mid → mid ≤ lo + a + 1 → mid + b ≡ lo + n
     → IsExtremes f lo a d → IsExtremes f mid b e → IsExtremes f lo n (joined d e)

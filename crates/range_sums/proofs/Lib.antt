@@ -5,6 +5,8 @@ pub mod From
 pub mod HeldBack
 pub mod InWay
 pub mod Joins
+pub mod Room
+pub mod Searched
 pub mod Summed
 pub mod Tight
 pub mod Growing

@@ -6,14 +6,13 @@ use Rattle.std.proofs.lemmas.Int.{ints}
 use Rattle.std.proofs.lemmas.List.{get_or-set_same, get_or-set_other, length-set}
 use Rattle.rail_model.specs.Sums.{total_below, least, greatest}
 use Rattle.rail_model.specs.Table.{Table, trains, last, share, IsTable}
-use Rattle.rail_model.specs.Certificate.{Range, range, IsBox, least_share, greatest_share, most_with}
+use Rattle.rail_model.specs.Certificate.{Range, range, IsBox, least_share, greatest_share}
 use Rattle.rail_model.proofs.Boxes.{half_same, half_other}
 use Rattle.rail_model.proofs.Sums.{total_step, not_below_least, least_le, le_greatest}
 use Rattle.range_sums.specs.declared.extremes.Extremes.{Extremes}
 use Rattle.range_sums.specs.declared.sums.Sum.{Sum}
 use Rattle.range_sums.specs.Extremes.{nothing, joined, IsExtremes, IsRow, TrainShares, IsTrainShares, reach}
-use Rattle.range_sums.specs.Sums.{no_sum, greatest_count, IsSum, IsFew, IsSmall}
-use Rattle.range_sums.proofs.Counts.{others_share, own_share, other_share, most_is}
+use Rattle.range_sums.specs.Sums.{no_sum, IsSum, IsFew, IsSmall}
 use Rattle.range_sums.proofs.Joins.{extremes_join, not_above_greatest}
 
 -- the extremes of a span from those of its front and its back
@@ -33,43 +32,6 @@ total_low f (suc n) h =
     let here = h n (omega arith) in
     (omega (arith, ints, before.0, here.0), omega (arith, ints, before.1, here.1))
 
-pub least_bounds : (T : Table) (B : List Range) (s i : ℕ) → IsTable T → IsBox T B → s < length T.sections → i < trains T →
-    (pos 0 ≤ℤ least_share T B s i) × (least_share T B s i ≤ℤ pos 4)
-least_bounds T B s i table boxed s_in lt =
-    let section = table.sections s s_in in
-    let some = boxed.some_place i lt in
-    let ends = boxed.in_range i lt in
-    let at_lo = least_le (share T i s) (range B i).lo ((range B i).hi - (range B i).lo) (range B i).lo (omega arith) (omega arith) in
-    let high = section.not_above i (range B i).lo lt (omega (arith, some, ends)) in (
-      not_below_least (share T i s) (range B i).lo ((range B i).hi - (range B i).lo) (pos 0) (λ k low up. section.not_below i k lt (omega (arith, low, up, some, ends))),
-      omega (arith, ints, at_lo, high),
-    )
-
-pub greatest_bounds : (T : Table) (B : List Range) (s i : ℕ) → IsTable T → IsBox T B → s < length T.sections → i < trains T →
-    (pos 0 ≤ℤ greatest_share T B s i) × (greatest_share T B s i ≤ℤ pos 4)
-greatest_bounds T B s i table boxed s_in lt =
-    let section = table.sections s s_in in
-    let some = boxed.some_place i lt in
-    let ends = boxed.in_range i lt in
-    let at_lo = le_greatest (share T i s) (range B i).lo ((range B i).hi - (range B i).lo) (range B i).lo (omega arith) (omega arith) in
-    let low = section.not_below i (range B i).lo lt (omega (arith, some, ends)) in (
-      omega (arith, ints, at_lo, low),
-      not_above_greatest (share T i s) (range B i).lo ((range B i).hi - (range B i).lo) (pos 4) (λ k from up. section.not_above i k lt (omega (arith, from, up, some, ends))),
-    )
-
--- the sums of a table are small
-pub sum_small : (T : Table) (B : List Range) (s : ℕ) (sum : Sum) → IsTable T → IsBox T B → s < length T.sections → IsSum T B s sum → IsSmall sum
-sum_small T B s sum table boxed s_in is =
-    let few = table.few_trains in
-    let low = total_low (least_share T B s) (trains T) (λ i lt. least_bounds T B s i table boxed s_in lt) in
-    let high = total_low (greatest_share T B s) (trains T) (λ i lt. greatest_bounds T B s i table boxed s_in lt) in
-    record {
-      least_low = omega (arith, ints, is.least_is, low.0);
-      least_high = omega (arith, ints, is.least_is, low.1, few);
-      greatest_low = omega (arith, ints, is.greatest_is, high.0);
-      greatest_high = omega (arith, ints, is.greatest_is, high.1, few);
-    }
-
 -- the extremes of a span of places
 pub extremes_few : (T : Table) (i s lo hi : ℕ) (e : Extremes) → IsTable T → s < length T.sections → i < trains T → lo ≤ hi → hi ≤ last T i →
     IsExtremes (share T i s) lo (hi - lo) e → IsFew e
@@ -87,6 +49,31 @@ extremes_few T i s lo hi e table s_in lt some ends is =
       greatest_low = omega (arith, ints, is.greatest_is, greatest_at, low);
       greatest_high = omega (arith, ints, is.greatest_is, greatest_to);
     }
+
+-- those of a train's range in a box
+box_few : (T : Table) (B : List Range) (s i : ℕ) → IsTable T → IsBox T B → s < length T.sections → i < trains T
+    → IsFew (record { least = least_share T B s i; greatest = greatest_share T B s i })
+box_few T B s i table boxed s_in lt =
+    extremes_few T i s (range B i).lo (range B i).hi _ table s_in lt (boxed.some_place i lt) (boxed.in_range i lt)
+    (record { least_is = refl; greatest_is = refl })
+
+-- the sums of a table are small
+pub sum_small : (T : Table) (B : List Range) (s : ℕ) (sum : Sum) → IsTable T → IsBox T B → s < length T.sections → IsSum T B s sum → IsSmall sum
+sum_small T B s sum table boxed s_in is =
+    let few = table.few_trains in
+    let low = total_low (least_share T B s) (trains T) (λ i lt. let e = box_few T B s i table boxed s_in lt in (e.least_low, e.least_high)) in
+    let high = total_low (greatest_share T B s) (trains T) (λ i lt. let e = box_few T B s i table boxed s_in lt in (e.greatest_low, e.greatest_high)) in
+    record {
+      least_low = omega (arith, ints, is.least_is, low.0);
+      least_high = omega (arith, ints, is.least_is, low.1, few);
+      greatest_low = omega (arith, ints, is.greatest_is, high.0);
+      greatest_high = omega (arith, ints, is.greatest_is, high.1, few);
+    }
+
+-- a train's range in a box is of places of the train
+pub some_span : (T : Table) (B : List Range) (i : ℕ) (r : Range) → IsBox T B → i < trains T → r ≡ range B i → (r.lo ≤ r.hi) × (r.hi ≤ last T i)
+some_span T B i r boxed lt same =
+    subst (λ (q : Range). (q.lo ≤ q.hi) × (q.hi ≤ last T i)) (sym same) (boxed.some_place i lt, boxed.in_range i lt)
 
 -- the extremes of a section from the two rows of a span
 pub row_spanned : (T : Table) (i s lo hi : ℕ) (S : TrainShares) (front back : List Extremes) (d e j : Extremes) → lo ≤ hi → hi ≤ last T i → IsTrainShares T i S →
@@ -137,11 +124,3 @@ moving_next T B C done sums sum before lt here = record {
   ];
   kept = λ s l r. subst (IsSum T B s) (sym (get_or-set_other sums done s sum no_sum (λ e. omega (arith, e)))) (before.kept s (omega arith) r);
 }
-
--- most_with by the sum of all greatest shares
-pub most_sum : (T : Table) (B : List Range) (s i k : ℕ) → i < trains T → most_with T B s i k +ℤ greatest_share T B s i ≡ greatest_count T B s +ℤ share T i s k
-most_sum T B s i k lt =
-    let all = total_step (greatest_share T B s) (others_share T B s i) (trains T) i (greatest_share T B s i) lt
-    (omega (arith, ints, own_share T B s i i refl))
-    (λ j lt_j other. sym (other_share T B s i j other)) in
-    omega (arith, ints, all, most_is T B s i k lt)

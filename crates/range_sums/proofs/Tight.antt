@@ -1,5 +1,5 @@
 -- The first tight rise is of the first section that may have no room.
-use Rattle.std.proofs.Common.{◌≡◌, ℕ, zero, suc, ◌+◌, ◌<◌, ◌≤◌, pos, Bool, true, false, List, [], ◌∷◌, ◌++◌, length, Option, Some, None, refl, sym, ◌∙◌, ap, subst, arith, inl, inr, append_assoc}
+use Rattle.std.proofs.Common.{◌≡◌, ℕ, zero, suc, ◌+◌, ◌<◌, ◌≤◌, pos, Bool, true, false, List, [], ◌∷◌, length, Option, Some, None, refl, sym, subst, arith, inl, inr}
 use Rattle.std.specs.Prelude.{find, All, MatchOption, Decides, option_map, if◌then◌else◌, ◌<ℤ◌, int_lt}
 use Rattle.std.specs.Option.{option_or}
 use Rattle.std.proofs.lemmas.List.Elements.{All-nil, All-cons, All-append}
@@ -20,19 +20,6 @@ IsTight T B i r = IsIn r.place (range B i) × (pos (limit T r.section) <ℤ most
 
 pub Decides-tight : (T : Table) (B : List Range) (i : ℕ) (r : Rise) → Decides (is_tight T B i r) (IsTight T B i r)
 Decides-tight T B i r = Decides-and _ _ (Decides-and _ _ (Decides-leb _ _) (Decides-leb _ _)) (Decides-int_lt _ _)
-
-same_decision : (a b : Bool) (P Q : Type 0) → Decides a P → Decides b Q → (P → Q) → (Q → P) → a ≡ b
-same_decision true true P Q d e to from = refl
-same_decision false false P Q d e to from = refl
-same_decision true false P Q d e to from = let f : false ≡ true = e.1 (to (d.0 refl)) in cc
-same_decision false true P Q d e to from = let f : false ≡ true = d.1 (from (e.0 refl)) in cc
-
--- in the range the test is whether there may be no room
-pub tight_is : (T : Table) (B : List Range) (i : ℕ) (r : Rise) (b : Bool) → IsIn r.place (range B i) →
-    Decides b (pos (limit T r.section) <ℤ most_with T B r.section i (r.place + 1)) → b ≡ is_tight T B i r
-tight_is T B i r b inside d =
-    same_decision b (is_tight T B i r) (pos (limit T r.section) <ℤ most_with T B r.section i (r.place + 1)) (IsTight T B i r) d (Decides-tight T B i r)
-    (λ over. (inside, over)) (λ h. h.1)
 
 -- the section s may have no room at a place below a
 abbrev FullBelow : Table → List Range → ℕ → ℕ → ℕ → ℕ → Type 0
@@ -132,17 +119,3 @@ pub known_rises : (T : Table) (i n : ℕ) → n ≤ length T.sections → All (I
 known_rises T i zero le = All-nil (IsRise T i)
 known_rises T i (suc n) le =
     All-append (IsRise T i) (rises T i n) _ (known_rises T i n (omega arith)) (known_in T i n (last T i) (omega arith) (omega arith))
-
--- ---- steps of loops
-
-pub section_next : (T : Table) (i s a : ℕ) (old w v : List Rise) → w ≡ old ++ rises_in T i s a →
-    v ≡ w ++ (if int_lt (pos 0) (change T i s (a + 1)) then record { section = s; place = a; share = share T i s (a + 1) } ∷ [] else []) → v ≡ old ++ rises_in T i s (a + 1)
-section_next T i s a old w v before here =
-    let tail : List Rise = (if int_lt (pos 0) (change T i s (a + 1)) then record { section = s; place = a; share = share T i s (a + 1) } ∷ [] else []) in
-    let next : a + 1 ≡ suc a = omega arith in
-    here ∙ ap (λ (u : List Rise). u ++ tail) before ∙ append_assoc old (rises_in T i s a) tail ∙ ap (λ (n : ℕ). old ++ rises_in T i s n) (sym next)
-
-pub rises_next : (T : Table) (i n : ℕ) (w v : List Rise) → w ≡ rises T i n → v ≡ w ++ rises_in T i n (last T i) → v ≡ rises T i (n + 1)
-rises_next T i n w v before here =
-    let next : n + 1 ≡ suc n = omega arith in
-    here ∙ ap (λ (u : List Rise). u ++ rises_in T i n (last T i)) before ∙ ap (rises T i) (sym next)

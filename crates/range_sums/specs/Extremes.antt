@@ -9,6 +9,10 @@ use Rattle.range_sums.specs.Each.{IsEach}
 abbrev pub nothing : Extremes
 nothing = record { least = pos 0; greatest = pos 0 }
 
+-- the extremes of one share
+abbrev pub single : ℤ → Extremes
+single share = record { least = share; greatest = share }
+
 -- the extremes of two spans together
 abbrev pub joined : Extremes → Extremes → Extremes
 joined a b = record { least = int_min a.least b.least; greatest = int_max a.greatest b.greatest }

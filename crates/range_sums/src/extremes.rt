@@ -15,7 +15,17 @@ pub struct Extremes {
 }
 
 impl Extremes {
-    ghost use Rattle.range_sums.specs.Extremes.{joined as joined_of};
+    ghost use Rattle.range_sums.specs.Extremes.{joined as joined_of, single as single_of};
+
+    /// The extremes of one share.
+    pub(crate) fn single(share: i32) -> Extremes
+        ensures { result ≡ single_of share }
+    {
+        Extremes {
+            least: share,
+            greatest: share,
+        }
+    }
 
     /// The extremes of two spans together.
     pub fn joined(self, other: Extremes) -> Extremes
@@ -62,10 +72,7 @@ pub fn first_row(alloc: Global, table: &Table, train: u32) -> Result<Row, AllocE
     let mut cells = Vec::new(alloc);
     for section in 0..sections_of(table) {
         let share = share_at(table, train, section, 0);
-        cells.push(Extremes {
-            least: share,
-            greatest: share,
-        })?;
+        cells.push(Extremes::single(share))?;
     }
     Ok(Row { cells })
 }
@@ -86,10 +93,7 @@ pub fn next_row(
     let mut cells = Vec::new(alloc);
     for section in 0..sections_of(table) {
         let share = row.cell(section).least + change_at(table, train, section, place + 1);
-        cells.push(Extremes {
-            least: share,
-            greatest: share,
-        })?;
+        cells.push(Extremes::single(share))?;
     }
     Ok(Row { cells })
 }

@@ -168,15 +168,6 @@ impl TrainShares {
         front.cell(section).joined(back.cell(section))
     }
 
-    /// The row of a place.
-    pub fn at(&self, table: &Table, train: u32, place: u32) -> &Row
-        requires shares { IsTrainShares table.now train self.now }
-        requires place { place ≤ last table.now train }
-        ensures { IsRow table.now train place 0 result.now }
-    {
-        self.levels[0].row(place)
-    }
-
     /// The row of the first places of a span.
     pub fn front(&self, table: &Table, train: u32, span: Span) -> &Row
         requires shares { IsTrainShares table.now train self.now }

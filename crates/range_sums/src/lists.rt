@@ -1,7 +1,9 @@
 // What is listed once of a table.
 ghost use Rattle.std.specs.Prelude.{◌≡◌, IfOk};
 
-use crate::{Rises, Shares, Ways, rises_of, ways_of};
+use crate::rises::rises_of;
+use crate::ways::ways_of;
+use crate::{Rises, Shares, Ways};
 use rail_model::Table;
 use std::alloc::{AllocError, Global};
 use std::marker::Model;

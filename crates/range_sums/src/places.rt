@@ -21,7 +21,7 @@ pub fn stays_at(table: &Table, train: u32, span: Span, at: u32) -> bool
 }
 
 /// Whether a connection may hold a train.
-pub fn may_be_held(table: &Table, ranges: &Ranges, train: u32, number: u32) -> bool
+pub(crate) fn may_be_held(table: &Table, ranges: &Ranges, train: u32, number: u32) -> bool
     requires size { length ranges.now ≡ trains table.now }
     requires train { train < trains table.now }
     requires connection { number < length table.now.connections }
@@ -30,7 +30,6 @@ pub fn may_be_held(table: &Table, ranges: &Ranges, train: u32, number: u32) -> b
     let connection = connection_of(table, number);
     let span = ranges.span(train);
     connection.train() == train
-        && span.lo() <= connection.place()
-        && connection.place() <= span.hi()
+        && span.contains(connection.place())
         && ranges.span(connection.other()).lo() < connection.reached()
 }

@@ -25,6 +25,9 @@ impl Model for Span {
 }
 
 impl Span {
+    ghost use Rattle.std.specs.Prelude.{◌≡◌, IsTrue, ◌↔◌};
+    ghost use Rattle.rail_model.specs.Certificate.{IsIn};
+
     pub fn new(lo: u32, hi: u32) -> Self
         ensures { result ≡ record { lo = lo; hi = hi } }
     {
@@ -41,6 +44,13 @@ impl Span {
         ensures { result ≡ self.hi }
     {
         self.hi
+    }
+
+    /// Whether a place is one of them.
+    pub fn contains(self, place: u32) -> bool
+        ensures { IsTrue result ↔ IsIn place self }
+    {
+        self.lo <= place && place <= self.hi
     }
 }
 

@@ -118,7 +118,7 @@ fn train_rises(alloc: Global, table: &Table, train: u32) -> Result<TrainRises, A
 }
 
 /// The rises of all trains of a table.
-pub fn rises_of(alloc: Global, table: &Table) -> Result<Rises, AllocError>
+pub(crate) fn rises_of(alloc: Global, table: &Table) -> Result<Rises, AllocError>
     ensures { IfOk result (AreRises table.now) }
 {
     let mut all = Vec::new(alloc);
@@ -126,6 +126,22 @@ pub fn rises_of(alloc: Global, table: &Table) -> Result<Rises, AllocError>
         all.push(train_rises(alloc, table, train)?)?;
     }
     Ok(Rises { trains: all })
+}
+
+// A train's share behind a rise and the other trains' greatest shares.
+fn most_behind(table: &Table, shares: &Shares, sums: &RangeSums, train: u32, rise: Rise) -> i32
+    requires formed { IsTable table.now }
+    requires shares { IsShares table.now shares.now }
+    requires sums { AreSums table.now sums.now }
+    requires train { train < trains table.now }
+    requires rise { IsRise table.now train rise }
+    ensures { result ≡ most_with table.now sums.now.ranges rise.section train (rise.place + 1) }
+{
+    let span = sums.ranges().span(train);
+    let own = shares
+        .train(train)
+        .extremes(table, train, span, rise.section);
+    sums.sum(rise.section).greatest - own.greatest + rise.share
 }
 
 // Whether a train's share behind a rise and the other trains' greatest shares may pass the limit.
@@ -137,15 +153,7 @@ fn lacks_room(table: &Table, shares: &Shares, sums: &RangeSums, train: u32, rise
     ensures { IsTrue result ↔ (pos (limit table.now rise.section) <ℤ most_with table.now sums.now.ranges rise.section train (rise.place + 1)) }
 {
     let limit = limit_of(table, rise.section) as i32;
-    let span = sums.ranges().span(train);
-    let own = shares
-        .train(train)
-        .extremes(table, train, span, rise.section);
-    let most = sums.sum(rise.section).greatest - own.greatest as i32 + rise.share;
-    if limit < most {
-        return true;
-    }
-    false
+    limit < most_behind(table, shares, sums, train, rise)
 }
 
 // Whether a section may have no room for a train's step from the place of a rise.
@@ -157,10 +165,7 @@ fn is_tight(table: &Table, shares: &Shares, sums: &RangeSums, train: u32, rise: 
     ensures { result ≡ is_tight_of table.now sums.now.ranges train rise }
 {
     let span = sums.ranges().span(train);
-    if rise.place < span.lo() || span.hi() < rise.place {
-        return false;
-    }
-    lacks_room(table, shares, sums, train, rise)
+    span.contains(rise.place) && lacks_room(table, shares, sums, train, rise)
 }
 
 // The section of the first rise at which there may be no room.

@@ -2,9 +2,30 @@
 ghost use Rattle.std.specs.Prelude.{◌≡◌, ◌-◌, ◌<◌, ◌≤◌, pos, ◌≤ℤ◌, length};
 ghost use Rattle.rail_model.specs.Sums.{least, greatest};
 ghost use Rattle.rail_model.specs.Table.{IsTable, trains, last, share};
+ghost use Rattle.range_sums.specs.Extremes.{IsExtremes};
+ghost use Rattle.range_sums.specs.Sums.{IsFew};
 
-use crate::Span;
+use crate::{Extremes, Span};
 use rail_model::{Table, change_at, share_at};
+
+/// The least and the greatest share of a train in a span, looked up place by place.
+pub(crate) fn extremes_in(table: &Table, train: u32, section: u32, span: Span) -> Extremes
+    requires train { train < trains table.now }
+    requires section { section < length table.now.sections }
+    requires some { span.lo ≤ span.hi }
+    requires in_range { span.hi ≤ last table.now train }
+    ensures extremes { IsExtremes (share table.now train section) span.lo (span.hi - span.lo) result }
+    ensures few { IsFew result }
+    ensures formed { IsTable table.now }
+{
+    let mut share = share_at(table, train, section, span.lo());
+    let mut extremes = Extremes::single(share);
+    for place in span.lo()..span.hi() {
+        share += change_at(table, train, section, place + 1);
+        extremes = extremes.joined(Extremes::single(share));
+    }
+    extremes
+}
 
 /// The least share of a train in a span.
 pub fn least_share(table: &Table, train: u32, section: u32, span: Span) -> i32
@@ -17,13 +38,8 @@ pub fn least_share(table: &Table, train: u32, section: u32, span: Span) -> i32
     ensures high { result ≤ℤ pos 4 }
     ensures formed { IsTable table.now }
 {
-    let mut share = share_at(table, train, section, span.lo());
-    let mut least = share;
-    for place in span.lo()..span.hi() {
-        share += change_at(table, train, section, place + 1);
-        least = least.min(share);
-    }
-    least
+    let extremes = extremes_in(table, train, section, span);
+    extremes.least
 }
 
 /// The greatest share of a train in a span.
@@ -37,11 +53,6 @@ pub fn greatest_share(table: &Table, train: u32, section: u32, span: Span) -> i3
     ensures high { result ≤ℤ pos 4 }
     ensures formed { IsTable table.now }
 {
-    let mut share = share_at(table, train, section, span.lo());
-    let mut greatest = share;
-    for place in span.lo()..span.hi() {
-        share += change_at(table, train, section, place + 1);
-        greatest = greatest.max(share);
-    }
-    greatest
+    let extremes = extremes_in(table, train, section, span);
+    extremes.greatest
 }

@@ -8,7 +8,8 @@ ghost use Rattle.range_sums.specs.Extremes.{IsShares};
 ghost use Rattle.range_sums.specs.Sums.{no_sum, IsSum, IsFew, IsSmall, AreSums};
 
 use crate::extremes::Extremes;
-use crate::{Ranges, Shares, Span, full_box, greatest_share, least_share};
+use crate::shares::extremes_in;
+use crate::{Ranges, Shares, Span, full_box};
 use rail_model::{Table, limit_of, sections_of, trains_of};
 use std::alloc::{AllocError, Global};
 use std::marker::Model;
@@ -44,8 +45,9 @@ fn sum_of(table: &Table, ranges: &Ranges, section: u32) -> Sum
     let mut least: i32 = 0;
     let mut greatest: i32 = 0;
     for train in 0..trains_of(table) {
-        least += least_share(table, train, section, ranges.span(train));
-        greatest += greatest_share(table, train, section, ranges.span(train));
+        let extremes = extremes_in(table, train, section, ranges.span(train));
+        least += extremes.least;
+        greatest += extremes.greatest;
     }
     Sum { least, greatest }
 }
@@ -58,8 +60,8 @@ fn moved(sum: Sum, old: Extremes, new: Extremes) -> Sum
     ensures least { result.least ≡ sum.least +ℤ (new.least -ℤ old.least) }
     ensures greatest { result.greatest ≡ sum.greatest +ℤ (new.greatest -ℤ old.greatest) }
 {
-    let least = sum.least + (new.least as i32 - old.least as i32);
-    let greatest = sum.greatest + (new.greatest as i32 - old.greatest as i32);
+    let least = sum.least + (new.least - old.least);
+    let greatest = sum.greatest + (new.greatest - old.greatest);
     Sum { least, greatest }
 }
 

@@ -154,7 +154,7 @@ fn train_ways(alloc: Global, table: &Table, train: u32) -> Result<TrainWays, All
 }
 
 /// The spots ahead of each place of each train.
-pub fn ways_of(alloc: Global, table: &Table) -> Result<Ways, AllocError>
+pub(crate) fn ways_of(alloc: Global, table: &Table) -> Result<Ways, AllocError>
     ensures { IfOk result (AreWays table.now) }
 {
     let mut all = Vec::new(alloc);
@@ -169,8 +169,7 @@ fn is_covered(ranges: &Ranges, spot: Spot) -> bool
     requires { spot.train < length ranges.now }
     ensures { result ≡ is_covered_of ranges.now spot }
 {
-    let span = ranges.span(spot.train);
-    span.lo() <= spot.place && spot.place <= span.hi()
+    ranges.span(spot.train).contains(spot.place)
 }
 
 // The first spot that is in the range of its train.
@@ -211,10 +210,8 @@ pub fn first_in_way(
     requires place { place ≤ last table.now train }
     ensures { IsFirstOrNone (IsInWay table.now ranges.now train place) result }
 {
-    match first_spot(ways, table, ranges, train, place) {
-        Some(spot) => Some(spot.train),
-        None => None,
-    }
+    let spot = first_spot(ways, table, ranges, train, place)?;
+    Some(spot.train)
 }
 
 /// A place of a train, and a spot at the point behind it at which another train may stand in some box.
@@ -225,7 +222,7 @@ pub struct Block {
 }
 
 /// The first block of a train from its first place on.
-pub fn first_block(ways: &Ways, table: &Table, ranges: &Ranges, train: u32) -> Option<Block>
+pub(crate) fn first_block(ways: &Ways, table: &Table, ranges: &Ranges, train: u32) -> Option<Block>
     requires ways { AreWays table.now ways.now }
     requires boxed { IsBox table.now ranges.now }
     requires train { train < trains table.now }
@@ -254,7 +251,7 @@ fn is_ahead(table: &Table, train: u32, place: u32, spot: Spot) -> bool
 }
 
 /// Whether a block that was found in some box is one in this box too.
-pub fn is_block(table: &Table, ranges: &Ranges, train: u32, block: Block) -> bool
+pub(crate) fn is_block(table: &Table, ranges: &Ranges, train: u32, block: Block) -> bool
     requires boxed { IsBox table.now ranges.now }
     requires train { train < trains table.now }
     ensures { IsTrue result → MayBlock table.now ranges.now train block.spot.train }

@@ -31,6 +31,6 @@ loop-section-preserved c =
     let bounds = share_bounds T i s (k + 1) c.change_at.ensures.formed c.requires.train (omega (arith, c.sections_of-section-end.ensures.count)) (omega arith) in
     subst (IsEach (λ s e. IsExtremes (share T i s) (k + 1) 0 e) (s + 1) nothing) (sym c.in_ok-push.ensures.items)
     (each_push (λ s e. IsExtremes (share T i s) (k + 1) 0 e) s nothing _ _ c.loop-section.invariant (record {
-      least_is = omega (arith, ints, here, read, c.change_at.ensures.change, share_next T i s k, bounds);
-      greatest_is = omega (arith, ints, here, read, c.change_at.ensures.change, share_next T i s k, bounds);
+      least_is = omega (arith, ints, ap (λ (e : Extremes). e.least) c.single.ensures, here, read, c.change_at.ensures.change, share_next T i s k, bounds);
+      greatest_is = omega (arith, ints, ap (λ (e : Extremes). e.greatest) c.single.ensures, here, read, c.change_at.ensures.change, share_next T i s k, bounds);
     }))

@@ -1,10 +1,10 @@
-use Rattle.std.proofs.Common.{◌-◌, ◌<◌, ◌≤◌, length, get_or, sym, ap, subst, arith}
+use Rattle.std.proofs.Common.{◌-◌, ◌<◌, length, get_or, sym, subst, arith}
 use Rattle.std.specs.Prelude.{slice_set}
-use Rattle.rail_model.specs.Table.{last, share}
+use Rattle.rail_model.specs.Table.{share}
 use Rattle.rail_model.specs.Certificate.{Range}
 use Rattle.range_sums.specs.Extremes.{IsExtremes, IsTrainShares}
 use Rattle.range_sums.specs.Sums.{no_sum}
-use Rattle.range_sums.proofs.Summed.{moving_next, sum_small, sum_moved, extremes_few, row_spanned}
+use Rattle.range_sums.proofs.Summed.{moving_next, sum_small, sum_moved, extremes_few, some_span, row_spanned}
 use Rattle.range_sums.proofs.sums.move_sums.Goals as goal
 
 pub loop-section-init : goal.loop-section-init
@@ -28,12 +28,9 @@ moved-requires-clause-old c =
     let s = c.loop-section.section in
     let s_in : s < length T.sections = omega (arith, c.loop-section-test.true, c.sections_of-section-end.ensures.count) in
     let rows = subst (IsTrainShares T i) (sym c.train-rows.ensures) (c.requires.shares.1 i c.requires.train) in
-    let lo = ap (λ (r : Range). r.lo) c.span-old.ensures in
-    let hi = ap (λ (r : Range). r.hi) c.span-old.ensures in
-    let some : c.span-old.result.lo ≤ c.span-old.result.hi = omega (arith, lo, hi, c.requires.boxed.some_place i c.requires.train) in
-    let ends : c.span-old.result.hi ≤ last T i = omega (arith, hi, c.requires.boxed.in_range i c.requires.train) in
-    extremes_few T i s c.span-old.result.lo c.span-old.result.hi _ c.sections_of-section-end.ensures.formed s_in c.requires.train some ends
-    (row_spanned T i s _ _ _ _ _ _ _ _ some ends rows s_in c.front-old_front.ensures c.back-old_back.ensures c.cell.ensures c.cell-in-loop-section.ensures c.joined-before.ensures)
+    let span = some_span T B i _ c.requires.boxed c.requires.train c.span-old.ensures in
+    extremes_few T i s _ _ _ c.sections_of-section-end.ensures.formed s_in c.requires.train span.0 span.1
+    (row_spanned T i s _ _ _ _ _ _ _ _ span.0 span.1 rows s_in c.front-old_front.ensures c.back-old_back.ensures c.cell.ensures c.cell-in-loop-section.ensures c.joined-before.ensures)
 
 pub moved-requires-clause-new : goal.moved-requires-clause-new
 moved-requires-clause-new c =
@@ -42,7 +39,7 @@ moved-requires-clause-new c =
     let s = c.loop-section.section in
     let s_in : s < length T.sections = omega (arith, c.loop-section-test.true, c.sections_of-section-end.ensures.count) in
     let rows = subst (IsTrainShares T i) (sym c.train-rows.ensures) (c.requires.shares.1 i c.requires.train) in
-    extremes_few T i s c.args.span.lo c.args.span.hi _ c.sections_of-section-end.ensures.formed s_in c.requires.train c.requires.some c.requires.in_range
+    extremes_few T i s _ _ _ c.sections_of-section-end.ensures.formed s_in c.requires.train c.requires.some c.requires.in_range
     (row_spanned T i s _ _ _ _ _ _ _ _ c.requires.some c.requires.in_range rows s_in c.front-front.ensures c.back-back.ensures c.cell-in-loop-section-2.ensures c.cell-in-loop-section-3.ensures c.joined-after.ensures)
 
 pub loop-section-preserved : goal.loop-section-preserved
@@ -53,11 +50,8 @@ loop-section-preserved c =
     let s = c.loop-section.section in
     let s_in : s < length T.sections = omega (arith, c.loop-section-test.true, c.sections_of-section-end.ensures.count) in
     let rows = subst (IsTrainShares T i) (sym c.train-rows.ensures) (c.requires.shares.1 i c.requires.train) in
-    let lo = ap (λ (r : Range). r.lo) c.span-old.ensures in
-    let hi = ap (λ (r : Range). r.hi) c.span-old.ensures in
-    let some : c.span-old.result.lo ≤ c.span-old.result.hi = omega (arith, lo, hi, c.requires.boxed.some_place i c.requires.train) in
-    let ends : c.span-old.result.hi ≤ last T i = omega (arith, hi, c.requires.boxed.in_range i c.requires.train) in
-    let before = row_spanned T i s _ _ _ _ _ _ _ _ some ends rows s_in c.front-old_front.ensures c.back-old_back.ensures c.cell.ensures c.cell-in-loop-section.ensures c.joined-before.ensures in
+    let span = some_span T B i _ c.requires.boxed c.requires.train c.span-old.ensures in
+    let before = row_spanned T i s _ _ _ _ _ _ _ _ span.0 span.1 rows s_in c.front-old_front.ensures c.back-old_back.ensures c.cell.ensures c.cell-in-loop-section.ensures c.joined-before.ensures in
     let after = row_spanned T i s _ _ _ _ _ _ _ _ c.requires.some c.requires.in_range rows s_in c.front-front.ensures c.back-back.ensures c.cell-in-loop-section-2.ensures c.cell-in-loop-section-3.ensures c.joined-after.ensures in
     moving_next T B (slice_set B i c.args.span) s c.loop-section.sums c.moved.result c.loop-section.invariant s_in
     (sum_moved T B i s c.args.span (get_or c.loop-section.sums s no_sum) c.moved.result _ _ c.requires.train c.requires.boxed.one_each

@@ -14,15 +14,16 @@ loop-train-preserved c =
     let i = c.loop-train.train in
     let least_next = total_next (least_share T B s) i in
     let greatest_next = total_next (greatest_share T B s) i in
-    let low = c.least_share-least.ensures in
-    let high = c.greatest_share-greatest.ensures in
+    let here = c.extremes_in-extremes.ensures in
+    let is = here.extremes in
+    let few = here.few in
     let at_least = ap (λ (r : Range). least (share T i s) r.lo (r.hi - r.lo)) c.span.ensures in
-    let at_greatest = ap (λ (r : Range). greatest (share T i s) r.lo (r.hi - r.lo)) c.span-in-loop-train.ensures in
+    let at_greatest = ap (λ (r : Range). greatest (share T i s) r.lo (r.hi - r.lo)) c.span.ensures in
     record {
-      least_is = omega (arith, ints, least_next, at_least, low.least, low.low, low.high);
-      least_low = omega (arith, ints, low.low, low.high);
-      least_high = omega (arith, ints, low.low, low.high);
-      greatest_is = omega (arith, ints, greatest_next, at_greatest, high.greatest, high.low, high.high);
-      greatest_low = omega (arith, ints, high.low, high.high);
-      greatest_high = omega (arith, ints, high.low, high.high);
+      least_is = omega (arith, ints, least_next, at_least, is.least_is, few.least_low, few.least_high);
+      least_low = omega (arith, ints, few.least_low, few.least_high);
+      least_high = omega (arith, ints, few.least_low, few.least_high);
+      greatest_is = omega (arith, ints, greatest_next, at_greatest, is.greatest_is, few.greatest_low, few.greatest_high);
+      greatest_low = omega (arith, ints, few.greatest_low, few.greatest_high);
+      greatest_high = omega (arith, ints, few.greatest_low, few.greatest_high);
     }
