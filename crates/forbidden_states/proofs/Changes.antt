@@ -59,9 +59,6 @@ total-behind r (suc n) f h = elim (leb_tells n (r.hi + 1)) [
 abbrev pub inside : Range → ℕ → ℤ
 inside r k = if nat_le r.lo k && nat_le k r.hi then pos 1 else pos 0
 
-leb-false : (a b : ℕ) → b < a → nat_le a b ≡ false
-leb-false a b h = elim (leb_tells a b) [ inl e ↦ absurd (omega (arith, e.1)) | inr e ↦ e.0 ]
-
 pub inside-in : (r : Range) (k : ℕ) → IsIn k r → inside r k ≡ pos 1
 inside-in r k i = rw (le-leb r.lo k i.0, le-leb k r.hi i.1) refl
 
