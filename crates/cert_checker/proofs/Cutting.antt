@@ -1,6 +1,6 @@
 -- Parts that are divided stand for the same visits, and their first fault is the tree's.
 use Rattle.std.proofs.Common.{◌≡◌, ℕ, ◌+◌, List, [], ◌∷◌, ◌++◌, length, drop, refl, sym, ◌∙◌, ap, subst, arith, append_assoc, length-append}
-use Rattle.std.specs.Prelude.{All, Result, Ok, Err, MatchResult}
+use Rattle.std.specs.Prelude.{All, Result, Ok, Err, OnOk, IfErr, MatchResult}
 use Rattle.std.specs.List.{AllZip}
 use Rattle.std.proofs.lemmas.List.{append-nil, drop_more}
 use Rattle.std.proofs.lemmas.List.Elements.{All-nil, All-push, All-append}
@@ -8,13 +8,15 @@ use Rattle.rail_model.specs.declared.types.Node.{Node}
 use Rattle.rail_model.specs.declared.types.Node.TheVariants.{Split}
 use Rattle.rail_model.specs.declared.types.Bad.{Bad}
 use Rattle.rail_model.specs.Table.{Table}
-use Rattle.rail_model.specs.Certificate.{left_half, right_half, IsGood}
+use Rattle.rail_model.specs.Certificate.{left_half, right_half, full_box, IsGood, Tree, preorder, visits, Accepts}
 use Rattle.rail_model.proofs.Visits.{Visit, IsGoodVisit}
 use Rattle.cert_checker.specs.declared.parts.Part.{Part}
 use Rattle.cert_checker.specs.declared.faults.CheckFault.{CheckFault}
 use Rattle.cert_checker.specs.declared.faults.CheckFault.TheVariants.{Memory, Bad as BadNode}
+use Rattle.cert_checker.specs.Faults.{HasFault}
 use Rattle.cert_checker.specs.Walked.{walked, IsFirstBad, StopsAt}
 use Rattle.cert_checker.specs.Cut.{IsEnd, IsCut, IsDivided, IsChecked, Divides, part_visits, first_fault}
+use Rattle.cert_checker.proofs.Whole.{walk_whole, visits_answer}
 
 -- one part is the whole
 pub one_part : (T : Table) (nodes : List Node) (part : Part) → part.first ≡ 0 → IsCut T nodes 0 (part ∷ []) (part_visits nodes part)
@@ -100,8 +102,8 @@ stops_shifted : (T : Table) (visits front middle rest : List Visit) (at : ℕ) (
 stops_shifted T visits front middle rest at Memory whole good stop = tt
 stops_shifted T visits front middle rest at (BadNode e) whole good stop = shifted T visits front middle rest at e whole good stop
 
--- what the parts answer is what the tree answers
-pub answered : (T : Table) (nodes : List Node) (parts : List Part) (answers : List (Result (Unit {0}) CheckFault)) (at : ℕ) (visits : List Visit)
+-- what the parts answer is what the visits answer
+answered : (T : Table) (nodes : List Node) (parts : List Part) (answers : List (Result (Unit {0}) CheckFault)) (at : ℕ) (visits : List Visit)
     → IsCut T nodes at parts visits → AllZip (λ p r. IsChecked T nodes p r) parts answers
     → MatchResult (first_fault answers) (λ _. All (λ v. IsGood T v.0 v.1) visits) (StopsAt T visits at)
 answered T nodes [] [] at visits cut all = cut
@@ -129,3 +131,17 @@ answered T nodes (p ∷ ps) (Ok u ∷ rs) at visits cut all =
     joined (Ok u) rest = subst (λ (vs : List Visit). All (λ v. IsGood T v.0 v.1) vs) (sym (whole ∙ ap (λ (vs : List Visit). front ++ vs) (append-nil cut.1)))
         (All-append (IsGoodVisit T) front cut.1 good rest)
     joined (Err e) rest = stops_shifted T visits front cut.1 [] at e whole good (subst (λ (n : ℕ). StopsAt T cut.1 n e) index rest)
+
+in_either : (P : Type 0) (B : CheckFault → Type 0) (r : Result (Unit {0}) CheckFault) → MatchResult r (λ _. P) B → OnOk r P × IfErr r B
+in_either P B (Ok u) h = (h, tt)
+in_either P B (Err e) h = (tt, h)
+
+-- what the parts of a certificate's nodes answer is what the certificate answers
+pub whole_answered : (T : Table) (cert : Tree) (nodes : List Node) (parts : List Part) (answers : List (Result (Unit {0}) CheckFault))
+    → nodes ≡ preorder cert → IsCut T nodes 0 parts (walked (full_box T ∷ []) (drop 0 nodes)) → AllZip (λ p r. IsChecked T nodes p r) parts answers
+    → OnOk (first_fault answers) (Accepts T cert) × IfErr (first_fault answers) (HasFault T cert)
+whole_answered T cert nodes parts answers spelled cut all =
+    let visited = walked (full_box T ∷ []) (drop 0 nodes) in
+    let whole : visited ≡ visits (full_box T) cert = ap (λ (ns : List Node). walked (full_box T ∷ []) (drop 0 ns)) spelled ∙ walk_whole cert (full_box T) in
+    let answer = in_either (All (λ v. IsGood T v.0 v.1) visited) (StopsAt T visited 0) (first_fault answers) (answered T nodes parts answers 0 visited cut all) in
+    visits_answer T cert visited (first_fault answers) whole answer.0 answer.1

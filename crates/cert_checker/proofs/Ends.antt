@@ -1,13 +1,14 @@
 -- Where a tree ends among the nodes.
-use Rattle.std.proofs.Common.{◌≡◌, ℕ, ◌+◌, ◌<◌, ◌≤◌, List, [], ◌∷◌, ◌++◌, length, drop, refl, sym, ◌∙◌, ap, arith, append_assoc, length-append}
+use Rattle.std.proofs.Common.{◌≡◌, ℕ, ◌+◌, ◌<◌, List, [], ◌∷◌, ◌++◌, length, drop, refl, sym, ◌∙◌, ap, arith, append_assoc, length-append}
 use Rattle.std.proofs.lemmas.List.{append-nil, drop_all, nil_from_length}
 use Rattle.rail_model.specs.declared.types.Node.{Node}
 use Rattle.rail_model.specs.declared.types.Node.TheVariants.{Split, Clash, Overfull, Arrived, Move}
 use Rattle.rail_model.specs.Certificate.{Range}
 use Rattle.rail_model.proofs.Visits.{Visit}
-use Rattle.cert_checker.specs.Open.{opened}
+use Rattle.cert_tree.specs.Open.{opened}
+use Rattle.cert_tree.specs.Spelling.{wanted_behind}
 use Rattle.cert_checker.specs.Walked.{walked}
-use Rattle.cert_checker.specs.Cut.{wanted_behind, IsEnd}
+use Rattle.cert_checker.specs.Cut.{IsEnd}
 
 -- from one box, so many boxes are open at the index
 pub record Skipped (nodes : List Node) (first index wanted : ℕ) (B : List Range) : Type 0 where
@@ -77,7 +78,3 @@ skip_all nodes first index wanted all skipped B later =
           ∙ ap (λ (vs : List Visit). vs ++ walked later (drop index nodes)) (sym alone),
       omega (arith, s.count, ap (λ (vs : List Visit). length vs) alone),
     )
-
-pub small_behind : (n : Node) (wanted : ℕ) → wanted_behind n wanted ≤ wanted + 1
-small_behind (Split i m) wanted = omega arith
-small_behind _ wanted = omega arith

@@ -12,9 +12,10 @@ use Rattle.rail_model.specs.Checks.{is_good}
 use Rattle.rail_model.proofs.Agree.{Decides-good}
 use Rattle.rail_model.proofs.Visits.{Visit, IsGoodVisit, shuts}
 use Rattle.cert_checker.specs.declared.faults.CheckFault.TheVariants.{Bad as BadNode}
-use Rattle.cert_checker.specs.Cut.{wanted_behind, first_fault}
+use Rattle.cert_checker.specs.Cut.{first_fault}
 use Rattle.cert_checker.specs.Faults.{HasFault}
-use Rattle.cert_checker.specs.Open.{opened}
+use Rattle.cert_tree.specs.Open.{opened}
+use Rattle.cert_tree.specs.Spelling.{wanted_behind}
 use Rattle.cert_checker.specs.Walked.{walked, waiting}
 
 -- the passing loop: W L1 E against E L2 W

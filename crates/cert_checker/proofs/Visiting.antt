@@ -1,5 +1,5 @@
 -- The walk from the first node of a tree on: what is behind is good, and the open boxes are ahead.
-use Rattle.std.proofs.Common.{◌≡◌, ℕ, ◌+◌, ◌≤◌, List, [], ◌∷◌, ◌++◌, Bool, true, false, length, reverse, drop, refl, sym, ◌∙◌, ap, subst, arith, append_assoc, length-append}
+use Rattle.std.proofs.Common.{◌≡◌, ℕ, ◌+◌, ◌≤◌, List, [], ◌∷◌, ◌++◌, Bool, false, length, reverse, drop, refl, sym, ◌∙◌, ap, subst, arith, append_assoc, length-append}
 use Rattle.std.specs.Prelude.{All}
 use Rattle.std.proofs.lemmas.List.{append-nil, drop_all}
 use Rattle.std.proofs.lemmas.List.Elements.{All-nil, All-push}
@@ -9,7 +9,7 @@ use Rattle.rail_model.specs.Table.{Table}
 use Rattle.rail_model.specs.Certificate.{Range, IsGood, Refuses, index_of}
 use Rattle.rail_model.proofs.Visits.{Visit, IsGoodVisit}
 use Rattle.cert_checker.specs.declared.walk.Step.{Step}
-use Rattle.cert_checker.specs.Open.{opened}
+use Rattle.cert_tree.specs.Open.{opened}
 use Rattle.cert_checker.specs.Walked.{walked, waiting, shown, IsFirstBad, IsRefusal, StopsAt}
 use Rattle.cert_checker.specs.declared.faults.CheckFault.{CheckFault}
 use Rattle.cert_checker.specs.declared.faults.CheckFault.TheVariants.{Memory, Bad as BadNode}
@@ -74,9 +74,6 @@ closed T nodes first index B boxes v none =
 -- behind the last step no box is shown
 pub none_shown : (answer : Bool) (B : List Range) (steps : List Step) → answer ≡ false → steps ≡ [] → shown answer B (waiting B (reverse steps)) ≡ []
 none_shown answer B steps over none = ap (λ (b : Bool). shown b B (waiting B (reverse steps))) over ∙ ap (λ (s : List Step). waiting B (reverse s)) none
-
-pub one_shown : (answer : Bool) (B : List Range) (boxes : List (List Range)) → answer ≡ true → shown answer B boxes ≡ B ∷ boxes
-one_shown answer B boxes found = ap (λ (b : Bool). shown b B boxes) found
 
 pub stops_at : (T : Table) (nodes : List Node) (first index : ℕ) (B C : List Range) (Cs : List (List Range)) (n : Node) (e : CheckFault) → Visiting T nodes first index B (C ∷ Cs)
     → drop index nodes ≡ n ∷ drop (index + 1) nodes → IsRefusal T C n index e → StopsAt T (walked (B ∷ []) (drop first nodes)) first e

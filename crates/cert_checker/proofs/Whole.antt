@@ -1,6 +1,6 @@
 -- The nodes in preorder, each with its box, as a walked with a stack of open boxes visits them.
 use Rattle.std.proofs.Common.{◌≡◌, ℕ, ◌+◌, ◌<◌, ◌≤◌, List, [], ◌∷◌, ◌++◌, length, get_or, drop, refl, sym, ◌∙◌, ap, subst, arith, append_assoc, length-append, zero-add}
-use Rattle.std.specs.Prelude.{All, Result, Ok, Err, OnOk, IfErr, MatchResult}
+use Rattle.std.specs.Prelude.{All, Result, Ok, Err, OnOk, IfErr}
 use Rattle.std.proofs.lemmas.List.{append-nil, drop_all, drop_more}
 use Rattle.std.proofs.lemmas.List.Elements.{All-nil, All-push}
 use Rattle.rail_model.specs.declared.types.Node.{Node}
@@ -9,7 +9,7 @@ use Rattle.rail_model.specs.declared.types.Bad.{Bad}
 use Rattle.rail_model.specs.Table.{Table}
 use Rattle.rail_model.specs.Certificate.{Range, full_box, left_half, right_half, IsGood, Refuses, index_of, Tree, clash, overfull, arrived, move, split, preorder, visits, Accepts, FirstBad}
 use Rattle.rail_model.proofs.Visits.{Visit, IsGoodVisit, shuts}
-use Rattle.cert_checker.specs.Open.{opened}
+use Rattle.cert_tree.specs.Open.{opened}
 use Rattle.cert_checker.specs.declared.faults.CheckFault.{CheckFault}
 use Rattle.cert_checker.specs.declared.faults.CheckFault.TheVariants.{Memory, Bad as BadNode}
 use Rattle.cert_checker.specs.Faults.{HasFault}
@@ -123,22 +123,9 @@ first_bad_visit T c visited (BadNode e) same bad = record {
   refused = bad.refused;
 }
 
-pub on_ok : (T : Table) (c : Tree) (visited : List Visit) (answer : Result (Unit {0}) CheckFault) → visited ≡ visits (full_box T) c
-    → OnOk answer (All (λ v. IsGood T v.0 v.1) visited) → OnOk answer (Accepts T c)
-on_ok T c visited (Ok u) same good = all_accepted T c visited same good
-on_ok T c visited (Err e) same good = tt
-
-pub on_err : (T : Table) (c : Tree) (visited : List Visit) (answer : Result (Unit {0}) CheckFault) → visited ≡ visits (full_box T) c
-    → IfErr answer (StopsAt T visited 0) → IfErr answer (HasFault T c)
-on_err T c visited (Ok u) same bad = tt
-on_err T c visited (Err e) same bad = first_bad_visit T c visited e same bad
-
-pub match_ok : (T : Table) (c : Tree) (visited : List Visit) (answer : Result (Unit {0}) CheckFault) → visited ≡ visits (full_box T) c
-    → MatchResult answer (λ _. All (λ v. IsGood T v.0 v.1) visited) (StopsAt T visited 0) → OnOk answer (Accepts T c)
-match_ok T c visited (Ok u) same good = all_accepted T c visited same good
-match_ok T c visited (Err e) same bad = tt
-
-pub match_err : (T : Table) (c : Tree) (visited : List Visit) (answer : Result (Unit {0}) CheckFault) → visited ≡ visits (full_box T) c
-    → MatchResult answer (λ _. All (λ v. IsGood T v.0 v.1) visited) (StopsAt T visited 0) → IfErr answer (HasFault T c)
-match_err T c visited (Ok u) same good = tt
-match_err T c visited (Err e) same bad = first_bad_visit T c visited e same bad
+-- what the visits answer is what the certificate answers
+pub visits_answer : (T : Table) (c : Tree) (visited : List Visit) (answer : Result (Unit {0}) CheckFault) → visited ≡ visits (full_box T) c
+    → OnOk answer (All (λ v. IsGood T v.0 v.1) visited) → IfErr answer (StopsAt T visited 0)
+    → OnOk answer (Accepts T c) × IfErr answer (HasFault T c)
+visits_answer T c visited (Ok u) same good bad = (all_accepted T c visited same good, tt)
+visits_answer T c visited (Err e) same good bad = (tt, first_bad_visit T c visited e same bad)

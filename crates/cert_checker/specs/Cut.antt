@@ -1,5 +1,5 @@
 -- A tree cut into parts: subtrees of which each has its own box.
-use Rattle.std.specs.Prelude.{◌≡◌, ℕ, ◌+◌, ◌-◌, ◌<◌, ◌≤◌, List, [], ◌∷◌, ◌++◌, length, drop, slice_index_or, All, Result, Ok, Err, MatchResult}
+use Rattle.std.specs.Prelude.{◌≡◌, ℕ, ◌+◌, ◌<◌, ◌≤◌, List, [], ◌∷◌, ◌++◌, length, drop, slice_index_or, All, Result, Ok, Err, MatchResult}
 use Rattle.rail_model.specs.declared.types.Node.{Node}
 use Rattle.rail_model.specs.declared.types.Node.TheVariants.{Split}
 use Rattle.rail_model.specs.Table.{Table}
@@ -11,11 +11,6 @@ use Rattle.cert_checker.specs.Walked.{walked, StopsAt}
 -- a node and its box
 abbrev pub Visited : Type 0
 Visited = List Range × Node
-
--- how many trees are wanted behind a node
-abbrev pub wanted_behind : Node → ℕ → ℕ
-wanted_behind (Split i m) wanted = wanted + 1
-wanted_behind _ wanted = wanted - 1
 
 -- The tree that begins at one index ends before the other, in whichever box it is visited.
 abbrev pub IsEnd : List Node → ℕ → ℕ → Type 0

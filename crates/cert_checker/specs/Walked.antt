@@ -7,7 +7,7 @@ use Rattle.rail_model.specs.Certificate.{Range, IsGood, Refuses, index_of}
 use Rattle.cert_checker.specs.declared.walk.Step.{Step}
 use Rattle.cert_checker.specs.declared.faults.CheckFault.{CheckFault}
 use Rattle.cert_checker.specs.declared.faults.CheckFault.TheVariants.{Memory, Bad as BadNode}
-use Rattle.cert_checker.specs.Open.{opened}
+use Rattle.cert_tree.specs.Open.{opened}
 
 -- A step gives a train of the table a range of its places.
 pub record IsStep (T : Table) (step : Step) : Type 0 where

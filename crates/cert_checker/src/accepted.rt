@@ -62,6 +62,10 @@ impl HasTable for Accepted {
 }
 
 /// The table with the proof that it is live, where the certificate shuts all its states.
+///
+/// # Errors
+///
+/// The table as it was given, and what `check` says of it.
 pub fn accept(
     alloc: Global,
     table: Table,
@@ -79,6 +83,10 @@ pub fn accept(
 }
 
 /// What `accept` answers, by `check_par`.
+///
+/// # Errors
+///
+/// The table as it was given, and what `check_par` says of it.
 pub fn accept_par(
     rt: &(impl Threads + Sync),
     alloc: Global,

@@ -11,9 +11,11 @@ use rail_model::Table;
 use range_sums::{Lists, RangeSums};
 use std::alloc::Global;
 
-/// Whether each node of the certificate is good in its box; else the first that isn't.
+/// Whether each node of the certificate is good in its box.
 ///
-/// Want of memory may come for any certificate.
+/// # Errors
+///
+/// The first node that isn't. Want of memory may come for any certificate.
 pub fn check(alloc: Global, table: &Table, cert: &Cert) -> Result<(), CheckFault>
     ensures accepted { OnOk result (Accepts table.now cert.now) }
     ensures bad { IfErr result (HasFault table.now cert.now) }

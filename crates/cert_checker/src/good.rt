@@ -8,7 +8,7 @@ use rail_model::{Node, Table, sections_of, trains_of};
 use range_sums::{Lists, RangeSums, first_away, is_overfull, surely_moves};
 
 /// Whether a node is good in the box.
-pub fn is_good(table: &Table, lists: &Lists, sums: &RangeSums, node: Node) -> bool
+pub(crate) fn is_good(table: &Table, lists: &Lists, sums: &RangeSums, node: Node) -> bool
     requires lists { AreLists table.now lists.now }
     requires sums { AreSums table.now sums.now }
     ensures { IsTrue result ↔ IsGood table.now sums.now.ranges node }

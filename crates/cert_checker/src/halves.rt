@@ -6,7 +6,7 @@ use range_sums::{Ranges, Span};
 use std::alloc::{AllocError, Global};
 
 /// A box parted at a place of a train.
-pub fn halves(
+pub(crate) fn halves(
     alloc: Global,
     ranges: Ranges,
     train: u32,

@@ -96,7 +96,7 @@ fn check_move(table: &Table, ranges: &Ranges, train: u32, index: u32) -> Result<
 }
 
 /// Whether a node is good in a box; else why not.
-pub fn check_node(table: &Table, ranges: &Ranges, node: Node, index: u32) -> Result<(), Bad>
+pub(crate) fn check_node(table: &Table, ranges: &Ranges, node: Node, index: u32) -> Result<(), Bad>
     requires boxed { IsBox table.now ranges.now }
     ensures { Judges table.now ranges.now node index result }
 {

@@ -75,7 +75,9 @@ fn first_fault(answers: &[Result<(), CheckFault>]) -> Result<(), CheckFault>
 
 /// What `check` answers, from as many threads as there are processors.
 ///
-/// The bad node of least index is the answer. Want of memory may come for any certificate.
+/// # Errors
+///
+/// The bad node of least index. Want of memory may come for any certificate.
 pub fn check_par(
     rt: &(impl Threads + Sync),
     alloc: Global,

@@ -2,11 +2,12 @@
 ghost use Rattle.std.specs.Prelude.{◌≡◌, List, ◌∷◌, [], ◌<◌, ◌≤◌, length, drop, All, IfOk, IfSome, OnOk};
 ghost use Rattle.rail_model.specs.Table.{IsTable, trains};
 ghost use Rattle.rail_model.specs.Certificate.{IsBox, full_box as full_box_of, preorder};
-ghost use Rattle.cert_checker.specs.Cut.{Visited, wanted_behind, IsEnd, IsPart, IsCut, Divides, IsDivided};
+ghost use Rattle.cert_checker.specs.Cut.{Visited, IsEnd, IsPart, IsCut, Divides, IsDivided};
 ghost use Rattle.cert_checker.specs.Walked.{walked};
 
 use crate::halves::halves;
 use crate::places::splits;
+use cert_tree::behind;
 use rail_model::{Node, Table};
 use range_sums::{Ranges, full_box};
 use std::alloc::{AllocError, Global};
@@ -19,21 +20,9 @@ const DEEPEST: u32 = 12;
 
 /// A subtree: the index of its first node, and its box.
 #[derive(Drop)]
-pub struct Part {
+pub(crate) struct Part {
     pub first: usize,
     pub ranges: Ranges,
-}
-
-// How many trees are wanted behind a node, where some were.
-fn behind(node: Node, wanted: usize) -> usize
-    requires some { 0 < wanted }
-    requires few { wanted ≤ 1000001 }
-    ensures { result ≡ wanted_behind node wanted }
-{
-    match node {
-        Node::Split { .. } => wanted + 1,
-        _ => wanted - 1,
-    }
 }
 
 // The index behind the tree that begins at an index.
@@ -129,7 +118,7 @@ fn divided(
 }
 
 /// The parts of a tree, in preorder.
-pub fn cut(alloc: Global, table: &Table, nodes: &[Node]) -> Result<Vec<Part>, AllocError>
+pub(crate) fn cut(alloc: Global, table: &Table, nodes: &[Node]) -> Result<Vec<Part>, AllocError>
     requires few { length nodes.now ≤ 1000000 }
     ensures cut { IfOk result (λ parts. IsCut table.now nodes.now 0 parts.items (walked (full_box_of table.now ∷ []) (drop 0 nodes.now))) }
     ensures parts { IfOk result (λ parts. All (λ p. IsPart table.now nodes.now p) parts.items) }

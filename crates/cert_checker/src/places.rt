@@ -23,7 +23,7 @@ fn passes(table: &Table, train: u32, span: Span, at: u32) -> bool
 }
 
 /// Whether a train is one of the table's, and a place parts its range in two.
-pub fn splits(table: &Table, ranges: &Ranges, train: u32, place: u32) -> bool
+pub(crate) fn splits(table: &Table, ranges: &Ranges, train: u32, place: u32) -> bool
     requires boxed { IsBox table.now ranges.now }
     ensures { IsTrue result ↔ IsSplit table.now ranges.now train place }
 {
@@ -35,7 +35,7 @@ pub fn splits(table: &Table, ranges: &Ranges, train: u32, place: u32) -> bool
 }
 
 /// Whether two trains have one point at all places of their ranges.
-pub fn clashes(table: &Table, ranges: &Ranges, first: u32, second: u32) -> bool
+pub(crate) fn clashes(table: &Table, ranges: &Ranges, first: u32, second: u32) -> bool
     requires boxed { IsBox table.now ranges.now }
     requires first { first < trains table.now }
     requires second { second < trains table.now }
@@ -69,7 +69,7 @@ fn is_ahead(table: &Table, ranges: &Ranges, train: u32, other: u32, place: u32) 
 }
 
 /// Whether another train may stand at a train's next point.
-pub fn may_block(table: &Table, ranges: &Ranges, train: u32, other: u32) -> bool
+pub(crate) fn may_block(table: &Table, ranges: &Ranges, train: u32, other: u32) -> bool
     requires formed { IsTable table.now }
     requires boxed { IsBox table.now ranges.now }
     requires train { train < trains table.now }
@@ -89,7 +89,7 @@ pub fn may_block(table: &Table, ranges: &Ranges, train: u32, other: u32) -> bool
 }
 
 /// Whether a section may have no room for a train's move.
-pub fn may_be_full(table: &Table, ranges: &Ranges, train: u32, section: u32) -> bool
+pub(crate) fn may_be_full(table: &Table, ranges: &Ranges, train: u32, section: u32) -> bool
     requires boxed { IsBox table.now ranges.now }
     requires train { train < trains table.now }
     requires unfinished { (range ranges.now train).hi < last table.now train }

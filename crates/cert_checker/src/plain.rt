@@ -3,7 +3,7 @@ ghost use Rattle.std.specs.Prelude.{◌≡◌, ◌<◌, ◌≤◌, List, length,
 ghost use Rattle.rail_model.specs.Table.{IsTable, trains};
 ghost use Rattle.rail_model.specs.Certificate.{IsBox, IsGood, Accepts};
 ghost use Rattle.cert_checker.specs.Faults.{HasFault};
-ghost use Rattle.cert_checker.specs.Open.{opened};
+ghost use Rattle.cert_tree.specs.Open.{opened};
 
 use crate::CheckFault;
 use crate::halves::halves;
@@ -36,7 +36,7 @@ fn open_behind(
     Ok(())
 }
 
-/// What `check` answers, without tables and sums.
+/// What `check` answers, without lists and sums.
 pub fn check_plain(alloc: Global, table: &Table, cert: &Cert) -> Result<(), CheckFault>
     ensures accepted { OnOk result (Accepts table.now cert.now) }
     ensures bad { IfErr result (HasFault table.now cert.now) }

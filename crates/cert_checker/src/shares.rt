@@ -6,8 +6,8 @@ ghost use Rattle.rail_model.specs.Certificate.{IsBox, least_count as least_count
 use rail_model::{Table, trains_of};
 use range_sums::{Ranges, greatest_share, least_share};
 
-/// The sum of the least shares.
-pub fn least_sum(table: &Table, ranges: &Ranges, section: u32) -> i32
+// The sum of the least shares.
+fn least_sum(table: &Table, ranges: &Ranges, section: u32) -> i32
     requires boxed { IsBox table.now ranges.now }
     requires section { section < length table.now.sections }
     ensures least { result ≡ least_count_of table.now ranges.now section }
@@ -21,7 +21,7 @@ pub fn least_sum(table: &Table, ranges: &Ranges, section: u32) -> i32
 }
 
 /// The sum of the least shares, which is not below 0.
-pub fn least_count(table: &Table, ranges: &Ranges, section: u32) -> u32
+pub(crate) fn least_count(table: &Table, ranges: &Ranges, section: u32) -> u32
     requires boxed { IsBox table.now ranges.now }
     requires section { section < length table.now.sections }
     ensures least { least_count_of table.now ranges.now section ≡ pos result }
@@ -30,7 +30,7 @@ pub fn least_count(table: &Table, ranges: &Ranges, section: u32) -> u32
 }
 
 /// The sum of the greatest shares of all trains but one.
-pub fn others_count(table: &Table, ranges: &Ranges, section: u32, train: u32) -> i32
+pub(crate) fn others_count(table: &Table, ranges: &Ranges, section: u32, train: u32) -> i32
     requires boxed { IsBox table.now ranges.now }
     requires section { section < length table.now.sections }
     requires train { train < trains table.now }

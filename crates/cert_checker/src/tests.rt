@@ -103,6 +103,49 @@ const OTHER_SPLITS: [Node; 4] = [
     Node::Split { train: 2, place: 0 },
 ];
 
+// Nodes that are bad at an index of the passing loop's certificate, and why.
+const BAD_NODES: [(usize, Node, Bad); 6] = [
+    (
+        4,
+        Node::Move { train: 0 },
+        Bad::MovePoint {
+            index: 4,
+            train: 0,
+            other: 1,
+        },
+    ),
+    (
+        0,
+        Node::Split { train: 0, place: 2 },
+        Bad::Split { index: 0 },
+    ),
+    (
+        5,
+        Node::Clash {
+            first: 0,
+            second: 0,
+        },
+        Bad::Clash { index: 5 },
+    ),
+    (
+        1,
+        Node::Clash {
+            first: 0,
+            second: 2,
+        },
+        Bad::Name { index: 1 },
+    ),
+    (
+        10,
+        Node::Move { train: 1 },
+        Bad::MoveEnd {
+            index: 10,
+            train: 1,
+        },
+    ),
+    (7, Node::Arrived, Bad::Arrived { index: 7, train: 0 }),
+];
+
 fn mission(alloc: Global, points: &[u32], exits: bool) -> Result<Mission, AllocError>
     ensures { IfOk result (λ m. m ≡ record { points = points.now; exits = exits }) }
 {
@@ -222,58 +265,23 @@ fn accepts_worked_certificates(rt: HostRuntime) -> Result<(), Fail> {
 }
 
 #[test]
+fn accepts_another_good_leaf(rt: HostRuntime) -> Result<(), Fail> {
+    let alloc = rt.alloc();
+    let nodes = changed(alloc, &PASSING_LOOP, 5, Node::Move { train: 1 })?;
+    assert_eq!(rt; answer(&rt, alloc, &passing_loop(alloc)?, &nodes)?, Ok(()));
+    Ok(())
+}
+
+#[test]
 fn names_the_first_bad_node(rt: HostRuntime) -> Result<(), Fail> {
     let alloc = rt.alloc();
     let table = passing_loop(alloc)?;
-    let cases = [
-        (5, Node::Move { train: 1 }, Ok(())),
-        (
-            4,
-            Node::Move { train: 0 },
-            Err(CheckFault::Bad(Bad::MovePoint {
-                index: 4,
-                train: 0,
-                other: 1,
-            })),
-        ),
-        (
-            0,
-            Node::Split { train: 0, place: 2 },
-            Err(CheckFault::Bad(Bad::Split { index: 0 })),
-        ),
-        (
-            5,
-            Node::Clash {
-                first: 0,
-                second: 0,
-            },
-            Err(CheckFault::Bad(Bad::Clash { index: 5 })),
-        ),
-        (
-            1,
-            Node::Clash {
-                first: 0,
-                second: 2,
-            },
-            Err(CheckFault::Bad(Bad::Name { index: 1 })),
-        ),
-        (
-            10,
-            Node::Move { train: 1 },
-            Err(CheckFault::Bad(Bad::MoveEnd {
-                index: 10,
-                train: 1,
-            })),
-        ),
-        (
-            7,
-            Node::Arrived,
-            Err(CheckFault::Bad(Bad::Arrived { index: 7, train: 0 })),
-        ),
-    ];
-    for (index, node, wanted) in cases {
+    for (index, node, bad) in BAD_NODES {
         let nodes = changed(alloc, &PASSING_LOOP, index, node)?;
-        assert_eq!(rt; answer(&rt, alloc, &table, &nodes)?, wanted);
+        assert_eq!(rt;
+            answer(&rt, alloc, &table, &nodes)?,
+            Err(CheckFault::Bad(bad))
+        );
     }
     Ok(())
 }
@@ -317,6 +325,21 @@ fn names_sections_and_connections(rt: HostRuntime) -> Result<(), Fail> {
     Ok(())
 }
 
+// Asks all three checks of the corridor's certificate with each of the others at an index.
+fn compare_changed(
+    rt: &(impl Abort + Threads + Sync),
+    alloc: Global,
+    table: &Table,
+    index: usize,
+    others: &[Node],
+) -> Result<(), Fail> {
+    for &node in others {
+        let nodes = changed(alloc, &CORRIDOR, index, node)?;
+        let _same = answer(rt, alloc, table, &nodes)?;
+    }
+    Ok(())
+}
+
 #[test]
 fn agrees_on_changed_certificates(rt: HostRuntime) -> Result<(), Fail> {
     let alloc = rt.alloc();
@@ -326,10 +349,7 @@ fn agrees_on_changed_certificates(rt: HostRuntime) -> Result<(), Fail> {
             Node::Split { .. } => &OTHER_SPLITS,
             _ => &OTHER_LEAVES,
         };
-        for &node in others {
-            let nodes = changed(alloc, &CORRIDOR, index, node)?;
-            let _same = answer(&rt, alloc, &table, &nodes)?;
-        }
+        compare_changed(&rt, alloc, &table, index, others)?;
     }
     Ok(())
 }

@@ -2,7 +2,7 @@
 ghost use Rattle.std.specs.Prelude.{◌≡◌, ◌∷◌, [], ◌+◌, ◌<◌, ◌≤◌, length, reverse, drop, All, IfErr, OnOk, false, true};
 ghost use Rattle.rail_model.specs.Certificate.{range, IsGood};
 ghost use Rattle.range_sums.specs.Sums.{AreLists, AreSums};
-ghost use Rattle.cert_checker.specs.Open.{opened};
+ghost use Rattle.cert_tree.specs.Open.{opened};
 ghost use Rattle.cert_checker.specs.Walked.{IsStep, IsRefusal, shown, waiting, walked, StopsAt};
 
 use crate::CheckFault;
@@ -14,7 +14,7 @@ use std::alloc::Global;
 
 /// A range that a train is given, and whether the box is to be visited then.
 #[derive(Clone, Copy)]
-pub struct Step {
+pub(crate) struct Step {
     pub train: u32,
     pub span: Span,
     pub visit: bool,
@@ -102,7 +102,7 @@ fn advance(table: &Table, lists: &Lists, sums: &mut RangeSums, steps: &mut Vec<S
 }
 
 /// Visits the nodes of one tree, from the first of them on.
-pub fn visit_tree(
+pub(crate) fn visit_tree(
     alloc: Global,
     table: &Table,
     lists: &Lists,

@@ -1,7 +1,8 @@
 use Rattle.std.proofs.Common.{◌≡◌, ℕ, ◌+◌, ◌<◌, length, get_or, refl, sym, subst, arith}
 use Rattle.std.proofs.lemmas.List.{drop_more}
 use Rattle.rail_model.specs.declared.types.Node.TheVariants.{Split}
-use Rattle.cert_checker.proofs.Ends.{Skipped, skip_start, skip_next, skip_done, skip_all, small_behind}
+use Rattle.cert_tree.proofs.Spell.{small_behind}
+use Rattle.cert_checker.proofs.Ends.{Skipped, skip_start, skip_next, skip_done, skip_all}
 use Rattle.cert_checker.proofs.parts.end_of.Goals as goal
 
 pub loop-index-init : goal.loop-index-init

@@ -4,7 +4,7 @@ use Rattle.std.proofs.lemmas.List.Elements.{All-push}
 use Rattle.rail_model.specs.declared.types.Node.{Node}
 use Rattle.rail_model.specs.Certificate.{IsGood, IsSplit}
 use Rattle.cert_checker.specs.declared.walk.Step.{Step}
-use Rattle.cert_checker.specs.Open.{opened}
+use Rattle.cert_tree.specs.Open.{opened}
 use Rattle.cert_checker.specs.Walked.{IsStep, waiting}
 use Rattle.cert_checker.proofs.Steps.{planned}
 use Rattle.cert_checker.proofs.walk.plan.Goals as goal
