@@ -5,13 +5,6 @@ use Rattle.rail_model.specs.Table.{Mission}
 use Rattle.ring_sections.specs.Ring.{Pair, IsRing}
 use Rattle.ring_sections.specs.Search.{IsPair, IsPlaced}
 
-pub ring_placed : (M : List Mission) (r : List Pair) → IsRing M r → (k : ℕ) → k < length r → IsPlaced M r k
-ring_placed M r ring k l = record {
-  waits = ring.waits k l;
-  least_first = λ later. ring.least_first k later l;
-  apart = λ j before. (ring.one_each j k before l, (λ q. ring.apart j k q before l));
-}
-
 pub placed_ring : (M : List Mission) (r : List Pair) → 2 ≤ length r → All (IsPair M) r → ((k : ℕ) → k < length r → IsPlaced M r k) → IsRing M r
 placed_ring M r several valid placed = record {
   several = several;

@@ -1,5 +1,5 @@
 -- What is lost, step by step; and a circular wait's later pairs lead back.
-use Rattle.std.proofs.Common.{◌≡◌, ℕ, suc, ◌+◌, ◌-◌, ◌<◌, ◌≤◌, true, List, [], ◌∷◌, ◌++◌, length, length-append, append-nil, append_assoc, Some, None, arith, ap, ◌∙◌, inl, inr, subst, sym}
+use Rattle.std.proofs.Common.{◌≡◌, ℕ, suc, ◌+◌, ◌-◌, ◌<◌, ◌≤◌, List, [], ◌∷◌, ◌++◌, length, length-append, append-nil, append_assoc, Some, None, arith, ap, ◌∙◌, inl, inr, subst, sym}
 use Rattle.std.specs.Prelude.{All, slice_index, slice_index_or}
 use Rattle.std.proofs.lemmas.List.Elements.{All-contains}
 use Rattle.rail_model.specs.Table.{Mission, last as last_place}
@@ -62,16 +62,6 @@ lost_covered M way shut from known hit lost covered later short leads avoid =
     let is : IsLost M way shut other = All-contains (IsLost M way shut) known other lost u.1 in
     let further = u.2 in
     is later (omega (arith, further.1)) (subst (λ q. LeadsBack M way shut q later) (sym further.0) leads) u.3
-
--- where the pair doesn't fit, its train is used, or it wants nothing
-pub lost_unfit : (M : List Mission) (way : List Pair) (shut : ℕ) (from : Reach) (w : Pair) → (fits way w ≡ true → ⊥) → IsLostBy M way shut from w
-lost_unfit M way shut from w unfit later short leads avoid = unfit leads.0.fits
-
-pub lost_used : (M : List Mission) (way : List Pair) (shut : ℕ) (from : Reach) (w : Pair) → HasTrain from.used w.0 → IsLostBy M way shut from w
-lost_used M way shut from w used later short leads avoid = avoid 0 (0, 0) (omega arith) used
-
-pub lost_unwanted : (M : List Mission) (way : List Pair) (shut : ℕ) (from : Reach) (w : Pair) → next_point M w ≡ None → IsLostBy M way shut from w
-lost_unwanted M way shut from w none later short leads avoid = let e : None ≡ Some leads.2.0 = sym none ∙ leads.2.1 in cc
 
 -- where nothing leads back from what is reached by the pair
 pub lost_behind : (M : List Mission) (way : List Pair) (shut : ℕ) (from behind : Reach) (w : Pair) → IsBehind M from w behind → IsLost M way shut behind → IsLostBy M way shut from w

@@ -8,8 +8,8 @@ ghost use Rattle.ring_sections.specs.Leading.{IsLost, IsLostBy, IsBehind, IsKnow
 
 use crate::chart::Chart;
 use crate::placed::{fits, is_taken, next_point_of, point_of};
-use crate::train_set::TrainSet;
-use std::alloc::{AllocError, Global};
+use crate::train_set::{MOST_TRAINS, TrainSet};
+use std::alloc::AllocError;
 
 /// A point that was reached by some trains, with so many pairs left to lead back from it. Not all of the trains need be known.
 #[derive(Clone, Copy)]
@@ -25,8 +25,7 @@ fn find_unhit(known: &[Reach], from: Reach, hit: TrainSet) -> Option<TrainSet>
     ensures unhit { IfSome result (λ used. bit_and used.bits hit.bits ≡ 0) }
     ensures trains { IfSome result (λ used. used.bits < 2 ^ 32) }
 {
-    for index in (0..known.len()).rev() {
-        let other = known[index];
+    for &other in known.iter().rev() {
         if other.point == from.point && other.left >= from.left && !other.used.meets(hit) {
             return Some(other.used);
         }
@@ -45,7 +44,7 @@ fn is_covered(known: &[Reach], from: Reach, hit: TrainSet, left: u32) -> bool
     if left == 0 {
         return true;
     }
-    for train in 0..32 {
+    for train in 0..MOST_TRAINS {
         if used.has(train)
             && !from.used.has(train)
             && !is_covered(known, from, hit.with(train), left - 1)
@@ -108,7 +107,6 @@ fn onward(
 // Whether pairs may lead back to the first of the way, at most as many as are left, none of them at a point of the way or the one
 // that is shut. Adds what is found to be lost: for each point and number of pairs left at most 35, since none covers a later one.
 fn may_lead(
-    alloc: Global,
     chart: &Chart<'_>,
     way: &[(u32, u32)],
     shut: u32,
@@ -131,7 +129,7 @@ fn may_lead(
     }
     for (index, &next) in chart.standing.at(from.point).iter().enumerate() {
         if let Some(behind) = onward(chart, way, from, index, next) {
-            if may_lead(alloc, chart, way, shut, behind, lost)? {
+            if may_lead(chart, way, shut, behind, lost)? {
                 return Ok(true);
             }
         }
@@ -143,7 +141,6 @@ fn may_lead(
 // Whether a circular wait may begin with a way and a pair at the point that it wants, which is then shut to others, with at most
 // `left` more. Adds what is found to be lost.
 pub(crate) fn may_follow(
-    alloc: Global,
     chart: &Chart<'_>,
     way: &[(u32, u32)],
     shut: u32,
@@ -169,5 +166,5 @@ pub(crate) fn may_follow(
     let _trains = chart.missions.len();
     let used = TrainSet::none().with(next.0);
     let from = Reach { point, left, used };
-    may_lead(alloc, chart, way, shut, from, lost)
+    may_lead(chart, way, shut, from, lost)
 }

@@ -39,6 +39,5 @@ pub fn mark_rings(alloc: Global, missions: Missions, rings: &[Ring]) -> Result<T
     ensures none_left { IfOk result (λ table. Excludes table rings.now) }
 {
     let all = all_stays(alloc, rings)?;
-    let table = marked(alloc, missions, &all)?;
-    Ok(table)
+    marked(alloc, missions, &all)
 }

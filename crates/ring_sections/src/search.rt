@@ -33,7 +33,9 @@ fn keep_ring(
         return Ok(());
     }
     if found.len() == MOST_RINGS {
-        return Err(Rings::Many { count: 65 });
+        return Err(Rings::Many {
+            count: MOST_RINGS as u32 + 1,
+        });
     }
     let pairs = Vec::from_slice(alloc, way)?;
     found.push(Ring::from(pairs))?;
@@ -79,7 +81,7 @@ fn extend(
     }
     let mut lost = Vec::new(alloc);
     for &next in chart.standing.at(wanted) {
-        if may_follow(alloc, chart, way, wanted, next, left - 1, &mut lost)? {
+        if may_follow(chart, way, wanted, next, left - 1, &mut lost)? {
             let way = longer(alloc, way, next)?;
             extend(alloc, chart, &way, left - 1, found)?;
         }

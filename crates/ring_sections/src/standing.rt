@@ -5,6 +5,7 @@ ghost use Rattle.ring_sections.specs.Ring.{train_pairs, pairs as all_pairs};
 ghost use Rattle.ring_sections.specs.Search.{IsPair, ArePointsBelow, stands_at as stands_at_point, standing as standing_at_all};
 
 use crate::placed::{next_point_of, point_of};
+use crate::train_set::MOST_TRAINS;
 use forbidden_states::last_of;
 use rail_model::{Mission, Missions};
 use std::alloc::{AllocError, Global};
@@ -94,25 +95,21 @@ fn stands_at(missions: &Missions, point: u32, pair: (u32, u32)) -> bool
     requires { IsPair missions.now pair }
     ensures { result ≡ stands_at_point missions.now point pair }
 {
-    match point_of(missions, pair) {
-        Some(at) => at == point,
-        None => false,
-    }
+    point_of(missions, pair) == Some(point)
 }
 
 // The least of the last `many` trains of the pairs that want a point; 0 where there are fewer.
 fn last_of_many(missions: &Missions, pairs: &[(u32, u32)], to: Option<u32>, many: u32) -> u32
     requires { All (IsPair missions.now) pairs.now }
 {
-    let mut last = 32;
+    let mut last = MOST_TRAINS;
     let mut left = many;
-    for index in (0..pairs.len()).rev() {
-        let (train, _) = pairs[index];
-        if train < last && next_point_of(missions, pairs[index]) == to {
+    for &pair in pairs.iter().rev() {
+        if pair.0 < last && next_point_of(missions, pair) == to {
             if left <= 1 {
-                return train;
+                return pair.0;
             }
-            last = train;
+            last = pair.0;
             left -= 1;
         }
     }

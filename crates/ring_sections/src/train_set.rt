@@ -3,6 +3,9 @@ ghost use Rattle.std.specs.Prelude.{◌≡◌, ◌<◌, ◌^◌, ◌↔◌, IsTr
 ghost use Rattle.std.specs.Int.Bits.{bit_and, bit_or};
 ghost use Rattle.ring_sections.specs.Leading.{HasTrain};
 
+// So many trains there are at most.
+pub(crate) const MOST_TRAINS: u32 = 32;
+
 /// A set of trains below 32, as a bit for each.
 #[derive(Clone, Copy)]
 pub(crate) struct TrainSet {

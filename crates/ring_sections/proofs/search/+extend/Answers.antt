@@ -2,7 +2,7 @@ use Rattle.std.proofs.Common.{◌≡◌, ◌-◌, ◌+◌, ◌<◌, ◌≤◌, �
 use Rattle.std.specs.Prelude.{All, flat_map}
 use Rattle.std.proofs.lemmas.List.Elements.{All-nil, All-cons, All-append}
 use Rattle.rail_model.specs.Table.{Mission}
-use Rattle.ring_sections.specs.Ring.{Pair, pair_at, next_point}
+use Rattle.ring_sections.specs.Ring.{Pair, pair_at, point_at, next_point}
 use Rattle.ring_sections.specs.Search.{IsPair, own_ring, rings_from, standing_at}
 use Rattle.ring_sections.specs.Levels.{IsChart}
 use Rattle.ring_sections.proofs.Begun.{at_old}
@@ -21,6 +21,14 @@ wanted_below M r wanted all high chart wants = chart.points (pair_at r (length r
 wanted_here : (M : List Mission) (r : List Pair) (wanted : ℕ) (all : List (List Pair)) (high : List ℕ) (here : List Pair) → IsChart M all high (pair_at r 0) →
     next_point M (pair_at r (length r - 1)) ≡ Some wanted → here ≡ slice_index_or all wanted [] → here ≡ standing_at M wanted
 wanted_here M r wanted all high here chart wants at = looked_up M (length high) wanted all here (wanted_below M r wanted all high chart wants) chart.places at
+
+-- each of them is a pair that stands there
+pair_here : (M : List Mission) (r : List Pair) (wanted k : ℕ) (all : List (List Pair)) (high : List ℕ) (here : List Pair) → IsChart M all high (pair_at r 0) →
+    next_point M (pair_at r (length r - 1)) ≡ Some wanted → here ≡ slice_index_or all wanted [] → k < length here →
+    IsPair M (pair_at here k) × (point_at M (pair_at here k) ≡ Some wanted)
+pair_here M r wanted k all high here chart wants at l =
+    let is : here ≡ standing_at M wanted = wanted_here M r wanted all high here chart wants at in
+    (here_valid M wanted k here is l, here_stands M wanted k here is l)
 
 -- one pair more
 valid_longer : (M : List Mission) (r longer here : List Pair) (wanted k : ℕ) → All (IsPair M) r → here ≡ standing_at M wanted → k < length here →
@@ -77,21 +85,11 @@ at-next-items-requires t c =
 
 pub may_follow-requires-clause-next : goal.may_follow-requires-clause-next
 may_follow-requires-clause-next t c =
-    let M = c.args.chart.now.missions.now in
-    let r = c.args.way.now in
-    let here = c.at-next-items.result.now in
-    let is : here ≡ standing_at M c.in-Some.wanted =
-    wanted_here M r c.in-Some.wanted c.args.chart.now.standing.now c.args.chart.now.levels.now here c.requires.chart (sym c.next_point_of.ensures ∙ c.in-Some.is) c.at-next-items.ensures in
-    here_valid M c.in-Some.wanted c.loop-next.next-index here is c.loop-next-test.true
+    (pair_here _ c.args.way.now _ _ _ _ _ c.requires.chart (sym c.next_point_of.ensures ∙ c.in-Some.is) c.at-next-items.ensures c.loop-next-test.true).0
 
 pub may_follow-requires-clause-stands : goal.may_follow-requires-clause-stands
 may_follow-requires-clause-stands t c =
-    let M = c.args.chart.now.missions.now in
-    let r = c.args.way.now in
-    let here = c.at-next-items.result.now in
-    let is : here ≡ standing_at M c.in-Some.wanted =
-    wanted_here M r c.in-Some.wanted c.args.chart.now.standing.now c.args.chart.now.levels.now here c.requires.chart (sym c.next_point_of.ensures ∙ c.in-Some.is) c.at-next-items.ensures in
-    here_stands M c.in-Some.wanted c.loop-next.next-index here is c.loop-next-test.true
+    (pair_here _ c.args.way.now _ _ _ _ _ c.requires.chart (sym c.next_point_of.ensures ∙ c.in-Some.is) c.at-next-items.ensures c.loop-next-test.true).1
 
 pub extend-requires : goal.extend-requires
 extend-requires t c =
