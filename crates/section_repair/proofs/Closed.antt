@@ -9,9 +9,10 @@ use Rattle.rail_model.specs.Table.{Table, trains, last, place}
 use Rattle.rail_model.specs.State.{Arrived}
 use Rattle.rail_model.specs.Checks.{below}
 use Rattle.rail_model.proofs.Found.{Among, find-none, Among-map}
+use Rattle.forbidden_states.proofs.Members.{filter-among, among-filter, among-map}
 use Rattle.section_repair.specs.Core.{waits_for, has, is_drawn_in, widened, widened_times, closure, is_unfinished, closures, core}
 use Rattle.section_repair.specs.Claims.{ClosuresAreLeast}
-use Rattle.section_repair.proofs.Lists.{true_false, bool_cases, or-cases, or-false-left, or-false-right, or-left, or-right, any-among, among-any, all-among, not-all, has-among, among-has, filter-among, among-filter, filter-lt, filter-full, below-lt, in-below, all-from, find-among, among-map}
+use Rattle.section_repair.proofs.Lists.{true_false, bool_cases, or-cases, or-false-left, or-false-right, or-left, or-right, any-among, among-any, all-among, not-all, has-among, among-has, filter-lt, filter-full, below-lt, in-below, all-from, find-among}
 
 -- With each member the set has all below n that the member waits for.
 abbrev pub Closed : Table → List ℕ → List ℕ → Type 0

@@ -1,5 +1,5 @@
 -- What tests, filters and finds of a list say of its elements.
-use Rattle.std.proofs.Common.{◌≡◌, ◌⊎◌, ℕ, zero, suc, ◌+◌, ◌<◌, ◌≤◌, ◌==◌, Bool, true, false, not, ◌&&◌, ◌||◌, List, [], ◌∷◌, map, length, Some, None, refl, arith, inl, inr, subst, sym, cond}
+use Rattle.std.proofs.Common.{◌≡◌, ◌⊎◌, ℕ, zero, suc, ◌+◌, ◌<◌, ◌≤◌, ◌==◌, Bool, true, false, not, ◌&&◌, ◌||◌, List, [], ◌∷◌, length, Some, None, refl, arith, inl, inr, subst, sym, cond}
 use Rattle.std.specs.Prelude.{find, filter, slice_get}
 use Rattle.std.specs.List.{list_any, list_all, range_with_len}
 use Rattle.std.proofs.lemmas.Bool.{eq-eqb, eqb-true}
@@ -76,22 +76,6 @@ pub among-has : (S : List ℕ) (i : ℕ) → Among S i → has S i ≡ true
 among-has S i a = among-any (λ j. j == i) S i a (eq-eqb i i refl)
 
 -- ---- filters
-
-pub filter-among : {X : Type 0} (q : X → Bool) (xs : List X) (x : X) → Among (filter q xs) x → Among xs x × (q x ≡ true)
-filter-among q [] x a = absurd a
-filter-among q (y ∷ ys) x a =
-    (elim (q y) as (λ b. q y ≡ b → Among (cond b (y ∷ filter q ys) (filter q ys)) x → Among (y ∷ ys) x × (q x ≡ true)) [
-      | true ↦ λ e c. elim c [ inl s ↦ (inl s, subst (λ v. q v ≡ true) s e) | inr later ↦ let r = filter-among q ys x later in (inr r.0, r.1) ]
-      | false ↦ λ e c. let r = filter-among q ys x c in (inr r.0, r.1)
-    ]) refl a
-
-pub among-filter : {X : Type 0} (q : X → Bool) (xs : List X) (x : X) → Among xs x → q x ≡ true → Among (filter q xs) x
-among-filter q [] x a h = absurd a
-among-filter q (y ∷ ys) x a h =
-    (elim (q y) as (λ b. q y ≡ b → Among (cond b (y ∷ filter q ys) (filter q ys)) x) [
-      | true ↦ λ e. elim a [ inl s ↦ inl s | inr later ↦ inr (among-filter q ys x later h) ]
-      | false ↦ λ e. elim a [ inl s ↦ absurd (let t : q x ≡ false = subst (λ v. q v ≡ false) s e in cc) | inr later ↦ among-filter q ys x later h ]
-    ]) refl
 
 filter-le : {X : Type 0} (q r : X → Bool) (xs : List X) → ((x : X) → Among xs x → q x ≡ true → r x ≡ true) → length (filter q xs) ≤ length (filter r xs)
 filter-le q r [] h = omega arith
@@ -186,11 +170,3 @@ find-among q (y ∷ ys) x h =
       | true ↦ λ e. inl (some_same y x e)
       | false ↦ λ e. inr (find-among q ys x e)
     ]) h
-
-pub among-map : {X Y : Type 0} (f : X → Y) (xs : List X) (y : Y) → Among (map f xs) y → (x : X) × Among xs x × (f x ≡ y)
-among-map f [] y a = absurd a
-among-map f (x ∷ xs) y a = elim a [ inl e ↦ (x, inl refl, e) | inr later ↦ let r = among-map f xs y later in (r.0, inr r.1, r.2) ]
-
-pub none-found : {X : Type 0} (q : X → Bool) (xs : List X) → ((x : X) → Among xs x → q x ≡ false) → find q xs ≡ None
-none-found q [] h = refl
-none-found q (y ∷ ys) h = rw (h y (inl refl)) (none-found q ys (λ x a. h x (inr a)))

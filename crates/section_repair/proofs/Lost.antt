@@ -15,10 +15,11 @@ use Rattle.rail_model.proofs.Moves.{place_moved, place_other}
 use Rattle.forbidden_states.specs.Forbid.{Stay, AreStays, InStays, AreInRange, unmarked, stay_of, forbidding, marked}
 use Rattle.forbidden_states.proofs.Changes.{eqb-false}
 use Rattle.forbidden_states.proofs.Over.{over_in}
+use Rattle.forbidden_states.proofs.Members.{filter-among, among-map, none-found}
 use Rattle.section_repair.specs.Core.{has, core}
 use Rattle.section_repair.specs.Joining.{stays_of}
 use Rattle.section_repair.specs.Claims.{Completable, IsApart}
-use Rattle.section_repair.proofs.Lists.{true_false, bool_cases, has-among, among-has, filter-among, below-lt, find-among, among-map, none-found, above-range, get-among, get_below}
+use Rattle.section_repair.proofs.Lists.{true_false, bool_cases, has-among, among-has, below-lt, find-among, above-range, get-among, get_below}
 use Rattle.section_repair.proofs.Closed.{IsClosing, core_is_closing}
 use Rattle.section_repair.proofs.Stays.{stay-below, InStays-at, InStays-like, share-inside}
 use Rattle.section_repair.proofs.Told.{ask-occupied, ask-full, waits-occupied, waits-full, blocks-at, free_move}

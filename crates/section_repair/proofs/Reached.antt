@@ -8,9 +8,10 @@ use Rattle.cert_maker.specs.declared.made.Made.{Made}
 use Rattle.cert_maker.specs.declared.made.Made.TheVariants.{Stuck as found}
 use Rattle.cert_maker.specs.Rule.{Makes}
 use Rattle.forbidden_states.specs.Forbid.{Stay, AreStays, marked}
+use Rattle.forbidden_states.proofs.Members.{among-map, filter-among}
 use Rattle.section_repair.specs.Core.{widened, widened_times, closure, closures, is_smallest, is_unfinished, core}
 use Rattle.section_repair.specs.Repairs.{treated, Treats, IsReached}
-use Rattle.section_repair.proofs.Lists.{find-among, among-map, filter-among, below-lt}
+use Rattle.section_repair.proofs.Lists.{find-among, below-lt}
 use Rattle.section_repair.proofs.Steps.{widened-below}
 use Rattle.section_repair.proofs.Lost.{AreSound}
 use Rattle.section_repair.proofs.Kept.{reached_sound}

@@ -35,17 +35,26 @@ hull_of x = hull x.0 x.1
 same-range : (s t : Stay) → is_same_range s t ≡ true → (s.range.lo ≡ t.range.lo) × (s.range.hi ≡ t.range.hi)
 same-range s t h = (eqb-true _ _ (and-left _ _ h), eqb-true _ _ (and-right _ _ h))
 
--- where no range differs the union is the first section
-union-same : (p : List ℕ) (xs : List (Stay × Stay)) → Fits xs → others_in xs ≡ 0 → InStays p (map hull_of xs) → InStays p (map (λ x. x.0) xs)
-union-same p [] f z h = tt
-union-same p (x ∷ xs) f z h = elim (bool_cases (is_same_range x.0 x.1)) [
+-- a place in the union of two equal ranges is in both
+in-both : (p : List ℕ) (x : Stay × Stay) → x.0.train ≡ x.1.train → is_same_range x.0 x.1 ≡ true → IsIn (place p x.0.train) (hull_of x).range →
+    IsIn (place p x.0.train) x.0.range × IsIn (place p x.1.train) x.1.range
+in-both p x same e h =
+    let r = same-range x.0 x.1 e in
+    let a : x.0.range.lo ≡ x.1.range.lo = r.0 in
+    let b : x.0.range.hi ≡ x.1.range.hi = r.1 in
+    let g = h.0 in let k = h.1 in
+    ((omega arith, omega arith), subst (λ v. IsIn (place p v) x.1.range) same (omega arith, omega arith))
+
+-- where no range differs, a state in the union is in both sections
+union-both : (p : List ℕ) (xs : List (Stay × Stay)) → Fits xs → others_in xs ≡ 0 → InStays p (map hull_of xs) →
+    InStays p (map (λ x. x.0) xs) × InStays p (map (λ x. x.1) xs)
+union-both p [] f z h = (tt, tt)
+union-both p (x ∷ xs) f z h = elim (bool_cases (is_same_range x.0 x.1)) [
   | inl e ↦
-      let r = same-range x.0 x.1 e in
       let c : others_in (x ∷ xs) ≡ 0 + others_in xs = others-cons x xs ∙ ap (λ b. cond (not b) 1 0 + others_in xs) e in
-      let a : x.0.range.lo ≡ x.1.range.lo = r.0 in
-      let b : x.0.range.hi ≡ x.1.range.hi = r.1 in
-      let g = h.0.0 in let k = h.0.1 in
-      ((omega arith, omega arith), union-same p xs f.2 (omega arith) h.1)
+      let here = in-both p x f.0 e h.0 in
+      let later = union-both p xs f.2 (omega arith) h.1 in
+      ((here.0, later.0), (here.1, later.1))
   | inr e ↦ absurd (let c : others_in (x ∷ xs) ≡ 1 + others_in xs = others-cons x xs ∙ ap (λ b. cond (not b) 1 0 + others_in xs) e in omega arith)
 ]
 
@@ -61,39 +70,21 @@ abbrev pub Filled : List (Stay × Stay) → Type 0
 Filled [] = Unit {0}
 Filled (x ∷ xs) = (x.0.range.lo ≤ x.0.range.hi) × (x.1.range.lo ≤ x.1.range.hi) × Filled xs
 
--- where all are equal, a state in the union is in the second section too
-union-second : (p : List ℕ) (xs : List (Stay × Stay)) → Fits xs → others_in xs ≡ 0 → InStays p (map hull_of xs) → InStays p (map (λ x. x.1) xs)
-union-second p [] f z h = tt
-union-second p (x ∷ xs) f z h = elim (bool_cases (is_same_range x.0 x.1)) [
-  | inl e ↦
-      let r = same-range x.0 x.1 e in
-      let c : others_in (x ∷ xs) ≡ 0 + others_in xs = others-cons x xs ∙ ap (λ b. cond (not b) 1 0 + others_in xs) e in
-      let a : x.0.range.lo ≡ x.1.range.lo = r.0 in
-      let b : x.0.range.hi ≡ x.1.range.hi = r.1 in
-      let g = h.0.0 in let k = h.0.1 in
-      (subst (λ v. IsIn (place p v) x.1.range) f.0 (omega arith, omega arith), union-second p xs f.2 (omega arith) h.1)
-  | inr e ↦ absurd (let c : others_in (x ∷ xs) ≡ 1 + others_in xs = others-cons x xs ∙ ap (λ b. cond (not b) 1 0 + others_in xs) e in omega arith)
-]
-
 -- a state in the union is in one of the two
 pub union-one : (p : List ℕ) (xs : List (Stay × Stay)) → Fits xs → Filled xs → others_in xs ≡ 1 → InStays p (map hull_of xs) → InStays p (map (λ x. x.0) xs) ⊎ InStays p (map (λ x. x.1) xs)
 union-one p [] f fl z h = absurd (omega arith)
 union-one p (x ∷ xs) f fl z h = elim (bool_cases (is_same_range x.0 x.1)) [
   | inl e ↦
-      let r = same-range x.0 x.1 e in
       let c : others_in (x ∷ xs) ≡ 0 + others_in xs = others-cons x xs ∙ ap (λ b. cond (not b) 1 0 + others_in xs) e in
-      let a : x.0.range.lo ≡ x.1.range.lo = r.0 in
-      let b : x.0.range.hi ≡ x.1.range.hi = r.1 in
-      let g = h.0.0 in let k = h.0.1 in
-      let i0 : IsIn (place p x.0.train) x.0.range = (omega arith, omega arith) in
-      let i1 : IsIn (place p x.1.train) x.1.range = subst (λ v. IsIn (place p v) x.1.range) f.0 (omega arith, omega arith) in
-      elim (union-one p xs f.2 fl.2 (omega arith) h.1) [ inl u ↦ inl (i0, u) | inr u ↦ inr (i1, u) ]
+      let here = in-both p x f.0 e h.0 in
+      elim (union-one p xs f.2 fl.2 (omega arith) h.1) [ inl u ↦ inl (here.0, u) | inr u ↦ inr (here.1, u) ]
   | inr e ↦
       let c : others_in (x ∷ xs) ≡ 1 + others_in xs = others-cons x xs ∙ ap (λ b. cond (not b) 1 0 + others_in xs) e in
       let j : adjoins x.0 x.1 ≡ true = elim (or-cases (is_same_range x.0 x.1) (adjoins x.0 x.1) f.1) [ inl t ↦ absurd (true_false (sym t ∙ e)) | inr t ↦ t ] in
+      let later = union-both p xs f.2 (omega arith) h.1 in
       elim (in-one x.0 x.1 (place p x.0.train) fl.0 fl.1 j h.0.0 h.0.1) [
-        | inl i ↦ inl (i, union-same p xs f.2 (omega arith) h.1)
-        | inr i ↦ inr (subst (λ v. IsIn (place p v) x.1.range) f.0 i, union-second p xs f.2 (omega arith) h.1)
+        | inl i ↦ inl (i, later.0)
+        | inr i ↦ inr (subst (λ v. IsIn (place p v) x.1.range) f.0 i, later.1)
       ]
 ]
 

@@ -146,8 +146,8 @@ fn closures(
     Ok(groups)
 }
 
-// The core: the first closure of an unfinished train that has the fewest members.
-pub fn core(alloc: Global, table: &Table, state: &State) -> Result<Group, AllocError>
+/// The core: the first closure of an unfinished train that has the fewest members.
+pub(crate) fn core(alloc: Global, table: &Table, state: &State) -> Result<Group, AllocError>
     requires { Legal table.now state.now }
     ensures { IfOk result (λ group. group ≡ core_of table.now state.now) }
 {

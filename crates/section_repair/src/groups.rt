@@ -5,9 +5,9 @@ ghost use Rattle.section_repair.specs.Core.{has as has_train, is_smallest as is_
 use std::alloc::{AllocError, Global};
 use std::marker::Model;
 
-// Trains, each once, in rising order.
+/// Trains, each once, in rising order.
 #[derive(Drop)]
-pub struct Group {
+pub(crate) struct Group {
     trains: Vec<u32>,
 }
 
@@ -28,27 +28,29 @@ impl From<Vec<u32>> for Group {
 }
 
 impl Group {
-    pub fn as_slice(&self) -> &[u32]
+    /// The trains, lent.
+    pub(crate) fn as_slice(&self) -> &[u32]
         ensures { result.now ≡ self.now }
     {
         &self.trains
     }
 
-    // The number of trains.
-    pub fn size(&self) -> usize
+    /// The number of trains.
+    pub(crate) fn size(&self) -> usize
         ensures { result ≡ length self.now }
     {
         self.trains.len()
     }
 
-    pub fn has(&self, train: u32) -> bool
+    /// Whether a train is among them.
+    pub(crate) fn has(&self, train: u32) -> bool
         ensures { result ≡ has_train self.now train }
     {
         self.trains.contains(&train)
     }
 
-    // Whether both have the same trains.
-    pub fn is_same(&self, other: &Group) -> bool
+    /// Whether both have the same trains.
+    pub(crate) fn is_same(&self, other: &Group) -> bool
         ensures { IsTrue result ↔ (self.now ≡ other.now) }
     {
         self.as_slice() == other.as_slice()
@@ -62,8 +64,8 @@ fn is_smallest(groups: &[Group], group: &Group) -> bool
     groups.iter().all(|other| group.size() <= other.size())
 }
 
-// The first of the groups that has the fewest trains; an empty one where there are no groups.
-pub fn smallest(alloc: Global, groups: &[Group]) -> Result<Group, AllocError>
+/// The first of the groups that has the fewest trains; an empty one where there are no groups.
+pub(crate) fn smallest(alloc: Global, groups: &[Group]) -> Result<Group, AllocError>
     ensures { IfOk result (λ group. group ≡ smallest_of groups.now) }
 {
     for group in groups {

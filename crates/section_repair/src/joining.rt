@@ -9,8 +9,8 @@ use rail_model::State;
 use range_sums::Span;
 use std::alloc::{AllocError, Global};
 
-// The trains of a group, each at its place alone.
-pub fn stays_of(alloc: Global, state: &State, group: &Group) -> Result<Stays, AllocError>
+/// The trains of a group, each at its place alone.
+pub(crate) fn stays_of(alloc: Global, state: &State, group: &Group) -> Result<Stays, AllocError>
     requires { All (λ i. i < length state.now) group.now }
     ensures { IfOk result (λ stays. stays ≡ stays_of_trains state.now group.now) }
 {
@@ -114,8 +114,12 @@ fn partner(others: &[Stays], last: &Stays) -> Option<usize>
         .position(|other| joins(other.as_slice(), last.as_slice()))
 }
 
-// The sections with one more, which joins with the first that it can, again and again.
-pub fn settled(alloc: Global, others: Vec<Stays>, last: Stays) -> Result<Vec<Stays>, AllocError>
+/// The sections with one more, which joins with the first that it can, again and again.
+pub(crate) fn settled(
+    alloc: Global,
+    others: Vec<Stays>,
+    last: Stays,
+) -> Result<Vec<Stays>, AllocError>
     ensures { IfOk result (λ sections. sections.items ≡ settled_of others.items last) }
 {
     let mut sections = others;

@@ -30,8 +30,7 @@ fn treated(
 {
     let group = core(alloc, table, at)?;
     let stays = stays_of(alloc, at, &group)?;
-    let next = settled(alloc, sections, stays)?;
-    Ok(next)
+    settled(alloc, sections, stays)
 }
 
 // The answer: round by round a section more, until a certificate, the budget, the rounds or the room end it.
@@ -91,6 +90,5 @@ pub fn repair(
     ensures exact { IfOk result (IsExact missions) }
     ensures dooms { IfOk result (DoomsAlike missions) }
 {
-    let repair = answer(alloc, missions, budget, rounds)?;
-    Ok(repair)
+    answer(alloc, missions, budget, rounds)
 }

@@ -1,5 +1,6 @@
 use Rattle.std.proofs.Common.{◌<◌, length, arith, ap, subst, sym, ◌∙◌, List}
 use Rattle.std.specs.Prelude.{All}
+use Rattle.std.proofs.lemmas.Result.{IfOk-weaker}
 use Rattle.rail_model.specs.Table.{trains}
 use Rattle.forbidden_states.specs.Forbid.{Stay}
 use Rattle.section_repair.specs.Core.{core}
@@ -18,11 +19,12 @@ stays_of-requires c =
 pub returns-clause-treated : goal.returns-clause-treated
 returns-clause-treated c =
     let p = c.args.at.now in
-    c.in_ok-next.ensures
-    ∙ ap (settled c.args.sections.items) (c.in_ok-stays.ensures ∙ ap (stays_of p) (c.in_ok-group.ensures ∙ ap (λ t. core t p) c.requires.table))
+    let stays = c.in_ok-stays.ensures ∙ ap (stays_of p) (c.in_ok-group.ensures ∙ ap (λ t. core t p) c.requires.table) in
+    IfOk-weaker c.settled.result _ _ (λ next is. is ∙ ap (settled c.args.sections.items) stays) c.settled.ensures
 
 pub returns-clause-count : goal.returns-clause-count
 returns-clause-count c =
     let S = c.args.sections.items in
-    let e = ap (λ (l : List (List Stay)). length l) c.in_ok-next.ensures in
-    omega (arith, e, settled-length (length S) S c.in_ok-stays.stays)
+    IfOk-weaker c.settled.result _ _
+    (λ next is. omega (arith, ap (λ (l : List (List Stay)). length l) is, settled-length (length S) S c.in_ok-stays.stays))
+    c.settled.ensures
