@@ -1,11 +1,11 @@
 -- Worked rows: who waits for whom, what a section weighs, and claims that fail of a wrong table.
-use Rattle.std.proofs.Common.{◌≡◌, ℕ, zero, suc, ◌<◌, ◌≤◌, List, [], ◌∷◌, false, refl, lit<, lit≤, arith, inl, inr}
+use Rattle.std.proofs.Common.{◌≡◌, ℕ, zero, suc, ◌<◌, ◌≤◌, [], ◌∷◌, refl, lit<, lit≤, arith, inl, inr}
 use Rattle.std.proofs.lemmas.Int.{ints}
 use Rattle.rail_model.specs.declared.types.Ask.TheVariants.{Full}
 use Rattle.rail_model.specs.Certificate.{arrived}
 use Rattle.rail_model.specs.Move.{IsOver, Answers, Blocks}
-use Rattle.rail_model.specs.Table.{Table, Mission, last, place}
-use Rattle.forbidden_states.specs.Forbid.{Stay, unmarked, marked}
+use Rattle.rail_model.specs.Table.{Table, last, place}
+use Rattle.forbidden_states.specs.Forbid.{unmarked, marked}
 use Rattle.legal_state.specs.declared.judges.Illegal.TheVariants.{Over}
 use Rattle.legal_state.specs.Causes.{HasPair}
 use Rattle.legal_state.specs.Illegal.{IsIllegal}
@@ -13,19 +13,14 @@ use Rattle.section_repair.specs.declared.repaired.Repair.TheVariants.{Done}
 use Rattle.section_repair.specs.Claims.{IsApart, ForbidsOnlyIncompletable, IsExact, HasShare, StandAlike, DoomsAlike, WaitsFor, IsClosed}
 use Rattle.section_repair.specs.Core.{smallest}
 use Rattle.section_repair.specs.Joining.{settled}
-use Rattle.section_repair.proofs.RepairRows.{two_apart, head_on, starts, mended, certificate, done, dead, passing, passing_starts, completable}
+use Rattle.section_repair.proofs.RepairRows.{two_apart, starts, mended, certificate, done, dead, passing, passing_starts, completable}
 use Rattle.section_repair.proofs.Kept.{is_exact}
-
-abbrev stay : ℕ → ℕ → ℕ → Stay
-stay i lo hi = record { train = i; range = record { lo = lo; hi = hi } }
-
--- T0 at point 1 wants point 2, and T1 at point 2 wants point 1
-abbrev long : List Mission
-long = (record { points = 0 ∷ 1 ∷ 2 ∷ 3 ∷ 4 ∷ []; exits = false }) ∷ (record { points = 5 ∷ 3 ∷ 2 ∷ 1 ∷ 6 ∷ []; exits = false }) ∷ []
+use Rattle.section_repair.proofs.Samples.{stay, long, head_on, follower}
 
 abbrev two_sections : Table
 two_sections = marked long ((stay 0 1 1 ∷ stay 1 2 2 ∷ []) ∷ (stay 0 2 2 ∷ stay 1 1 1 ∷ []) ∷ [])
 
+-- T0 at point 1 wants point 2, and T1 at point 2 wants point 1
 waits_for_occupant : WaitsFor (marked long []) (1 ∷ 2 ∷ []) 0 1
 waits_for_occupant = inl (lit< tt, (lit< tt, λ e. cc, (2, refl, refl)))
 
@@ -46,9 +41,6 @@ waits_for_share : WaitsFor two_sections (1 ∷ 1 ∷ []) 0 1
 waits_for_share = inr (1, 1, full_answer, lit< tt, λ e. cc, grind (arith, ints))
 
 -- a section of T1 and T2, and none of T0
-abbrev follower : List Mission
-follower = (record { points = 2 ∷ 0 ∷ []; exits = false }) ∷ (record { points = 0 ∷ 1 ∷ []; exits = false }) ∷ (record { points = 1 ∷ 0 ∷ []; exits = false }) ∷ []
-
 abbrev of_two : Table
 of_two = marked follower ((stay 1 0 0 ∷ stay 2 0 0 ∷ []) ∷ [])
 

@@ -8,6 +8,7 @@ pub mod OneAnswer
 pub mod Reached
 pub mod RepairRows
 pub mod Rows
+pub mod Samples
 pub mod Stays
 pub mod Steps
 pub mod Told

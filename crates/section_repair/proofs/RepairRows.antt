@@ -12,6 +12,7 @@ use Rattle.forbidden_states.specs.Forbid.{Stay, unmarked, marked}
 use Rattle.section_repair.specs.declared.repaired.Repair.TheVariants.{Done, Spent, Rounds}
 use Rattle.section_repair.specs.Claims.{Completable, IsApart}
 use Rattle.section_repair.specs.Repairs.{Treats, IsReached, Repairs}
+use Rattle.section_repair.proofs.Samples.{stay, head_on}
 
 -- two trains stand at two points
 pub two_apart : (M : List Mission) (a b : ℕ) → length M ≡ 2 → a ≤ last (unmarked M) 0 → b ≤ last (unmarked M) 1
@@ -31,13 +32,9 @@ two_apart M a b size low high differ = record { one_each = sym size; in_range = 
     apart (suc (suc i)) j q i_in j_in other here there = omega (arith, i_in, size)
     apart i (suc (suc j)) q i_in j_in other here there = omega (arith, j_in, size)
 
--- head-on between points 0 and 1
-abbrev pub head_on : List Mission
-head_on = (record { points = 0 ∷ 1 ∷ []; exits = false }) ∷ (record { points = 1 ∷ 0 ∷ []; exits = false }) ∷ []
-
 -- both at their starts
 abbrev pub starts : List Stay
-starts = (record { train = 0; range = record { lo = 0; hi = 0 } }) ∷ (record { train = 1; range = record { lo = 0; hi = 0 } }) ∷ []
+starts = stay 0 0 0 ∷ stay 1 0 0 ∷ []
 
 abbrev pub mended : Table
 mended = marked head_on (starts ∷ [])

@@ -8,18 +8,13 @@ use Rattle.forbidden_states.specs.Forbid.{Stay, marked}
 use Rattle.section_repair.specs.Core.{waits_for, closure, core}
 use Rattle.section_repair.specs.Joining.{joins, union}
 use Rattle.section_repair.specs.Repairs.{treated}
-
-abbrev stay : ℕ → ℕ → ℕ → Stay
-stay i lo hi = record { train = i; range = record { lo = lo; hi = hi } }
+use Rattle.section_repair.proofs.Samples.{stay, long, head_on, follower}
 
 -- the first stuck state that the maker finds
 abbrev stuck_in : List Mission → List (List Stay) → List ℕ → Type 0
 stuck_in M S p = first_stuck (grown 12 (marked M S) (full_box (marked M S))) ≡ Some p
 
 -- a long corridor: the third stuck state's section joins the first's
-abbrev long : List Mission
-long = (record { points = 0 ∷ 1 ∷ 2 ∷ 3 ∷ 4 ∷ []; exits = false }) ∷ (record { points = 5 ∷ 3 ∷ 2 ∷ 1 ∷ 6 ∷ []; exits = false }) ∷ []
-
 abbrev first : List Stay
 first = stay 0 1 1 ∷ stay 1 2 2 ∷ []
 
@@ -80,9 +75,6 @@ gap-joins_not : joins (stay 0 1 1 ∷ stay 1 1 1 ∷ []) (stay 0 1 1 ∷ stay 1 
 gap-joins_not = refl
 
 -- head-on: the section forbids the start
-abbrev head_on : List Mission
-head_on = (record { points = 0 ∷ 1 ∷ []; exits = false }) ∷ (record { points = 1 ∷ 0 ∷ []; exits = false }) ∷ []
-
 head_on-treated : treated head_on [] (0 ∷ 0 ∷ []) ≡ (stay 0 0 0 ∷ stay 1 0 0 ∷ []) ∷ []
 head_on-treated = refl
 
@@ -91,9 +83,6 @@ head_on-sections : (marked head_on ((stay 0 0 0 ∷ stay 1 0 0 ∷ []) ∷ [])).
 head_on-sections = refl
 
 -- a train that waits for two that wait for each other is in no core
-abbrev follower : List Mission
-follower = (record { points = 2 ∷ 0 ∷ []; exits = false }) ∷ (record { points = 0 ∷ 1 ∷ []; exits = false }) ∷ (record { points = 1 ∷ 0 ∷ []; exits = false }) ∷ []
-
 follower-closure : closure (marked follower []) (0 ∷ 0 ∷ 0 ∷ []) 0 ≡ 0 ∷ 1 ∷ 2 ∷ []
 follower-closure = refl
 
