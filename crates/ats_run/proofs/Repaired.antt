@@ -2,20 +2,19 @@
 use Rattle.std.specs.Prelude.{Result, Ok, Err, IfErr, IsErrAnd}
 use Rattle.std.proofs.Common.{◌≡◌, ◌⊎◌, ℕ, ◌+◌, ◌<◌, ◌≤◌, List, [], ◌∷◌, ◌++◌, All, length, refl, sym, ◌∙◌, ap, subst, arith, inl, inr}
 use Rattle.std.proofs.lemmas.Bool.{cases_eq}
-use Rattle.std.proofs.lemmas.Option.{slice_get-get_or}
 use Rattle.std.proofs.lemmas.List.{get_or_append_left, length-append}
 use Rattle.std.proofs.Math.Seq.{get_or-append_seam}
 use Rattle.rail_model.specs.State.{Legal}
 use Rattle.rail_model.specs.Table.{Table, Mission, IsTable}
 use Rattle.rail_model.specs.Certificate.{Tree}
 use Rattle.forbidden_states.specs.Forbid.{Stay, AreStays, marked}
+use Rattle.forbidden_states.proofs.Members.{among-at}
 use Rattle.forbidden_states.proofs.Tables.{is_table}
 use Rattle.section_repair.specs.Repairs.{Repairs}
 use Rattle.section_repair.specs.Claims.{LosesNothing, IsExact, DoomsAlike}
 use Rattle.section_repair.specs.declared.repaired.Repair.{Repair}
 use Rattle.section_repair.specs.declared.repaired.Repair.TheVariants as repair
 use Rattle.section_repair.proofs.Kept.{reached_sound}
-use Rattle.section_repair.proofs.Lists.{get-among}
 use Rattle.layout_json.specs.Doc.{Doc, IsDoc, table_at}
 use Rattle.layout_json.specs.Reading.{doc_of}
 use Rattle.layout_json.specs.Keeps.{IsTaken}
@@ -76,7 +75,7 @@ forbids T U budget rounds c h =
     record {
       sections = S;
       few = h.1.2.few;
-      stays = λ k d lt. (sound _ (get-among S k _ (slice_get-get_or S k d lt))).stays;
+      stays = λ k d lt. (sound _ (among-at S k d lt)).stays;
       table = h.1.2.table;
     }
 

@@ -1,23 +1,20 @@
 -- The sums of the changes of a share that is 1 in a range and 0 elsewhere.
-use Rattle.std.proofs.Common.{◌≡◌, ◌≢◌, ℕ, zero, suc, ◌+◌, ◌<◌, ◌≤◌, ◌==◌, false, ◌&&◌, refl, arith, ◌∙◌, inl, inr, sym}
+use Rattle.std.proofs.Common.{◌≡◌, ◌≢◌, ℕ, zero, suc, ◌+◌, ◌<◌, ◌≤◌, ◌&&◌, refl, arith, ◌∙◌, inl, inr, sym}
 use Rattle.std.specs.Prelude.{ℤ, pos, negsuc, nat_le, if◌then◌else◌}
-use Rattle.std.proofs.lemmas.Bool.Decides.{eqb_tells, leb_tells}
-use Rattle.std.proofs.lemmas.Bool.{eq-eqb, le-leb}
+use Rattle.std.proofs.lemmas.Bool.Decides.{leb_tells}
+use Rattle.std.proofs.lemmas.Bool.{eq-eqb, ne_eqb, le-leb}
 use Rattle.rail_model.specs.Sums.{total_below}
 use Rattle.rail_model.specs.Certificate.{Range, IsIn}
 use Rattle.forbidden_states.specs.Forbid.{change_of}
 
-pub eqb-false : (a b : ℕ) → a ≢ b → (a == b) ≡ false
-eqb-false a b d = elim (eqb_tells a b) [ inl e ↦ absurd (d e.1) | inr e ↦ e.0 ]
-
 change-none : (r : Range) (k : ℕ) → k ≢ r.lo → k ≢ r.hi + 1 → change_of r k ≡ pos 0
-change-none r k d e = rw (eqb-false k r.lo d, eqb-false k (r.hi + 1) e) refl
+change-none r k d e = rw (ne_eqb k r.lo d, ne_eqb k (r.hi + 1) e) refl
 
 change-up : (r : Range) (k : ℕ) → k ≡ r.lo → change_of r k ≡ pos 1
 change-up r k e = rw (eq-eqb k r.lo e) refl
 
 change-down : (r : Range) (k : ℕ) → k ≢ r.lo → k ≡ r.hi + 1 → change_of r k ≡ negsuc 0
-change-down r k d e = rw (eqb-false k r.lo d, eq-eqb k (r.hi + 1) e) refl
+change-down r k d e = rw (ne_eqb k r.lo d, eq-eqb k (r.hi + 1) e) refl
 
 -- the sum of the changes below n, before, within and behind the range
 total-before : (r : Range) (n : ℕ) → r.lo ≤ r.hi → n ≤ r.lo → total_below (change_of r) n ≡ pos 0

@@ -1,5 +1,5 @@
 pub mod Changes
-pub mod Listed
+pub mod Growing
 pub mod Members
 pub mod Over
 pub mod Rows

@@ -3,7 +3,8 @@ use Rattle.std.proofs.Common.{◌≡◌, ◌≢◌, ℕ, zero, suc, ◌+◌, ◌
 use Rattle.std.specs.Prelude.{slice_get, pos, ◌<ℤ◌, nat_le, if◌then◌else◌}
 use Rattle.std.proofs.lemmas.List.{length-map}
 use Rattle.std.proofs.lemmas.Bool.Decides.{eqb_tells, leb_tells}
-use Rattle.std.proofs.lemmas.Bool.{eq-eqb, le-leb}
+use Rattle.std.proofs.lemmas.Bool.{eq-eqb, ne_eqb, le-leb}
+use Rattle.std.proofs.lemmas.Option.{slice_get_within}
 use Rattle.std.proofs.Math.Facts.{ltb_yes, yes_ltb}
 use Rattle.rail_model.specs.Sums.{sum_below, total_below}
 use Rattle.rail_model.specs.Table.{Mission, Section, limit, share, place, count}
@@ -11,7 +12,6 @@ use Rattle.rail_model.specs.Move.{IsOver}
 use Rattle.rail_model.specs.Certificate.{Range, IsIn}
 use Rattle.rail_model.proofs.Sums.{total_same, sum_same}
 use Rattle.forbidden_states.specs.Forbid.{Stay, AreStays, InStays, AreInRange, stay_of, forbidding, marked}
-use Rattle.forbidden_states.proofs.Changes.{eqb-false}
 use Rattle.forbidden_states.proofs.Shares.{hit, hit_of, share-marked, section-at}
 
 -- how many of the stays' trains are in their ranges
@@ -49,17 +49,12 @@ sum-hits : (n : ℕ) (p : List ℕ) (b : List Stay) → AreStays n b → sum_bel
 sum-hits n p [] a = sum-zero n
 sum-hits n p (s ∷ b) a =
     let other : (i : ℕ) → i < n → i ≢ s.train → hit_of (stay_of (s ∷ b) i) (place p i) ≡ hit_of (stay_of b i) (place p i) =
-    λ i l d. rw (eqb-false s.train i (λ e. d (sym e))) refl in
+    λ i l d. rw (ne_eqb s.train i (λ e. d (sym e))) refl in
     let own : hit_of (stay_of b s.train) (place p s.train) ≡ 0 = rw (a.2) refl in
     let t = sum-at (λ i. hit_of (stay_of (s ∷ b) i) (place p i)) (λ i. hit_of (stay_of b i) (place p i)) n s.train a.0 other own in
     let u : hit_of (stay_of (s ∷ b) s.train) (place p s.train) ≡ hit s.range (place p s.train) = rw (eq-eqb s.train s.train refl) refl in
     let v : sum_below (λ i. hit_of (stay_of b i) (place p i)) n ≡ hits p b = sum-hits n p b a.3 in
     cc
-
-get-lt : {X : Type 0} (xs : List X) (i : ℕ) (x : X) → slice_get xs i ≡ Some x → i < length xs
-get-lt [] i x h = cc
-get-lt (y ∷ ys) zero x h = omega arith
-get-lt (y ∷ ys) (suc i) x h = omega (arith, get-lt ys i x h)
 
 pub count-marked : (M : List Mission) (all : List (List Stay)) (s : ℕ) (b : List Stay) (p : List ℕ)
     → slice_get all s ≡ Some b → AreStays (length M) b → AreInRange M p → count (marked M all) s p ≡ pos (hits p b)
@@ -71,7 +66,7 @@ count-marked M all s b p at are range =
 pub hit-le : (r : Range) (k : ℕ) → hit r k ≤ 1
 hit-le r k = (elim (nat_le r.lo k && nat_le k r.hi) as (λ b. (if b then 1 else 0) ≤ 1) [ true ↦ omega arith | false ↦ omega arith ])
 
-hit-in : (r : Range) (k : ℕ) → IsIn k r → hit r k ≡ 1
+pub hit-in : (r : Range) (k : ℕ) → IsIn k r → hit r k ≡ 1
 hit-in r k i = rw (le-leb r.lo k i.0, le-leb k r.hi i.1) refl
 
 in-hit : (r : Range) (k : ℕ) → 0 < hit r k → IsIn k r
@@ -121,5 +116,5 @@ in_over M all s b p at some are range h =
     let f : limit (marked M all) s ≡ length b - 1 = ap (λ (c : Section). c.limit) (section-at M all s b at) in
     let u : hits p b ≡ length b = hits-all p b h in
     let n : length (map (forbidding M) all) ≡ length all = length-map all (forbidding M) in
-    let l : s < length all = get-lt all s b at in
+    let l : s < length all = slice_get_within all s b at in
     (omega arith, subst (λ n. pos (limit (marked M all) s) <ℤ n) (sym e) (lt-pos _ _ (omega arith)))

@@ -1,16 +1,17 @@
 -- Missions with sections that forbid stays make a table.
-use Rattle.std.proofs.Common.{◌≡◌, ℕ, zero, suc, ◌+◌, ◌-◌, ◌<◌, ◌≤◌, ◌==◌, true, false, List, [], ◌∷◌, map, length, Option, Some, None, refl, arith, ap, ◌∙◌, inl, inr, subst, sym}
+use Rattle.std.proofs.Common.{◌≡◌, ℕ, ◌+◌, ◌-◌, ◌<◌, ◌≤◌, ◌==◌, true, false, List, [], ◌∷◌, map, length, Option, Some, None, arith, ap, ◌∙◌, inl, inr, subst, sym}
 use Rattle.std.specs.Prelude.{All, slice_get, slice_index_or, pos, ◌≤ℤ◌, nat_eq}
 use Rattle.std.specs.List.{IsDistinct, AllByRecursion, list_any}
 use Rattle.std.proofs.lemmas.List.{length-map}
 use Rattle.std.proofs.lemmas.List.FromFn.{length-map-range_with_len}
 use Rattle.std.proofs.lemmas.Map.Steps.{length-le_from_distinct_below}
 use Rattle.std.proofs.lemmas.Map.Keys.{IsDistinct-cons}
+use Rattle.std.proofs.lemmas.Bool.{ne_eqb}
 use Rattle.std.proofs.lemmas.Bool.Decides.{eqb_tells}
+use Rattle.std.proofs.lemmas.Option.{slice_get-get_or}
 use Rattle.std.proofs.lemmas.Int.{ints}
 use Rattle.rail_model.specs.Table.{Mission, Section, mission, last_of, section, limit, AreMissions, IsTable, IsSection}
 use Rattle.forbidden_states.specs.Forbid.{Stay, AreStays, unmarked, stay_of, change_at, changes_of, all_changes, forbidding, marked}
-use Rattle.forbidden_states.proofs.Changes.{eqb-false}
 use Rattle.forbidden_states.proofs.Shares.{hit_of, share-marked, section-at, changes-at}
 use Rattle.forbidden_states.proofs.Over.{hit-le}
 
@@ -23,7 +24,7 @@ none-apart : (t : ℕ) (b : List Stay) → stay_of b t ≡ None → AllByRecursi
 none-apart t [] h = tt
 none-apart t (s ∷ b) h = elim (eqb_tells s.train t) [
   | inl e ↦ absurd (let f : Some s ≡ None = rw e.0 at h in cc)
-  | inr e ↦ (eqb-false t s.train (λ u. e.1 (sym u)), none-apart t b (rw e.0 at h))
+  | inr e ↦ (ne_eqb t s.train (λ u. e.1 (sym u)), none-apart t b (rw e.0 at h))
 ]
 
 are-distinct : (n : ℕ) (b : List Stay) → AreStays n b → IsDistinct nat_eq (trains_of b)
@@ -56,15 +57,10 @@ hit_of-le : (o : Option Stay) (k : ℕ) → hit_of o k ≤ 1
 hit_of-le None k = omega arith
 hit_of-le (Some s) k = hit-le s.range k
 
-listed : (all : List (List Stay)) (s : ℕ) → s < length all → slice_get all s ≡ Some (slice_index_or all s [])
-listed [] s l = absurd (omega arith)
-listed (b ∷ all) zero l = refl
-listed (b ∷ all) (suc s) l = listed all s (omega arith)
-
 is_section : (M : List Mission) (all : List (List Stay)) (s : ℕ) → length M ≤ 32 → s < length all → AreStays (length M) (slice_index_or all s []) → IsSection (marked M all) s
 is_section M all s few l are =
     let b : List Stay = slice_index_or all s [] in
-    let at : slice_get all s ≡ Some b = listed all s l in
+    let at : slice_get all s ≡ Some b = slice_get-get_or all s [] l in
     let e : section (marked M all) s ≡ forbidding M b = section-at M all s b at in
     let n : length b ≤ length M = stays-le (length M) b are in
     let low : limit (marked M all) s ≡ length b - 1 = ap (λ (c : Section). c.limit) e in

@@ -1,7 +1,7 @@
 -- Circular waits that are added part by part.
-use Rattle.std.proofs.Common.{◌≡◌, ◌⊎◌, ℕ, zero, suc, ◌+◌, ◌<◌, ◌≤◌, List, [], ◌∷◌, ◌++◌, length, length-append, take, drop, append-nil, append_assoc, Result, refl, arith, ap, ◌∙◌, inl, inr, subst, sym}
+use Rattle.std.proofs.Common.{◌≡◌, ◌⊎◌, ℕ, zero, suc, ◌+◌, ◌<◌, ◌≤◌, List, [], ◌∷◌, ◌++◌, length, length-append, take, drop, append-nil, append_assoc, Result, arith, ap, ◌∙◌, inl, inr, subst, sym}
 use Rattle.std.specs.Prelude.{flat_map, slice_index_or, IsErrAnd}
-use Rattle.std.proofs.lemmas.List.{take_more, take_all, take-append-drop}
+use Rattle.std.proofs.lemmas.List.{take_more, take_all, take-append-drop, flat_map_more}
 use Rattle.std.proofs.lemmas.List.Concat.{flat_map-append}
 use Rattle.rail_model.specs.Table.{Mission}
 use Rattle.rail_model.proofs.Firsts.{Err-is}
@@ -43,8 +43,7 @@ own_first M r (suc n) = (flat_map (λ w. rings_from M (r ++ w ∷ []) n) (pairs 
 pub flat-more : {X Y : Type 0} (f : X → List Y) (xs : List X) (k : ℕ) (x : X) → k < length xs → x ≡ slice_index_or xs k x →
     flat_map f (take (k + 1) xs) ≡ flat_map f (take k xs) ++ f x
 flat-more f xs k x l at =
-    ap (flat_map f) (take_more xs k x l) ∙ flat_map-append f (take k xs) (slice_index_or xs k x ∷ [])
-    ∙ ap (λ ys. flat_map f (take k xs) ++ ys) (append-nil (f (slice_index_or xs k x)) ∙ ap f (sym at))
+    ap (flat_map f) (take_more xs k x l ∙ ap (λ y. take k xs ++ y ∷ []) (sym at)) ∙ sym (flat_map_more f [] (take k xs) x)
 
 -- the parts before an element, its own, and those behind
 pub flat-split : {X Y : Type 0} (f : X → List Y) (xs : List X) (k : ℕ) (x : X) → k < length xs → x ≡ slice_index_or xs k x →
@@ -80,9 +79,3 @@ failed_part f xs k x base own before after whole r e l at so_far split err fails
     (subst (λ v. Fails v e)
     (ap (λ v. v ++ f x) so_far ∙ append_assoc base (own ++ parts) (f x) ∙ ap (λ v. base ++ v) (append_assoc own parts (f x)))
     fails)
-
--- which default is given doesn't matter within a list
-pub at-any : {X : Type 0} (xs : List X) (k : ℕ) (d e : X) → k < length xs → slice_index_or xs k d ≡ slice_index_or xs k e
-at-any [] k d e l = absurd (omega arith)
-at-any (x ∷ xs) zero d e l = refl
-at-any (x ∷ xs) (suc k) d e l = at-any xs k d e (omega arith)

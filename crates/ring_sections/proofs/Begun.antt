@@ -1,22 +1,21 @@
 -- What follows in a circular wait that begins with some pairs.
-use Rattle.std.proofs.Common.{◌≡◌, ℕ, ◌+◌, ◌-◌, ◌<◌, ◌≤◌, ◌==◌, ◌%◌, true, List, [], ◌∷◌, ◌++◌, length, length-append, append-nil, append_assoc, Some, arith, ap, ◌∙◌, subst, sym}
+use Rattle.std.proofs.Common.{◌≡◌, ℕ, ◌+◌, ◌-◌, ◌<◌, ◌≤◌, ◌==◌, ◌%◌, true, List, [], ◌∷◌, ◌++◌, length, length-append, append-nil, append_assoc, Some, refl, arith, ap, ◌∙◌, subst, sym}
 use Rattle.std.specs.Prelude.{Decides, slice_index}
+use Rattle.std.proofs.lemmas.List.{get_or_at, get_or_append_left}
+use Rattle.std.proofs.lemmas.Option.{same_Some}
 use Rattle.std.proofs.lemmas.Bool.Decides.{Decides-and, Decides-ltb, Decides-eqb}
 use Rattle.std.proofs.Math.Nat.{mod_self, mod-eq_of_lt}
 use Rattle.rail_model.specs.Table.{Mission}
 use Rattle.ring_sections.specs.Ring.{Pair, IsRing, pair_at, point_at, next_point}
 use Rattle.ring_sections.specs.Search.{WaitsFor, IsTaken, fits}
 use Rattle.ring_sections.specs.Levels.{AreLevels}
-use Rattle.ring_sections.proofs.RingTests.{get-append-left, get-append-right, Decides-any_index}
-
-some_same : (p q : ℕ) → Some p ≡ Some q → p ≡ q
-some_same p q e = cc
+use Rattle.ring_sections.proofs.RingTests.{Decides-any_index}
 
 pub at_old : (r later : List Pair) (k : ℕ) → k < length r → pair_at (r ++ later) k ≡ pair_at r k
-at_old r later k l = get-append-left r later k (0, 0) l
+at_old r later k l = get_or_append_left r later (0, 0) k l
 
 pub at_new : (r : List Pair) (w : Pair) (later : List Pair) → pair_at (r ++ w ∷ later) (length r) ≡ w
-at_new r w later = get-append-right r (w ∷ later) (length r) (0, 0) (omega arith) ∙ ap (λ k. pair_at (w ∷ later) k) (let z : length r - length r ≡ 0 = omega arith in z)
+at_new r w later = get_or_at r w later (0, 0) (length r) refl
 
 longer : (r : List Pair) (w : Pair) (later : List Pair) → length r < length (r ++ w ∷ later)
 longer r w later = omega (arith, length-append r (w ∷ later))
@@ -46,7 +45,7 @@ pub next_stands : (M : List Mission) (r : List Pair) (w : Pair) (later : List Pa
     IsRing M (r ++ w ∷ later) → point_at M w ≡ Some q
 next_stands M r w later q some wanted ring =
     let u = waits_for_next M r w later some ring in
-    u.2 ∙ ap Some (some_same u.0 q (sym u.1 ∙ wanted))
+    u.2 ∙ ap Some (same_Some u.0 q (sym u.1 ∙ wanted))
 
 -- nothing follows where the wanted point is taken
 pub none_behind : (M : List Mission) (r : List Pair) (w : Pair) (later : List Pair) (q : ℕ) → 0 < length r → next_point M (pair_at r (length r - 1)) ≡ Some q →
@@ -79,22 +78,19 @@ next_fits M r w later some ring =
       (λ k m same. ring.one_each k (length r) m l (ap (λ (v : Pair). v.0) (at_old r (w ∷ later) k m) ∙ same ∙ sym (ap (λ (v : Pair). v.0) here))),
     )
 
-joined : (r : List Pair) (w : Pair) (later : List Pair) → r ++ w ∷ later ≡ (r ++ w ∷ []) ++ later
-joined r w later = sym (append_assoc r (w ∷ []) later)
-
 -- The level of the wanted point is at most the number of pairs that follow.
 pub low_level : (M : List Mission) (first : Pair) (levels : List ℕ) → AreLevels M first levels → (later r : List Pair) (q : ℕ) → 0 < length r → pair_at r 0 ≡ first →
     IsRing M (r ++ later) → next_point M (pair_at r (length r - 1)) ≡ Some q → slice_index levels q ≤ length later
 low_level M first levels are [] r q some begun ring wanted =
     let u = waits_for_first M r some (subst (IsRing M) (append-nil r) ring) in
-    let same : u.0 ≡ q = some_same u.0 q (sym u.1 ∙ wanted) in
+    let same : u.0 ≡ q = same_Some u.0 q (sym u.1 ∙ wanted) in
     let goal : point_at M first ≡ Some q = subst (λ v. point_at M v ≡ Some q) begun (u.2 ∙ ap Some same) in
     let zero_level : slice_index levels q ≡ 0 = are.goal q goal in
     omega arith
 low_level M first levels are (w ∷ rest) r q some begun ring wanted =
     let x : List Pair = r ++ w ∷ rest in
     let r' : List Pair = r ++ w ∷ [] in
-    let ring' : IsRing M (r' ++ rest) = subst (IsRing M) (joined r w rest) ring in
+    let ring' : IsRing M (r' ++ rest) = subst (IsRing M) (sym (append_assoc r (w ∷ []) rest)) ring in
     let n : length r' ≡ length r + 1 = length-append r (w ∷ []) in
     let l : length r < length x = longer r w rest in
     let last : pair_at r' (length r' - 1) ≡ w = ap (pair_at r') (let e : length r' - 1 ≡ length r = omega arith in e) ∙ at_new r w [] in

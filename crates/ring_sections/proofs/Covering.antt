@@ -2,11 +2,11 @@
 use Rattle.std.proofs.Common.{◌≡◌, ℕ, ◌-◌, ◌<◌, List, arith, inl, inr, subst, sym}
 use Rattle.std.specs.Prelude.{slice_index_or}
 use Rattle.std.specs.Int.Bits.{bit_and}
+use Rattle.std.proofs.lemmas.List.{get_or_default}
 use Rattle.ring_sections.specs.declared.leading.Reach.{Reach}
 use Rattle.ring_sections.specs.declared.train_set.TrainSet.{TrainSet}
 use Rattle.ring_sections.specs.Ring.{Pair, pair_at}
 use Rattle.ring_sections.specs.Leading.{HasTrain, Avoids, IsKnown, IsCovered}
-use Rattle.ring_sections.proofs.Adding.{at-any}
 use Rattle.ring_sections.proofs.TrainSets.{with_train, has_apart, count_none, count_fewer, avoid_or_meet}
 
 -- Where no more trains may be beside those that are hit, what none of them hits avoids all.
@@ -17,7 +17,7 @@ covered_now known from used hit n is apart none later few avoid = (
   is.2,
   subst (λ s. Avoids s later) (sym is.3) (λ k d l has.
       has_apart used hit (slice_index_or later k d).0 apart has
-      (subst (λ (v : Pair). HasTrain hit v.0) (at-any later k (0, 0) d l) (count_none hit later k (omega arith) l))),
+      (subst (λ (v : Pair). HasTrain hit v.0) (get_or_default later k (0, 0) d l) (count_none hit later k (omega arith) l))),
 )
 
 -- Some pairs avoid what is known, or meet a train of it that isn't hit yet; then it may be hit too.

@@ -2,17 +2,17 @@
 use Rattle.std.proofs.Common.{◌≡◌, ◌≢◌, ℕ, zero, suc, ◌<◌, ◌≤◌, ◌==◌, List, [], ◌∷◌, map, length, Some, arith, ap, ◌∙◌, subst, sym}
 use Rattle.std.specs.Prelude.{All, slice_get, slice_index_or}
 use Rattle.std.specs.Int.Signed.{<ℤ_irrefl, <ℤ-≤ℤ_trans}
+use Rattle.std.proofs.lemmas.Bool.{ne_eqb}
 use Rattle.std.proofs.lemmas.List.{length-map}
 use Rattle.rail_model.specs.Table.{Mission}
 use Rattle.rail_model.specs.Move.{IsOver}
 use Rattle.forbidden_states.specs.Forbid.{Stay, AreStays, InStays}
-use Rattle.forbidden_states.proofs.Changes.{eqb-false}
-use Rattle.forbidden_states.proofs.Members.{among-map, none-found}
+use Rattle.forbidden_states.proofs.Members.{map-among, none-found}
 use Rattle.forbidden_states.proofs.Over.{in_over}
 use Rattle.ring_sections.specs.Ring.{Pair, IsRing, pair_at}
 use Rattle.ring_sections.specs.Marking.{stays, ring_table, HasRing, Excludes}
 use Rattle.ring_sections.proofs.RingLists.{among-index}
-use Rattle.ring_sections.proofs.StepLists.{all-among}
+use Rattle.ring_sections.proofs.StepLists.{among-All}
 
 -- pairs of different trains are stays
 ring-stays : (n : ℕ) (r : List Pair) → ((k : ℕ) → k < length r → (pair_at r k).0 < n) → ((j k : ℕ) → j < k → k < length r → (pair_at r j).0 ≢ (pair_at r k).0) → AreStays n (stays r)
@@ -21,18 +21,18 @@ ring-stays n (w ∷ r) low apart = (
   low 0 (omega arith),
   omega arith,
   none-found (λ s. s.train == w.0) (stays r) (λ s a.
-      let u = among-map (λ v. record { train = v.0; range = record { lo = v.1; hi = v.1 } }) r s a in
+      let u = map-among (λ v. record { train = v.0; range = record { lo = v.1; hi = v.1 } }) r s a in
       let k = among-index r u.0 (0, 0) u.1 in
       let same : s.train ≡ u.0.0 = sym (ap (λ (x : Stay). x.train) u.2) in
       let here : (pair_at r k.0).0 ≡ u.0.0 = ap (λ (x : Pair). x.0) k.2 in
-      eqb-false s.train w.0 (λ e. apart 0 (suc k.0) (omega arith) (omega (arith, k.1)) (sym (here ∙ sym same ∙ e)))),
+      ne_eqb s.train w.0 (λ e. apart 0 (suc k.0) (omega arith) (omega (arith, k.1)) (sym (here ∙ sym same ∙ e)))),
   ring-stays n r (λ k l. low (suc k) (omega arith)) (λ j k l m. apart (suc j) (suc k) (omega arith) (omega arith)),
 )
 
 -- circular waits give stays
 pub rings-stays : (M : List Mission) (rs : List (List Pair)) → All (IsRing M) rs → All (AreStays (length M)) (map stays rs)
-rings-stays M rs all = all-among (AreStays (length M)) (map stays rs) (λ s a.
-    let u = among-map stays rs s a in
+rings-stays M rs all = among-All (AreStays (length M)) (map stays rs) (λ s a.
+    let u = map-among stays rs s a in
     let k = among-index rs u.0 u.0 u.1 in
     let ring : IsRing M u.0 = subst (IsRing M) k.2 (all k.0 u.0 k.1) in
     subst (AreStays (length M)) u.2 (ring-stays (length M) u.0 ring.train ring.one_each))

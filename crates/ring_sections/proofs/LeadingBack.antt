@@ -1,26 +1,23 @@
 -- What is lost, step by step; and a circular wait's later pairs lead back.
 use Rattle.std.proofs.Common.{◌≡◌, ℕ, suc, ◌+◌, ◌-◌, ◌<◌, ◌≤◌, List, [], ◌∷◌, ◌++◌, length, length-append, append-nil, append_assoc, Some, None, arith, ap, ◌∙◌, inl, inr, subst, sym}
 use Rattle.std.specs.Prelude.{All, slice_index, slice_index_or}
+use Rattle.std.proofs.lemmas.List.{get_or_default, get_or-append-add}
 use Rattle.std.proofs.lemmas.List.Elements.{All-contains}
+use Rattle.std.proofs.lemmas.Option.{same_Some}
 use Rattle.rail_model.specs.Table.{Mission, last as last_place}
 use Rattle.rail_model.proofs.Found.{Among}
 use Rattle.forbidden_states.specs.Forbid.{unmarked}
 use Rattle.ring_sections.specs.declared.leading.Reach.{Reach}
 use Rattle.ring_sections.specs.declared.train_set.TrainSet.{TrainSet}
 use Rattle.ring_sections.specs.Ring.{Pair, IsRing, pair_at, point_at, next_point}
-use Rattle.ring_sections.specs.Search.{IsTaken, standing_at, fits, rings_from}
+use Rattle.ring_sections.specs.Search.{IsTaken, standing_at, rings_from}
 use Rattle.ring_sections.specs.Levels.{AreLevels}
 use Rattle.ring_sections.specs.Leading.{HasTrain, Avoids, MayStand, LeadsBack, IsLost, IsLostBy, IsBehind, IsCovered}
 use Rattle.ring_sections.proofs.RingLists.{among-index}
 use Rattle.ring_sections.proofs.StepLists.{stands-among}
-use Rattle.ring_sections.proofs.RingTests.{get-append-right}
-use Rattle.ring_sections.proofs.Adding.{at-any}
 use Rattle.ring_sections.proofs.TrainSets.{count_all}
 use Rattle.ring_sections.proofs.Begun.{at_old, at_new, Decides-fits, next_fits, next_stands, none_behind, waits_for_first, wants_some}
 use Rattle.ring_sections.proofs.Pruned.{none_from, none_wanted}
-
-some_same : (p q : ℕ) → Some p ≡ Some q → p ≡ q
-some_same p q e = cc
 
 -- ---- points from which nothing leads back
 
@@ -66,7 +63,7 @@ lost_covered M way shut from known hit lost covered later short leads avoid =
 -- where nothing leads back from what is reached by the pair
 pub lost_behind : (M : List Mission) (way : List Pair) (shut : ℕ) (from behind : Reach) (w : Pair) → IsBehind M from w behind → IsLost M way shut behind → IsLostBy M way shut from w
 lost_behind M way shut from behind w is lost later short leads avoid =
-    let same : leads.2.0 ≡ behind.point = some_same leads.2.0 behind.point (sym leads.2.1 ∙ is.point) in
+    let same : leads.2.0 ≡ behind.point = same_Some leads.2.0 behind.point (sym leads.2.1 ∙ is.point) in
     let left = is.left in
     lost later (omega arith) (subst (λ q. LeadsBack M way shut q later) same leads.2.2)
     (λ k d l has. elim (is.used (slice_index_or later k d).0 has) [
@@ -85,9 +82,7 @@ lost_tried M way shut from here n is past away tried = lost_each M way shut from
 -- ---- the later pairs of a circular wait
 
 at_later : (r : List Pair) (w : Pair) (later : List Pair) (k : ℕ) → pair_at (r ++ w ∷ later) (length r + suc k) ≡ pair_at later k
-at_later r w later k =
-    get-append-right r (w ∷ later) (length r + suc k) (0, 0) (omega arith)
-    ∙ ap (λ j. pair_at (w ∷ later) j) (let z : length r + suc k - length r ≡ suc k = omega arith in z)
+at_later r w later k = get_or-append-add r (w ∷ later) (suc k) (0, 0)
 
 -- The later pairs of a circular wait lead back. Its first pairs begin with a way, and take the point that is shut.
 pub ring_leads : (M : List Mission) (way : List Pair) (shut : ℕ) → 0 < length way → (later r : List Pair) (q : ℕ) → 0 < length r →
@@ -95,7 +90,7 @@ pub ring_leads : (M : List Mission) (way : List Pair) (shut : ℕ) → 0 < lengt
     next_point M (pair_at r (length r - 1)) ≡ Some q → LeadsBack M way shut q later
 ring_leads M way shut begun [] r q some begins closed ring wanted =
     let u = waits_for_first M r some (subst (IsRing M) (append-nil r) ring) in
-    let same : u.0 ≡ q = some_same u.0 q (sym u.1 ∙ wanted) in
+    let same : u.0 ≡ q = same_Some u.0 q (sym u.1 ∙ wanted) in
     subst (λ v. point_at M v ≡ Some q) ((begins 0 begun).1) (u.2 ∙ ap Some same)
 ring_leads M way shut begun (w ∷ later) r q some begins closed ring wanted =
     let x : List Pair = r ++ w ∷ later in
@@ -119,7 +114,7 @@ ring_leads M way shut begun (w ∷ later) r q some begins closed ring wanted =
     } in (
       may,
       (λ k d l same. ring.one_each (length r) (length r + suc k) (omega arith) (omega arith)
-          (ap (λ (v : Pair). v.0) here ∙ sym same ∙ ap (λ (v : Pair). v.0) (at-any later k d (0, 0) l ∙ sym (at_later r w later k)))),
+          (ap (λ (v : Pair). v.0) here ∙ sym same ∙ ap (λ (v : Pair). v.0) (get_or_default later k d (0, 0) l ∙ sym (at_later r w later k)))),
       (
         next.0,
         subst (λ v. next_point M v ≡ Some next.0) end next.1,
@@ -154,4 +149,4 @@ none_follow M way shut left w from begun stands next most used lost = none_from 
     ring (subst (λ v. next_point M v ≡ Some from.point) (sym end) next))
     (λ k d l has. whole.one_each (length way) (length way + suc k) (omega arith) (omega arith)
     (ap (λ (v : Pair). v.0) (at_new way w later) ∙ sym (used (slice_index_or later k d).0 has)
-    ∙ ap (λ (v : Pair). v.0) (at-any later k d (0, 0) l ∙ sym (at_later way w later k)))))
+    ∙ ap (λ (v : Pair). v.0) (get_or_default later k d (0, 0) l ∙ sym (at_later way w later k)))))

@@ -4,7 +4,6 @@ pub mod Answering
 pub mod Begun
 pub mod Covering
 pub mod Excluded
-pub mod Growing
 pub mod LeadingBack
 pub mod LeadingRows
 pub mod LevelRows

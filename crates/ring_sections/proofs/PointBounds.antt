@@ -1,14 +1,13 @@
 -- Points below a number, mission by mission.
 use Rattle.std.proofs.Common.{◌≡◌, ℕ, zero, suc, ◌+◌, ◌<◌, ◌≤◌, List, [], ◌∷◌, length, take, Some, slice_get, arith, subst}
 use Rattle.std.specs.Prelude.{All, slice_index_or}
+use Rattle.std.proofs.lemmas.Option.{slice_get_within, get_or_from_slice_get}
 use Rattle.rail_model.specs.Table.{Mission, point}
 use Rattle.forbidden_states.specs.Forbid.{unmarked}
 use Rattle.ring_sections.specs.Search.{ArePointsBelow}
 
 all-get : (xs : List ℕ) (b k q : ℕ) → All (λ x. x < b) xs → slice_get xs k ≡ Some q → q < b
-all-get [] b k q h e = cc
-all-get (x ∷ xs) b zero q h e = let l : x < b = h 0 0 (omega arith) in let s : x ≡ q = cc in omega arith
-all-get (x ∷ xs) b (suc k) q h e = all-get xs b k q (λ j d l. h (suc j) d (omega arith)) e
+all-get xs b k q h e = subst (λ v. v < b) (get_or_from_slice_get xs k q 0 e) (h k 0 (slice_get_within xs k q e))
 
 no-point : (i k q : ℕ) → point (unmarked []) i k ≡ Some q → ⊥
 no-point i k q e = cc

@@ -1,12 +1,13 @@
 -- The circular waits that begin with some pairs, by the pair that comes next; and where there are none.
 use Rattle.std.proofs.Common.{◌≡◌, ℕ, zero, suc, ◌-◌, ◌<◌, ◌≤◌, Bool, true, false, List, [], ◌∷◌, ◌++◌, map, length, append-nil, append_assoc, Some, None, refl, arith, ap, ◌∙◌, inl, inr, subst, sym, cond}
 use Rattle.std.specs.Prelude.{filter, flat_map, slice_index}
+use Rattle.std.proofs.lemmas.Bool.{false_from_ne_true}
 use Rattle.std.proofs.lemmas.List.{map-append}
 use Rattle.std.proofs.lemmas.List.Elements.{filter-append}
 use Rattle.rail_model.specs.Table.{Mission}
 use Rattle.rail_model.proofs.Found.{Among}
 use Rattle.rail_model.proofs.Agree.{Decides-same_point}
-use Rattle.forbidden_states.proofs.Members.{among-map}
+use Rattle.forbidden_states.proofs.Members.{map-among}
 use Rattle.ring_sections.specs.Ring.{Pair, IsRing, pair_at, point_at, next_point, is_ring, pairs, lists_of, rings}
 use Rattle.ring_sections.specs.Search.{IsTaken, stands_at, standing_at, fits, own_ring, rings_from}
 use Rattle.ring_sections.specs.Levels.{AreLevels}
@@ -53,18 +54,14 @@ rings-by_first M n =
 
 -- ---- where there are none
 
-pub not_true : (b : Bool) → (b ≡ true → ⊥) → b ≡ false
-not_true true h = absurd (h refl)
-not_true false h = refl
-
 filter-none : {X : Type 0} (p : X → Bool) (xs : List X) → ((x : X) → Among xs x → p x ≡ false) → filter p xs ≡ []
 filter-none p [] h = refl
 filter-none p (x ∷ xs) h = rw (h x (inl refl)) (filter-none p xs (λ y a. h y (inr a)))
 
 pub none_from : (M : List Mission) (r : List Pair) (n : ℕ) → ((later : List Pair) → length later ≤ n → IsRing M (r ++ later) → ⊥) → rings_from M r n ≡ []
 none_from M r n none = filter-none (is_ring M) (map (λ later. r ++ later) (lists_of (pairs M) n)) (λ x a.
-    let u = among-map (λ later. r ++ later) (lists_of (pairs M) n) x a in
-    not_true (is_ring M x) (λ e.
+    let u = map-among (λ later. r ++ later) (lists_of (pairs M) n) x a in
+    false_from_ne_true (is_ring M x) (λ e.
     none u.0 (lists-short (pairs M) n u.0 u.1) ((Decides-ring M (r ++ u.0)).0 (subst (λ v. is_ring M v ≡ true) (sym u.2) e))))
 
 -- nothing is wanted
@@ -77,21 +74,18 @@ pub too_far : (M : List Mission) (levels : List ℕ) (r : List Pair) (n q : ℕ)
 too_far M levels r n q are some wanted far =
     none_from M r n (λ later short ring. let low = low_level M (pair_at r 0) levels are later r q some refl ring wanted in omega arith)
 
-joined : (r : List Pair) (w : Pair) (later : List Pair) → (r ++ w ∷ []) ++ later ≡ r ++ w ∷ later
-joined r w later = append_assoc r (w ∷ []) later
-
 -- the next pair doesn't stand at the wanted point
 none_elsewhere : (M : List Mission) (r : List Pair) (w : Pair) (n q : ℕ) → 0 < length r → next_point M (pair_at r (length r - 1)) ≡ Some q →
     stands_at M q w ≡ false → rings_from M (r ++ w ∷ []) n ≡ []
 none_elsewhere M r w n q some wanted other = none_from M (r ++ w ∷ []) n (λ later _ ring.
-    let at : point_at M w ≡ Some q = next_stands M r w later q some wanted (subst (IsRing M) (joined r w later) ring) in
+    let at : point_at M w ≡ Some q = next_stands M r w later q some wanted (subst (IsRing M) (append_assoc r (w ∷ []) later) ring) in
     let here : stands_at M q w ≡ true = (Decides-same_point (point_at M w) (Some q)).1 (q, at, refl) in
     cc)
 
 -- the next pair doesn't fit
 pub none_unfit : (M : List Mission) (r : List Pair) (w : Pair) (n : ℕ) → 0 < length r → fits r w ≡ false → rings_from M (r ++ w ∷ []) n ≡ []
 none_unfit M r w n some unfit = none_from M (r ++ w ∷ []) n (λ later _ ring.
-    let f : fits r w ≡ true = next_fits M r w later some (subst (IsRing M) (joined r w later) ring) in
+    let f : fits r w ≡ true = next_fits M r w later some (subst (IsRing M) (append_assoc r (w ∷ []) later) ring) in
     cc)
 
 flat_map-none : {X Y : Type 0} (f : X → List Y) (xs : List X) → ((x : X) → f x ≡ []) → flat_map f xs ≡ []
@@ -106,7 +100,7 @@ none_behind_taken M r (suc n) q some wanted taken =
     rings_from-next M r n
     ∙ ap (λ vs. own_ring M r ++ vs)
     (flat_map-none (λ w. rings_from M (r ++ w ∷ []) n) (pairs M)
-    (λ w. none_from M (r ++ w ∷ []) n (λ later _ ring. none_behind M r w later q some wanted taken (subst (IsRing M) (joined r w later) ring))))
+    (λ w. none_from M (r ++ w ∷ []) n (λ later _ ring. none_behind M r w later q some wanted taken (subst (IsRing M) (append_assoc r (w ∷ []) later) ring))))
     ∙ append-nil (own_ring M r)
 
 flat_map-filter : {X Y : Type 0} (p : X → Bool) (f : X → List Y) (xs : List X) → ((x : X) → p x ≡ false → f x ≡ []) → flat_map f xs ≡ flat_map f (filter p xs)

@@ -1,19 +1,13 @@
 -- The list of the circular waits has just the circular waits.
-use Rattle.std.proofs.Common.{◌≡◌, ℕ, zero, suc, ◌+◌, ◌<◌, ◌≤◌, List, [], ◌∷◌, map, length, refl, arith, ap, inl, inr, subst}
+use Rattle.std.proofs.Common.{◌≡◌, ℕ, zero, suc, ◌<◌, ◌≤◌, List, [], ◌∷◌, map, length, refl, arith, ap, inl, inr, subst}
 use Rattle.std.specs.Prelude.{All, Contains, slice_index_or, ◌↔◌}
-use Rattle.std.specs.List.{range_with_len}
 use Rattle.rail_model.specs.Table.{Mission, last}
 use Rattle.rail_model.specs.Checks.{below}
-use Rattle.rail_model.proofs.Found.{Among, Among-range, Among-flat_map, Among-map}
+use Rattle.rail_model.proofs.Found.{Among, Among-flat_map, Among-map}
 use Rattle.forbidden_states.specs.Forbid.{unmarked}
-use Rattle.forbidden_states.proofs.Members.{among-map, filter-among, among-filter, flat-among}
+use Rattle.forbidden_states.proofs.Members.{map-among, filter-among, among-filter, flat-among, among-at, among-below}
 use Rattle.ring_sections.specs.Ring.{Pair, IsRing, pair_at, is_ring, rings, pairs, lists_of}
 use Rattle.ring_sections.proofs.RingTests.{Decides-ring}
-
-pub at-among : {X : Type 0} (xs : List X) (k : ℕ) (d : X) → k < length xs → Among xs (slice_index_or xs k d)
-at-among [] k d l = absurd (omega arith)
-at-among (x ∷ xs) zero d l = inl refl
-at-among (x ∷ xs) (suc k) d l = inr (at-among xs k d (omega arith))
 
 -- where an element stands
 pub among-index : {X : Type 0} (xs : List X) (x d : X) → Among xs x → (k : ℕ) × (k < length xs) × (slice_index_or xs k d ≡ x)
@@ -23,21 +17,13 @@ among-index (y ∷ ys) x d a = elim a [
   | inr later ↦ let r = among-index ys x d later in (suc r.0, omega (arith, r.1), r.2)
 ]
 
-index-among : {X : Type 0} (xs : List X) (x : X) (k : ℕ) → k < length xs → slice_index_or xs k x ≡ x → Among xs x
-index-among [] x k l e = absurd (omega arith)
-index-among (y ∷ ys) x zero l e = inl e
-index-among (y ∷ ys) x (suc k) l e = inr (index-among ys x k (omega arith) e)
-
-in_range : (a n k : ℕ) → a ≤ k → k < a + n → Among (range_with_len a n) k
-in_range a n k g l = Among-range n a k g l
-
 pub lists-short : (ws : List Pair) (n : ℕ) (r : List Pair) → Among (lists_of ws n) r → length r ≤ n
 lists-short ws zero r a = elim a [ inl e ↦ omega (arith, ap length e) | inr f ↦ absurd f ]
 lists-short ws (suc n) r a = elim a [
   | inl e ↦ omega (arith, ap length e)
   | inr b ↦
       let u = flat-among (λ w. map (λ later. w ∷ later) (lists_of ws n)) ws r b in
-      let v = among-map (λ later. u.0 ∷ later) (lists_of ws n) r u.2 in
+      let v = map-among (λ later. u.0 ∷ later) (lists_of ws n) r u.2 in
       omega (arith, lists-short ws n v.0 v.1, ap length v.2)
 ]
 
@@ -51,11 +37,11 @@ lists-all ws (suc n) (w ∷ r) l h =
 
 pub pairs-all : (M : List Mission) (w : Pair) → w.0 < length M → w.1 < last (unmarked M) w.0 → Among (pairs M) w
 pairs-all M w l k =
-    Among-flat_map (λ i. map (λ a. (i, a)) (below (last (unmarked M) i))) (below (length M)) w.0 w (in_range 0 (length M) w.0 (omega arith) (omega arith))
-    (Among-map (λ a. (w.0, a)) (below (last (unmarked M) w.0)) w.1 (in_range 0 (last (unmarked M) w.0) w.1 (omega arith) (omega arith)))
+    Among-flat_map (λ i. map (λ a. (i, a)) (below (last (unmarked M) i))) (below (length M)) w.0 w (among-below (length M) w.0 l)
+    (Among-map (λ a. (w.0, a)) (below (last (unmarked M) w.0)) w.1 (among-below (last (unmarked M) w.0) w.1 k))
 
 pub contains-among : {X : Type 0} (xs : List X) (x : X) → Contains xs x → Among xs x
-contains-among xs x c = index-among xs x c.0 c.1 c.2
+contains-among xs x c = subst (Among xs) c.2 (among-at xs c.0 x c.1)
 
 pub lists_rings : (M : List Mission) (most : ℕ) (r : List Pair) → Contains (rings M most) r ↔ (IsRing M r × (length r ≤ most))
 lists_rings M most r = (
@@ -71,4 +57,4 @@ lists_rings M most r = (
 
 pub all-rings : (M : List Mission) (most : ℕ) → All (IsRing M) (rings M most)
 all-rings M most k r l = ((Decides-ring M (slice_index_or (rings M most) k r)).0
-    (filter-among (is_ring M) (lists_of (pairs M) most) (slice_index_or (rings M most) k r) (at-among (rings M most) k r l)).1)
+    (filter-among (is_ring M) (lists_of (pairs M) most) (slice_index_or (rings M most) k r) (among-at (rings M most) k r l)).1)

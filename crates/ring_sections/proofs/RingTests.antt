@@ -1,7 +1,8 @@
 -- The test of a circular wait says what the definition says.
-use Rattle.std.proofs.Common.{◌≡◌, ℕ, zero, suc, ◌+◌, ◌-◌, ◌<◌, ◌≤◌, ◌==◌, ◌%◌, Bool, true, false, not, ◌&&◌, ◌||◌, length-append, List, [], ◌∷◌, ◌++◌, length, take, drop, Option, Some, refl, arith, ap, ◌∙◌, inl, inr, subst, sym}
+use Rattle.std.proofs.Common.{◌≡◌, ℕ, zero, suc, ◌+◌, ◌<◌, ◌≤◌, ◌==◌, ◌%◌, Bool, true, false, true≢false, not, ◌&&◌, ◌||◌, length-append, List, [], ◌∷◌, ◌++◌, length, take, drop, Option, Some, refl, arith, ◌∙◌, inl, inr, subst, sym}
 use Rattle.std.specs.Prelude.{Decides, zip, slice_index_or, nat_lt}
 use Rattle.std.specs.List.{list_any, list_all}
+use Rattle.std.proofs.lemmas.List.{get_or_at, get_or_append_left}
 use Rattle.std.proofs.lemmas.Bool.Decides.{leb_tells, Decides-like, Decides-and, Decides-not, Decides-ltb, Decides-eqb}
 use Rattle.std.proofs.Math.Nat.{mod_self, mod-eq_of_lt}
 use Rattle.rail_model.specs.Table.{Mission, last}
@@ -9,9 +10,6 @@ use Rattle.rail_model.specs.Checks.{same_point}
 use Rattle.rail_model.proofs.Agree.{Decides-leb, Decides-same_point}
 use Rattle.forbidden_states.specs.Forbid.{unmarked}
 use Rattle.ring_sections.specs.Ring.{Pair, are_distinct, is_least_first, IsRing, pair_at, is_ring, point_at, next_point}
-
-true_false : true ≡ false → ⊥
-true_false h = cc
 
 at_index : {X : Type 0} (P : X → Type 0) (y : X) (ys : List X) (d : X) → P y → ((k : ℕ) → k < length ys → P (slice_index_or ys k d)) → (k : ℕ) → k < length (y ∷ ys) → P (slice_index_or (y ∷ ys) k d)
 at_index P y ys d h later zero l = h
@@ -34,18 +32,8 @@ behind_first w r f zero z l = absurd (omega arith)
 behind_first w r f (suc k) z l = f k (omega arith)
 
 not-or : {P Q : Type 0} (a b : Bool) → Decides (not a) P → Decides (not b) Q → Decides (not (a || b)) (P × Q)
-not-or true b h k = ((λ e. absurd (true_false (sym e))), (λ f. h.1 f.0))
+not-or true b h k = ((λ e. absurd (true≢false (sym e))), (λ f. h.1 f.0))
 not-or false b h k = ((λ e. (h.0 refl, k.0 e)), (λ f. k.1 f.1))
-
-pub get-append-left : {X : Type 0} (xs ys : List X) (k : ℕ) (d : X) → k < length xs → slice_index_or (xs ++ ys) k d ≡ slice_index_or xs k d
-get-append-left [] ys k d l = absurd (omega arith)
-get-append-left (x ∷ xs) ys zero d l = refl
-get-append-left (x ∷ xs) ys (suc k) d l = get-append-left xs ys k d (omega arith)
-
-pub get-append-right : {X : Type 0} (xs ys : List X) (k : ℕ) (d : X) → length xs ≤ k → slice_index_or (xs ++ ys) k d ≡ slice_index_or ys (k - length xs) d
-get-append-right [] ys k d l = let e : k - 0 ≡ k = omega arith in rw e refl
-get-append-right (x ∷ xs) ys zero d l = absurd (omega arith)
-get-append-right (x ∷ xs) ys (suc k) d l = let e : suc k - suc (length xs) ≡ k - length xs = omega arith in rw e (get-append-right xs ys k d (omega arith))
 
 Decides-all_index : {X : Type 0} (p : X → Bool) (P : X → Type 0) → ((x : X) → Decides (p x) (P x)) → (d : X) (xs : List X) →
     Decides (list_all p xs) ((k : ℕ) → k < length xs → P (slice_index_or xs k d))
@@ -97,11 +85,11 @@ turned-at (w ∷ r) k l = elim (leb_tells (length r) k) [
       let e : k ≡ length r = omega (arith, y.1) in
       let f : k + 1 ≡ suc (length r) = omega arith in
       let z : (k + 1) % length (w ∷ r) ≡ 0 = subst (λ v. v % suc (length r) ≡ 0) (sym f) (mod_self (suc (length r))) in
-      rw z (get-append-right r (w ∷ []) k (0, 0) y.1 ∙ ap (λ v. slice_index_or (w ∷ []) v (0, 0)) (let u : k - length r ≡ 0 = omega arith in u))
+      rw z (get_or_at r w [] (0, 0) k (sym e))
   | inr y ↦
       let n : k + 1 < suc (length r) = omega (arith, y.1) in
       let m : (k + 1) % length (w ∷ r) ≡ suc k = mod-eq_of_lt n ∙ (let u : k + 1 ≡ suc k = omega arith in u) in
-      rw m (get-append-left r (w ∷ []) k (0, 0) y.1)
+      rw m (get_or_append_left r (w ∷ []) (0, 0) k y.1)
 ]
 
 Decides-least : (r : List Pair) → 0 < length r → Decides (is_least_first r) ((k : ℕ) → 0 < k → k < length r → (pair_at r 0).0 < (pair_at r k).0)
@@ -139,7 +127,7 @@ ring_parts M r h =
     (Decides-least r h)
 
 pub Decides-ring : (M : List Mission) (r : List Pair) → Decides (is_ring M r) (IsRing M r)
-Decides-ring M [] = ((λ e. absurd (true_false (sym e))), (λ h. absurd (let s : 2 ≤ length {A = Pair} [] = h.several in omega arith)))
+Decides-ring M [] = ((λ e. absurd (true≢false (sym e))), (λ h. absurd (let s : 2 ≤ length {A = Pair} [] = h.several in omega arith)))
 Decides-ring M (w ∷ later) =
     let r : List Pair = w ∷ later in
     Decides-like (is_ring M r)

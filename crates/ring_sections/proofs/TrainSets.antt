@@ -1,11 +1,10 @@
 -- Sets of trains as bits, and what of some pairs is outside.
-use Rattle.std.proofs.Common.{◌≡◌, ◌⊎◌, ℕ, zero, suc, ◌+◌, ◌<◌, ◌≤◌, ◌==◌, ◌^◌, true, false, cond, List, [], ◌∷◌, length, arith, ap, ◌∙◌, inl, inr, eq-eqb}
+use Rattle.std.proofs.Common.{◌≡◌, ◌⊎◌, ℕ, zero, suc, ◌+◌, ◌<◌, ◌≤◌, ◌==◌, ◌^◌, true, false, cond, List, [], ◌∷◌, length, arith, ap, ◌∙◌, inl, inr, eq-eqb, ne_eqb}
 use Rattle.std.specs.Int.{bit_at}
 use Rattle.std.specs.Int.Bits.{bit_and, bit_or}
 use Rattle.std.proofs.lemmas.Bool.Decides.{eqb_tells, leb_tells}
 use Rattle.std.proofs.lemmas.Nat.Bits.{bit_at-zero, bit_at-lt, bit_at-pow_same, bit_at-pow_other, bit_at_or, bit_at_and, bit_at_above}
 use Rattle.std.proofs.lemmas.List.Elements.{All-nil, All-cons}
-use Rattle.forbidden_states.proofs.Changes.{eqb-false}
 use Rattle.ring_sections.specs.declared.train_set.TrainSet.{TrainSet}
 use Rattle.ring_sections.specs.Ring.{Pair, pair_at}
 use Rattle.ring_sections.specs.Leading.{HasTrain, Avoids, count_outside}
@@ -54,7 +53,7 @@ count_inside s w later h =
 
 count_one : (s : TrainSet) (w : Pair) (later : List Pair) → (HasTrain s w.0 → ⊥) → count_outside s (w ∷ later) ≡ 1 + count_outside s later
 count_one s w later h =
-    let e : (bit_at s.bits w.0 == 1) ≡ false = eqb-false (bit_at s.bits w.0) 1 h in
+    let e : (bit_at s.bits w.0 == 1) ≡ false = ne_eqb (bit_at s.bits w.0) 1 h in
     ap (λ b. cond b 0 1 + count_outside s later) e
 
 pub count_all : (s : TrainSet) (later : List Pair) → count_outside s later ≤ length later

@@ -1,35 +1,36 @@
 -- The closure of a train is the least closed group that holds it, and the core of a stuck state is one.
-use Rattle.std.proofs.Common.{◌≡◌, ◌≢◌, ◌⊎◌, ℕ, zero, suc, ◌+◌, ◌<◌, ◌≤◌, ◌==◌, Bool, true, false, not, ◌||◌, List, [], ◌∷◌, length, Some, None, refl, arith, ap, ◌∙◌, inl, inr, subst, sym}
+use Rattle.std.proofs.Common.{◌≡◌, ◌≢◌, ◌⊎◌, ℕ, zero, suc, ◌+◌, ◌<◌, ◌≤◌, ◌==◌, Bool, true, false, true≢false, not, ◌||◌, List, [], ◌∷◌, length, Some, None, refl, arith, ap, ◌∙◌, inl, inr, subst, sym}
 use Rattle.std.specs.Prelude.{find, filter, unwrap_or, nat_le}
 use Rattle.std.specs.List.{list_any, list_all}
 use Rattle.std.proofs.lemmas.List.FromFn.{length-range_with_len}
-use Rattle.std.proofs.lemmas.Bool.{eq-eqb, eqb-true, not-true, not-false, not_from_false, le-leb}
+use Rattle.std.proofs.lemmas.Bool.{cases_Bool, eq-eqb, eqb-true, not-true, not-false, not_from_false, le-leb, or_cases, or_parts, or_left, or_right}
 use Rattle.std.proofs.lemmas.Bool.Decides.{leb_tells}
 use Rattle.rail_model.specs.Table.{Table, trains, last, place}
 use Rattle.rail_model.specs.State.{Arrived}
 use Rattle.rail_model.specs.Checks.{below}
 use Rattle.rail_model.proofs.Found.{Among, find-none, Among-map}
-use Rattle.forbidden_states.proofs.Members.{filter-among, among-filter, among-map}
+use Rattle.forbidden_states.proofs.Members.{map-among, filter-among, among-filter, among-length, below-among, among-below, find-among}
 use Rattle.section_repair.specs.Core.{waits_for, has, is_drawn_in, widened, widened_times, closure, is_unfinished, closures, core}
 use Rattle.section_repair.specs.Claims.{ClosuresAreLeast}
-use Rattle.section_repair.proofs.Lists.{true_false, bool_cases, or-cases, or-false-left, or-false-right, or-left, or-right, any-among, among-any, all-among, not-all, has-among, among-has, filter-lt, filter-full, below-lt, in-below, all-from, find-among}
+use Rattle.section_repair.proofs.FilterLengths.{filter-lt, filter-full}
+use Rattle.section_repair.proofs.ListTests.{any-among, among-any, all-among, among-all, not-all, has-among, among-has}
 
 -- With each member the set has all below n that the member waits for.
 abbrev pub Closed : Table → List ℕ → List ℕ → Type 0
 Closed T p S = (i j : ℕ) → Among S i → j < trains T → waits_for T p i j ≡ true → Among S j
 
 widened-of : (T : Table) (p S : List ℕ) (j : ℕ) → Among (widened T p S) j → (j < trains T) × (is_drawn_in T p S j ≡ true)
-widened-of T p S j a = let r = filter-among (is_drawn_in T p S) (below (trains T)) j a in (omega (arith, below-lt (trains T) 0 j r.0), r.1)
+widened-of T p S j a = let r = filter-among (is_drawn_in T p S) (below (trains T)) j a in (below-among (trains T) j r.0, r.1)
 
 closed-widened : (T : Table) (p S : List ℕ) → Closed T p S → Closed T p (widened T p S)
 closed-widened T p S c i j a l w =
     let r = widened-of T p S i a in
-    let m : Among S i = elim (or-cases (has S i) (list_any (λ k. waits_for T p k i) S) r.1) [
+    let m : Among S i = elim (or_cases (has S i) (list_any (λ k. waits_for T p k i) S) r.1) [
       | inl e ↦ has-among S i e
       | inr e ↦ let u = any-among (λ k. waits_for T p k i) S e in c u.0 i u.1 r.0 u.2
     ] in
-    among-filter (is_drawn_in T p S) (below (trains T)) j (in-below (trains T) j l)
-    (or-left (has S j) (list_any (λ k. waits_for T p k j) S) (among-has S j (c i j m l w)))
+    among-filter (is_drawn_in T p S) (below (trains T)) j (among-below (trains T) j l)
+    (or_left (has S j) (list_any (λ k. waits_for T p k j) S) (among-has S j (c i j m l w)))
 
 closed-kept : (T : Table) (p : List ℕ) (n : ℕ) (S : List ℕ) → Closed T p S → Closed T p (widened_times T p n S)
 closed-kept T p zero S c = c
@@ -41,24 +42,25 @@ IsSet T S = (q : ℕ → Bool) × (S ≡ filter q (below (trains T)))
 
 -- a set is closed, or widening it adds a member
 grows_or_closed : (T : Table) (p S : List ℕ) → IsSet T S → Closed T p S ⊎ (length S < length (widened T p S))
-grows_or_closed T p S set = elim (bool_cases (list_all (λ j. has S j || not (list_any (λ i. waits_for T p i j) S)) (below (trains T)))) [
-  | inl e ↦ inl (λ i j a l w. elim (or-cases (has S j) (not (list_any (λ k. waits_for T p k j) S)) (all-among _ (below (trains T)) j e (in-below (trains T) j l))) [
+grows_or_closed T p S set = elim (cases_Bool (list_all (λ j. has S j || not (list_any (λ i. waits_for T p i j) S)) (below (trains T)))) [
+  | inl e ↦ inl (λ i j a l w. elim (or_cases (has S j) (not (list_any (λ k. waits_for T p k j) S)) (all-among _ (below (trains T)) j e (among-below (trains T) j l))) [
     | inl h ↦ has-among S j h
-    | inr h ↦ absurd (let f : list_any (λ k. waits_for T p k j) S ≡ false = not-true _ h in let t : list_any (λ k. waits_for T p k j) S ≡ true = among-any (λ k. waits_for T p k j) S i a w in true_false (sym t ∙ f))
+    | inr h ↦ absurd (let f : list_any (λ k. waits_for T p k j) S ≡ false = not-true _ h in let t : list_any (λ k. waits_for T p k j) S ≡ true = among-any (λ k. waits_for T p k j) S i a w in true≢false (sym t ∙ f))
   ])
   | inr e ↦
       let r = not-all _ (below (trains T)) e in
-      let l : has S r.0 ≡ false = or-false-left _ _ r.2 in
-      let w : list_any (λ k. waits_for T p k r.0) S ≡ true = not-false _ (or-false-right _ _ r.2) in
+      let parts = or_parts (has S r.0) _ r.2 in
+      let l : has S r.0 ≡ false = parts.0 in
+      let w : list_any (λ k. waits_for T p k r.0) S ≡ true = not-false _ parts.1 in
       let q : ℕ → Bool = set.0 in
-      let qf : q r.0 ≡ false = elim (bool_cases (q r.0)) [
-        | inl t ↦ absurd (true_false (sym (among-has S r.0 (subst (λ v. Among v r.0) (sym set.1) (among-filter q (below (trains T)) r.0 r.1 t))) ∙ l))
+      let qf : q r.0 ≡ false = elim (cases_Bool (q r.0)) [
+        | inl t ↦ absurd (true≢false (sym (among-has S r.0 (subst (λ v. Among v r.0) (sym set.1) (among-filter q (below (trains T)) r.0 r.1 t))) ∙ l))
         | inr f ↦ f
       ] in
       inr (subst (λ v. length v < length (widened T p S)) (sym set.1)
       (filter-lt q (is_drawn_in T p S) (below (trains T)) r.0
-      (λ x a t. or-left (has S x) _ (among-has S x (subst (λ v. Among v x) (sym set.1) (among-filter q (below (trains T)) x a t))))
-      r.1 qf (or-right (has S r.0) _ w)))
+      (λ x a t. or_left (has S x) _ (among-has S x (subst (λ v. Among v x) (sym set.1) (among-filter q (below (trains T)) x a t))))
+      r.1 qf (or_right (has S r.0) _ w)))
 ]
 
 closes : (T : Table) (p : List ℕ) (n : ℕ) (S : List ℕ) → IsSet T S → Closed T p (widened_times T p n S) ⊎ (length S + n ≤ length (widened_times T p n S))
@@ -78,11 +80,7 @@ times-set T p (suc n) S set = times-set T p n (widened T p S) (is_drawn_in T p S
 times-holds : (T : Table) (p : List ℕ) (n : ℕ) (S : List ℕ) (i : ℕ) → i < trains T → Among S i → Among (widened_times T p n S) i
 times-holds T p zero S i l a = a
 times-holds T p (suc n) S i l a =
-    times-holds T p n (widened T p S) i l (among-filter (is_drawn_in T p S) (below (trains T)) i (in-below (trains T) i l) (or-left (has S i) _ (among-has S i a)))
-
-among-length : (S : List ℕ) (i : ℕ) → Among S i → 0 < length S
-among-length [] i a = absurd a
-among-length (x ∷ S) i a = omega arith
+    times-holds T p n (widened T p S) i l (among-filter (is_drawn_in T p S) (below (trains T)) i (among-below (trains T) i l) (or_left (has S i) _ (among-has S i a)))
 
 -- what a closure is, so far as what is lost depends on it
 pub record IsClosing (T : Table) (p c : List ℕ) : Type 0 where
@@ -97,26 +95,26 @@ closed-of : (T : Table) (p : List ℕ) (n i : ℕ) → i < trains T → n ≡ tr
 closed-of T p zero i l e = absurd (omega arith)
 closed-of T p (suc k) i l e =
     let S : List ℕ = widened T p (i ∷ []) in
-    let m : Among S i = among-filter (is_drawn_in T p (i ∷ [])) (below (trains T)) i (in-below (trains T) i l) (or-left (has (i ∷ []) i) _ (among-has (i ∷ []) i (inl refl))) in
+    let m : Among S i = among-filter (is_drawn_in T p (i ∷ [])) (below (trains T)) i (among-below (trains T) i l) (or_left (has (i ∷ []) i) _ (among-has (i ∷ []) i (inl refl))) in
     let s : IsSet T S = (is_drawn_in T p (i ∷ []), refl) in
     let t : IsSet T (widened_times T p k S) = times-set T p k S s in
     elim (closes T p k S s) [
       | inl c ↦ c
       | inr h ↦ λ x j a b w. subst (λ v. Among v j) (sym t.1)
-          (among-filter t.0 (below (trains T)) j (in-below (trains T) j b)
+          (among-filter t.0 (below (trains T)) j (among-below (trains T) j b)
           (filter-full t.0 (below (trains T)) j
           (let g : length (widened_times T p k S) ≡ length (filter t.0 (below (trains T))) = ap length t.1 in
           let some : 0 < length S = among-length S i m in
           let full : length (below (trains T)) ≡ trains T = length-range_with_len 0 (trains T) in
           omega arith)
-          (in-below (trains T) j b)))
+          (among-below (trains T) j b)))
     ]
 
 closure-of : (T : Table) (p : List ℕ) (n i : ℕ) → i < trains T → n ≡ trains T → place p i ≢ last T i → IsClosing T p (widened_times T p n (i ∷ []))
 closure-of T p zero i l e u = absurd (omega arith)
 closure-of T p (suc k) i l e u =
     let S : List ℕ = widened T p (i ∷ []) in
-    let m : Among S i = among-filter (is_drawn_in T p (i ∷ [])) (below (trains T)) i (in-below (trains T) i l) (or-left (has (i ∷ []) i) _ (among-has (i ∷ []) i (inl refl))) in
+    let m : Among S i = among-filter (is_drawn_in T p (i ∷ [])) (below (trains T)) i (among-below (trains T) i l) (or_left (has (i ∷ []) i) _ (among-has (i ∷ []) i (inl refl))) in
     let s : IsSet T S = (is_drawn_in T p (i ∷ []), refl) in
     let t : IsSet T (widened_times T p k S) = times-set T p k S s in
     record {
@@ -144,24 +142,24 @@ core-in T p y a =
     (elim (find q (closures T p)) as (λ o. find q (closures T p) ≡ o → Among (closures T p) (unwrap_or o [])) [
       | None ↦ λ e.
           let r = least-of (closures T p) y a in
-          absurd (true_false (sym (all-from (λ d. nat_le (length r.0) (length d)) (closures T p) (λ d b. le-leb (length r.0) (length d) (r.2 d b))) ∙ find-none q (closures T p) r.0 e r.1))
+          absurd (true≢false (sym (among-all (λ d. nat_le (length r.0) (length d)) (closures T p) (λ d b. le-leb (length r.0) (length d) (r.2 d b))) ∙ find-none q (closures T p) r.0 e r.1))
       | Some c ↦ λ e. find-among q (closures T p) c e
     ]) refl
 
 -- The core of a state with an unfinished train is a closure of one.
 pub core_is_closing : (T : Table) (p : List ℕ) → (Arrived T p → ⊥) → IsClosing T p (core T p)
-core_is_closing T p h = elim (bool_cases (list_all (λ i. place p i == last T i) (below (trains T)))) [
-  | inl e ↦ absurd (h (λ i l. eqb-true _ _ (all-among _ (below (trains T)) i e (in-below (trains T) i l))))
+core_is_closing T p h = elim (cases_Bool (list_all (λ i. place p i == last T i) (below (trains T)))) [
+  | inl e ↦ absurd (h (λ i l. eqb-true _ _ (all-among _ (below (trains T)) i e (among-below (trains T) i l))))
   | inr e ↦
       let r = not-all _ (below (trains T)) e in
-      let l : r.0 < trains T = omega (arith, below-lt (trains T) 0 r.0 r.1) in
+      let l : r.0 < trains T = below-among (trains T) r.0 r.1 in
       let a : Among (filter (is_unfinished T p) (below (trains T))) r.0 = among-filter (is_unfinished T p) (below (trains T)) r.0 r.1 (not_from_false _ r.2) in
       let b : Among (closures T p) (closure T p r.0) = Among-map (closure T p) (filter (is_unfinished T p) (below (trains T))) r.0 a in
       let c : Among (closures T p) (core T p) = core-in T p (closure T p r.0) b in
-      let m = among-map (closure T p) (filter (is_unfinished T p) (below (trains T))) (core T p) c in
+      let m = map-among (closure T p) (filter (is_unfinished T p) (below (trains T))) (core T p) c in
       let f = filter-among (is_unfinished T p) (below (trains T)) m.0 m.1 in
-      let k : m.0 < trains T = omega (arith, below-lt (trains T) 0 m.0 f.0) in
-      subst (IsClosing T p) m.2 (closure-of T p (trains T) m.0 k refl (λ s. true_false (sym (eq-eqb _ _ s) ∙ not-true _ f.1)))
+      let k : m.0 < trains T = below-among (trains T) m.0 f.0 in
+      subst (IsClosing T p) m.2 (closure-of T p (trains T) m.0 k refl (λ s. true≢false (sym (eq-eqb _ _ s) ∙ not-true _ f.1)))
 ]
 
 -- ---- the closure is the least closed set
@@ -169,7 +167,7 @@ core_is_closing T p h = elim (bool_cases (list_all (λ i. place p i == last T i)
 widened-in : (T : Table) (p X S : List ℕ) → ((j : ℕ) → Among X j → Among S j) → Closed T p S → (j : ℕ) → Among (widened T p X) j → Among S j
 widened-in T p X S sub c j a =
     let r = widened-of T p X j a in
-    elim (or-cases (has X j) (list_any (λ k. waits_for T p k j) X) r.1) [
+    elim (or_cases (has X j) (list_any (λ k. waits_for T p k j) X) r.1) [
       | inl e ↦ sub j (has-among X j e)
       | inr e ↦ let u = any-among (λ k. waits_for T p k j) X e in c u.0 j (sub u.0 u.1) r.0 u.2
     ]

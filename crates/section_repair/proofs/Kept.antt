@@ -1,7 +1,8 @@
 -- Nothing lost: all rounds of a repair.
-use Rattle.std.proofs.Common.{inl, inr, ◌≡◌, ◌↔◌, ℕ, ◌≤◌, List, [], ◌∷◌, length, Some, refl, arith, subst, sym}
-use Rattle.std.specs.Prelude.{slice_get, pos}
+use Rattle.std.proofs.Common.{◌≡◌, ◌↔◌, ℕ, ◌<◌, ◌≤◌, List, [], ◌∷◌, length, Some, arith, subst, sym}
+use Rattle.std.specs.Prelude.{slice_get, slice_index_or, pos}
 use Rattle.std.proofs.lemmas.List.{length-map}
+use Rattle.std.proofs.lemmas.Option.{slice_get-get_or}
 use Rattle.std.proofs.lemmas.Int.{by_lt_z}
 use Rattle.rail_model.specs.Table.{Table, Mission, limit, place, count, last}
 use Rattle.rail_model.specs.State.{Legal}
@@ -16,6 +17,7 @@ use Rattle.legal_state.proofs.Legality.{legal_from}
 use Rattle.cert_maker.specs.declared.made.Made.TheVariants.{Cert as cert, Stuck as found}
 use Rattle.cert_maker.proofs.Meaning.{gives_accepted, gives_stuck}
 use Rattle.forbidden_states.specs.Forbid.{Stay, AreStays, InStays, unmarked, forbidding, marked}
+use Rattle.forbidden_states.proofs.Members.{among-at}
 use Rattle.forbidden_states.proofs.Over.{over_in}
 use Rattle.section_repair.specs.declared.repaired.Repair.{Repair}
 use Rattle.section_repair.specs.declared.repaired.Repair.TheVariants.{Done, Spent, Rounds, Many}
@@ -23,8 +25,7 @@ use Rattle.section_repair.specs.Core.{core}
 use Rattle.section_repair.specs.Joining.{stays_of}
 use Rattle.section_repair.specs.Repairs.{treated, Treats, IsReached, Repairs}
 use Rattle.section_repair.specs.Claims.{Completable, IsApart, ForbidsOnlyIncompletable, table_of, LosesNothing, IsExact, HasShare, StandAlike, DoomsAlike, EachRoundLosesNothing}
-use Rattle.section_repair.proofs.Lists.{get-among, get_below}
-use Rattle.section_repair.proofs.Stays.{stay-below, share-inside}
+use Rattle.section_repair.proofs.Stays.{stay-below, InStays-moved, share-inside}
 use Rattle.section_repair.proofs.Lost.{AreSound, core_sound}
 use Rattle.section_repair.proofs.Unions.{settled_sound}
 
@@ -48,9 +49,11 @@ record IsInside (M : List Mission) (S : List (List Stay)) (s : ℕ) (p : List �
 -- where a state with distinct points is over one of sound sections, its trains are in the section's ranges
 over_inside : (M : List Mission) (S : List (List Stay)) (p : List ℕ) (s : ℕ) → AreSound M S → IsApart M p → IsOver (marked M S) p s → IsInside M S s p
 over_inside M S p s x apart over =
-    let g = get_below S s (omega (arith, over.0, length-map S (forbidding M))) in
-    let a : Among S g.0 = get-among S s g.0 g.1 in
-    record { stays = g.0; get = g.1; among = a; inside = over_in M S s g.0 p g.1 (x g.0 a).stays (λ i l. apart.in_range i l) over }
+    let within : s < length S = omega (arith, over.0, length-map S (forbidding M)) in
+    let b : List Stay = slice_index_or S s [] in
+    let got : slice_get S s ≡ Some b = slice_get-get_or S s [] within in
+    let a : Among S b = among-at S s [] within in
+    record { stays = b; get = got; among = a; inside = over_in M S s b p got (x b a).stays (λ i l. apart.in_range i l) over }
 
 sound_loses_nothing : (M : List Mission) (S : List (List Stay)) → AreSound M S → ForbidsOnlyIncompletable M (marked M S)
 sound_loses_nothing M S x p s apart over run =
@@ -96,14 +99,6 @@ sound_is_exact M S x alive p apart = (
 )
 
 -- ---- a state over a section
-
-InStays-moved : (start p : List ℕ) (b : List Stay) → ((t : Stay) → Among b t → IsIn (place start t.train) t.range → place p t.train ≡ place start t.train) →
-    InStays start b → InStays p b
-InStays-moved start p [] same h = tt
-InStays-moved start p (s ∷ b) same h = (
-  subst (λ k. IsIn k s.range) (sym (same s (inl refl) h.0)) h.0,
-  InStays-moved start p b (λ t a. same t (inr a)) h.1,
-)
 
 -- a state that is illegal only for a section has distinct points
 illegal_apart : (M : List Mission) (S : List (List Stay)) (p : List ℕ) (s n l : ℕ) → IsIllegal (marked M S) p (Over s n l) → IsApart M p

@@ -1,8 +1,9 @@
 pub mod Asks
 pub mod ClaimRows
 pub mod Closed
+pub mod FilterLengths
 pub mod Kept
-pub mod Lists
+pub mod ListTests
 pub mod Lost
 pub mod OneAnswer
 pub mod Reached

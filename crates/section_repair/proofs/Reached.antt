@@ -1,26 +1,21 @@
 -- The table that some rounds reached, from one round to the next.
-use Rattle.std.proofs.Common.{◌≡◌, ℕ, zero, suc, ◌<◌, ◌≤◌, List, [], ◌∷◌, ◌++◌, length, Some, None, refl, arith, ap, ◌∙◌, inl, inr, subst, sym}
+use Rattle.std.proofs.Common.{◌≡◌, ℕ, zero, suc, ◌<◌, ◌≤◌, List, [], ◌∷◌, ◌++◌, length, Some, None, refl, arith, ap, ◌∙◌, subst, sym}
 use Rattle.std.specs.Prelude.{All, filter, find, unwrap_or, slice_index_or}
+use Rattle.std.proofs.lemmas.List.Elements.{All-nil, All-cons}
 use Rattle.rail_model.specs.Table.{Table, Mission, trains}
 use Rattle.rail_model.specs.Checks.{below}
-use Rattle.rail_model.proofs.Found.{Among}
 use Rattle.cert_maker.specs.declared.made.Made.{Made}
 use Rattle.cert_maker.specs.declared.made.Made.TheVariants.{Stuck as found}
 use Rattle.cert_maker.specs.Rule.{Makes}
 use Rattle.forbidden_states.specs.Forbid.{Stay, AreStays, marked}
-use Rattle.forbidden_states.proofs.Members.{among-map, filter-among}
+use Rattle.forbidden_states.proofs.Members.{map-among, filter-among, among-at, below-among, find-among}
 use Rattle.section_repair.specs.Core.{widened, widened_times, closure, closures, is_smallest, is_unfinished, core}
 use Rattle.section_repair.specs.Repairs.{treated, Treats, IsReached}
-use Rattle.section_repair.proofs.Lists.{find-among, below-lt}
 use Rattle.section_repair.proofs.Steps.{widened-below}
 use Rattle.section_repair.proofs.Lost.{AreSound}
 use Rattle.section_repair.proofs.Kept.{reached_sound}
 
 -- ---- the core's trains
-
-one-below : (n i : ℕ) → i < n → All (λ j. j < n) (i ∷ [])
-one-below n i l zero d h = l
-one-below n i l (suc k) d h = absurd (omega arith)
 
 times-below : (T : Table) (p : List ℕ) (n : ℕ) (group : List ℕ) → All (λ j. j < trains T) group → All (λ j. j < trains T) (widened_times T p n group)
 times-below T p zero group all = all
@@ -31,18 +26,11 @@ core-below T p =
     (elim (find (is_smallest (closures T p)) (closures T p)) as (λ o. find (is_smallest (closures T p)) (closures T p) ≡ o → All (λ j. j < trains T) (unwrap_or o [])) [
       | None ↦ λ e k d l. absurd (omega arith)
       | Some c ↦ λ e.
-          let m = among-map (closure T p) (filter (is_unfinished T p) (below (trains T))) c (find-among (is_smallest (closures T p)) (closures T p) c e) in
+          let m = map-among (closure T p) (filter (is_unfinished T p) (below (trains T))) c (find-among (is_smallest (closures T p)) (closures T p) c e) in
           let f = filter-among (is_unfinished T p) (below (trains T)) m.0 m.1 in
-          let l : m.0 < trains T = omega (arith, below-lt (trains T) 0 m.0 f.0) in
-          subst (All (λ j. j < trains T)) m.2 (times-below T p (trains T) (m.0 ∷ []) (one-below (trains T) m.0 l))
+          let l : m.0 < trains T = below-among (trains T) m.0 f.0 in
+          subst (All (λ j. j < trains T)) m.2 (times-below T p (trains T) (m.0 ∷ []) (All-cons (λ j. j < trains T) m.0 [] l (All-nil (λ j. j < trains T))))
     ]) refl
-
--- ---- sections
-
-among-at : {X : Type 0} (xs : List X) (k : ℕ) (d : X) → k < length xs → Among xs (slice_index_or xs k d)
-among-at [] k d l = absurd (omega arith)
-among-at (x ∷ xs) zero d l = inl refl
-among-at (x ∷ xs) (suc k) d l = inr (among-at xs k d (omega arith))
 
 -- ---- rounds
 

@@ -1,24 +1,23 @@
 -- Stays of a section: each train's own, and states in their ranges.
-use Rattle.std.proofs.Common.{◌≡◌, ℕ, ◌<◌, ◌≤◌, List, [], ◌∷◌, length, Some, None, refl, arith, ap, ◌∙◌, inl, inr, subst, sym}
+use Rattle.std.proofs.Common.{◌≡◌, ℕ, ◌<◌, ◌≤◌, List, [], ◌∷◌, length, Some, refl, arith, ap, ◌∙◌, inl, inr, subst, sym}
 use Rattle.std.specs.Prelude.{slice_get, pos, ◌<ℤ◌}
-use Rattle.std.proofs.lemmas.Bool.{eq-eqb, le-leb}
+use Rattle.std.proofs.lemmas.Bool.{eq-eqb}
 use Rattle.std.proofs.lemmas.Bool.Decides.{eqb_tells}
+use Rattle.std.proofs.lemmas.Option.{none-some}
 use Rattle.std.proofs.Math.Facts.{yes_ltb}
 use Rattle.rail_model.specs.Table.{Mission, share, place, last}
-use Rattle.rail_model.specs.Certificate.{Range, IsIn}
+use Rattle.rail_model.specs.Certificate.{IsIn}
 use Rattle.rail_model.proofs.Found.{Among}
 use Rattle.forbidden_states.specs.Forbid.{Stay, AreStays, InStays, unmarked, stay_of, marked}
-use Rattle.forbidden_states.proofs.Shares.{hit, hit_of, share-marked}
-
-some_none : (s : Stay) → Some s ≡ None → ⊥
-some_none s e = cc
+use Rattle.forbidden_states.proofs.Over.{hit-in}
+use Rattle.forbidden_states.proofs.Shares.{hit_of, share-marked}
 
 pub stay-own : (n : ℕ) (b : List Stay) (s : Stay) → AreStays n b → Among b s → stay_of b s.train ≡ Some s
 stay-own n [] s all a = absurd a
 stay-own n (t ∷ b) s all a = elim a [
   | inl e ↦ rw (eq-eqb t.train s.train (ap (λ (v : Stay). v.train) e)) (ap Some e)
   | inr later ↦ elim (eqb_tells t.train s.train) [
-    | inl e ↦ absurd (some_none s (sym (stay-own n b s all.3 later) ∙ ap (stay_of b) (sym e.1) ∙ all.2))
+    | inl e ↦ absurd (none-some s (sym all.2 ∙ ap (stay_of b) e.1 ∙ stay-own n b s all.3 later))
     | inr e ↦ rw e.0 (stay-own n b s all.3 later)
   ]
 ]
@@ -31,12 +30,13 @@ pub InStays-at : (p : List ℕ) (b : List Stay) (s : Stay) → InStays p b → A
 InStays-at p [] s h a = absurd a
 InStays-at p (t ∷ b) s h a = elim a [ inl e ↦ subst (λ (v : Stay). IsIn (place p v.train) v.range) e h.0 | inr later ↦ InStays-at p b s h.1 later ]
 
-pub InStays-like : (p r : List ℕ) (b : List Stay) → ((s : Stay) → Among b s → place r s.train ≡ place p s.train) → InStays p b → InStays r b
-InStays-like p r [] same h = tt
-InStays-like p r (s ∷ b) same h = (subst (λ k. IsIn k s.range) (sym (same s (inl refl))) h.0, InStays-like p r b (λ t a. same t (inr a)) h.1)
-
-hit-in : (r : Range) (k : ℕ) → IsIn k r → hit r k ≡ 1
-hit-in r k i = rw (le-leb r.lo k i.0, le-leb k r.hi i.1) refl
+pub InStays-moved : (start p : List ℕ) (b : List Stay) → ((t : Stay) → Among b t → IsIn (place start t.train) t.range → place p t.train ≡ place start t.train) →
+    InStays start b → InStays p b
+InStays-moved start p [] same h = tt
+InStays-moved start p (s ∷ b) same h = (
+  subst (λ k. IsIn k s.range) (sym (same s (inl refl) h.0)) h.0,
+  InStays-moved start p b (λ t a. same t (inr a)) h.1,
+)
 
 -- a train of a section has a share of it where it is in its range
 pub share-inside : (M : List Mission) (S : List (List Stay)) (s : ℕ) (b : List Stay) (t : Stay) (p : List ℕ) → slice_get S s ≡ Some b →

@@ -1,32 +1,23 @@
 -- The steps of the loops: one more number, one more element, one section less.
 use Rattle.std.proofs.Common.{◌≡◌, ℕ, zero, suc, ◌+◌, ◌<◌, ◌≤◌, Bool, true, false, List, [], ◌∷◌, ◌++◌, map, length, get_or, take, drop, Option, Some, None, refl, arith, ap, ◌∙◌, sym, cond, append-nil, length-append}
 use Rattle.std.specs.Prelude.{All, filter, find, remove, slice_index_or}
-use Rattle.std.specs.List.{range_with_len, position_from}
+use Rattle.std.specs.List.{position_from}
 use Rattle.std.specs.Option.{option_or}
 use Rattle.std.proofs.lemmas.List.{get_or_default, take_more, take-append-drop, map-append}
 use Rattle.std.proofs.lemmas.List.Elements.{filter-append, All-filter}
 use Rattle.std.proofs.lemmas.List.Folds.{find-append}
 use Rattle.std.proofs.lemmas.List.FromFn.{get_or-range_with_len, length-range_with_len, get_or-map-range_with_len, length-map-range_with_len}
 use Rattle.std.proofs.lemmas.List.Edits.{length-remove}
+use Rattle.std.proofs.lemmas.Option.{same_Some}
 use Rattle.rail_model.specs.declared.types.Ask.{Ask}
 use Rattle.rail_model.specs.Table.{Table, trains}
 use Rattle.rail_model.specs.Checks.{below, ask}
 use Rattle.forbidden_states.specs.Forbid.{Stay}
+use Rattle.forbidden_states.proofs.Growing.{below-next}
 use Rattle.section_repair.specs.Core.{asks, is_drawn_in, widened, widened_times}
 use Rattle.section_repair.specs.Joining.{joins, union, settled_in, settled}
-use Rattle.section_repair.proofs.Lists.{some_same}
 
 -- ---- one more number
-
-range-next : (n a : ℕ) → range_with_len a (n + 1) ≡ range_with_len a n ++ (a + n) ∷ []
-range-next zero a = let z : a + 0 ≡ a = omega arith in rw z refl
-range-next (suc n) a =
-    let e : suc n + 1 ≡ suc (n + 1) = omega arith in
-    let z : a + 1 + n ≡ a + suc n = omega arith in
-    rw e (ap (λ r. a ∷ r) (range-next n (a + 1) ∙ ap (λ v. range_with_len (a + 1) n ++ v ∷ []) z))
-
-below-next : (n : ℕ) → below (n + 1) ≡ below n ++ n ∷ []
-below-next n = range-next n 0 ∙ ap (λ v. below n ++ v ∷ []) (let z : 0 + n ≡ n = omega arith in z)
 
 pub filter-more : (q : ℕ → Bool) (n : ℕ) → q n ≡ true → filter q (below (n + 1)) ≡ filter q (below n) ++ n ∷ []
 filter-more q n h =
@@ -95,7 +86,7 @@ position-below : {X : Type 0} (q : X → Bool) (xs : List X) (j k : ℕ) → pos
 position-below q [] j k h = cc
 position-below q (x ∷ xs) j k h =
     (elim (q x) as (λ b. cond b (Some j) (position_from q (j + 1) xs) ≡ Some k → k < j + length (x ∷ xs)) [
-      | true ↦ λ e. let s : j ≡ k = some_same j k e in omega arith
+      | true ↦ λ e. let s : j ≡ k = same_Some j k e in omega arith
       | false ↦ λ e. let r : k < j + 1 + length xs = position-below q xs (j + 1) k e in omega arith
     ]) h
 

@@ -1,9 +1,10 @@
 -- Nothing lost: sections that join, and the list after a round.
-use Rattle.std.proofs.Common.{◌≡◌, ◌⊎◌, ℕ, not, zero, suc, ◌+◌, ◌-◌, ◌≤◌, ◌==◌, Bool, true, false, ◌&&◌, ◌||◌, List, [], ◌∷◌, ◌++◌, map, length, Some, None, refl, arith, ap, ◌∙◌, inl, inr, subst, sym, cond}
+use Rattle.std.proofs.Common.{◌≡◌, ◌⊎◌, ℕ, not, zero, suc, ◌+◌, ◌-◌, ◌≤◌, ◌==◌, Bool, true, false, true≢false, ◌&&◌, ◌||◌, List, [], ◌∷◌, ◌++◌, map, length, Some, None, refl, arith, ap, ◌∙◌, inl, inr, subst, sym, cond}
 use Rattle.std.specs.Prelude.{min, max, count_by, zip, remove, slice_index_or}
 use Rattle.std.specs.List.{list_all, position_from}
 use Rattle.std.proofs.lemmas.List.{length-map}
-use Rattle.std.proofs.lemmas.Bool.{eqb-true}
+use Rattle.std.proofs.lemmas.Bool.{cases_Bool, eqb-true, and_parts, or_cases}
+use Rattle.std.proofs.lemmas.Option.{none-some, same_Some}
 use Rattle.std.proofs.lemmas.Slice.Zip.{firsts-zip, seconds-zip}
 use Rattle.rail_model.specs.Table.{Mission}
 use Rattle.rail_model.proofs.Found.{Among}
@@ -13,7 +14,6 @@ use Rattle.rail_model.specs.Certificate.{IsIn}
 use Rattle.rail_model.specs.Table.{place}
 use Rattle.std.proofs.lemmas.List.Sums.{sum_by-cons}
 use Rattle.std.proofs.lemmas.Bool.Decides.{leb_tells}
-use Rattle.section_repair.proofs.Lists.{true_false, bool_cases, or-cases, some_same, and-left, and-right}
 use Rattle.section_repair.proofs.Lost.{IsSound, AreSound}
 
 -- each pair is of one train and of ranges that are equal or adjoin
@@ -25,42 +25,40 @@ Fits (x ∷ xs) = (x.0.train ≡ x.1.train) × ((is_same_range x.0 x.1 || adjoin
 abbrev pub others_in : List (Stay × Stay) → ℕ
 others_in xs = count_by (λ x. not (is_same_range x.0 x.1)) xs
 
-others-cons : (x : Stay × Stay) (xs : List (Stay × Stay)) → others_in (x ∷ xs) ≡ cond (not (is_same_range x.0 x.1)) 1 0 + others_in xs
-others-cons x xs = sum_by-cons (λ y. cond (not (is_same_range y.0 y.1)) 1 0) x xs
+others-cons : (x : Stay × Stay) (xs : List (Stay × Stay)) (b : Bool) → is_same_range x.0 x.1 ≡ b → others_in (x ∷ xs) ≡ cond (not b) 1 0 + others_in xs
+others-cons x xs b e = sum_by-cons (λ y. cond (not (is_same_range y.0 y.1)) 1 0) x xs ∙ ap (λ c. cond (not c) 1 0 + others_in xs) e
 
 -- the hull of a pair
 abbrev pub hull_of : Stay × Stay → Stay
 hull_of x = hull x.0 x.1
 
 same-range : (s t : Stay) → is_same_range s t ≡ true → (s.range.lo ≡ t.range.lo) × (s.range.hi ≡ t.range.hi)
-same-range s t h = (eqb-true _ _ (and-left _ _ h), eqb-true _ _ (and-right _ _ h))
+same-range s t h = let ends = and_parts _ _ h in (eqb-true _ _ ends.0, eqb-true _ _ ends.1)
 
--- a place in the union of two equal ranges is in both
-in-both : (p : List ℕ) (x : Stay × Stay) → x.0.train ≡ x.1.train → is_same_range x.0 x.1 ≡ true → IsIn (place p x.0.train) (hull_of x).range →
-    IsIn (place p x.0.train) x.0.range × IsIn (place p x.1.train) x.1.range
+-- a place in the hull of two equal ranges is in both
+in-both : (p : List ℕ) (x : Stay × Stay) → x.0.train ≡ x.1.train → is_same_range x.0 x.1 ≡ true → IsIn (place p x.0.train) (hull_of x).range
+    → IsIn (place p x.0.train) x.0.range × IsIn (place p x.1.train) x.1.range
 in-both p x same e h =
-    let r = same-range x.0 x.1 e in
-    let a : x.0.range.lo ≡ x.1.range.lo = r.0 in
-    let b : x.0.range.hi ≡ x.1.range.hi = r.1 in
+    let ends = same-range x.0 x.1 e in
+    let a : x.0.range.lo ≡ x.1.range.lo = ends.0 in
+    let b : x.0.range.hi ≡ x.1.range.hi = ends.1 in
     let g = h.0 in let k = h.1 in
     ((omega arith, omega arith), subst (λ v. IsIn (place p v) x.1.range) same (omega arith, omega arith))
 
 -- where no range differs, a state in the union is in both sections
-union-both : (p : List ℕ) (xs : List (Stay × Stay)) → Fits xs → others_in xs ≡ 0 → InStays p (map hull_of xs) →
-    InStays p (map (λ x. x.0) xs) × InStays p (map (λ x. x.1) xs)
+union-both : (p : List ℕ) (xs : List (Stay × Stay)) → Fits xs → others_in xs ≡ 0 → InStays p (map hull_of xs) → InStays p (map (λ x. x.0) xs) × InStays p (map (λ x. x.1) xs)
 union-both p [] f z h = (tt, tt)
-union-both p (x ∷ xs) f z h = elim (bool_cases (is_same_range x.0 x.1)) [
+union-both p (x ∷ xs) f z h = elim (cases_Bool (is_same_range x.0 x.1)) [
   | inl e ↦
-      let c : others_in (x ∷ xs) ≡ 0 + others_in xs = others-cons x xs ∙ ap (λ b. cond (not b) 1 0 + others_in xs) e in
       let here = in-both p x f.0 e h.0 in
-      let later = union-both p xs f.2 (omega arith) h.1 in
-      ((here.0, later.0), (here.1, later.1))
-  | inr e ↦ absurd (let c : others_in (x ∷ xs) ≡ 1 + others_in xs = others-cons x xs ∙ ap (λ b. cond (not b) 1 0 + others_in xs) e in omega arith)
+      let rest = union-both p xs f.2 (omega (arith, others-cons x xs true e)) h.1 in
+      ((here.0, rest.0), (here.1, rest.1))
+  | inr e ↦ absurd (omega (arith, others-cons x xs false e))
 ]
 
 -- a place in a union of two ranges that adjoin is in one of them
 in-one : (s t : Stay) (k : ℕ) → s.range.lo ≤ s.range.hi → t.range.lo ≤ t.range.hi → adjoins s t ≡ true → min s.range.lo t.range.lo ≤ k → k ≤ max s.range.hi t.range.hi → IsIn k s.range ⊎ IsIn k t.range
-in-one s t k fs ft h g l = elim (or-cases (s.range.hi + 1 == t.range.lo) (t.range.hi + 1 == s.range.lo) h) [
+in-one s t k fs ft h g l = elim (or_cases (s.range.hi + 1 == t.range.lo) (t.range.hi + 1 == s.range.lo) h) [
   | inl e ↦ let u : s.range.hi + 1 ≡ t.range.lo = eqb-true _ _ e in elim (leb_tells k s.range.hi) [ inl y ↦ inl (omega arith, y.1) | inr y ↦ let z = y.1 in inr (omega arith, omega arith) ]
   | inr e ↦ let u : t.range.hi + 1 ≡ s.range.lo = eqb-true _ _ e in elim (leb_tells k t.range.hi) [ inl y ↦ inr (omega arith, y.1) | inr y ↦ let z = y.1 in inl (omega arith, omega arith) ]
 ]
@@ -73,18 +71,16 @@ Filled (x ∷ xs) = (x.0.range.lo ≤ x.0.range.hi) × (x.1.range.lo ≤ x.1.ran
 -- a state in the union is in one of the two
 pub union-one : (p : List ℕ) (xs : List (Stay × Stay)) → Fits xs → Filled xs → others_in xs ≡ 1 → InStays p (map hull_of xs) → InStays p (map (λ x. x.0) xs) ⊎ InStays p (map (λ x. x.1) xs)
 union-one p [] f fl z h = absurd (omega arith)
-union-one p (x ∷ xs) f fl z h = elim (bool_cases (is_same_range x.0 x.1)) [
+union-one p (x ∷ xs) f fl z h = elim (cases_Bool (is_same_range x.0 x.1)) [
   | inl e ↦
-      let c : others_in (x ∷ xs) ≡ 0 + others_in xs = others-cons x xs ∙ ap (λ b. cond (not b) 1 0 + others_in xs) e in
       let here = in-both p x f.0 e h.0 in
-      elim (union-one p xs f.2 fl.2 (omega arith) h.1) [ inl u ↦ inl (here.0, u) | inr u ↦ inr (here.1, u) ]
+      elim (union-one p xs f.2 fl.2 (omega (arith, others-cons x xs true e)) h.1) [ inl u ↦ inl (here.0, u) | inr u ↦ inr (here.1, u) ]
   | inr e ↦
-      let c : others_in (x ∷ xs) ≡ 1 + others_in xs = others-cons x xs ∙ ap (λ b. cond (not b) 1 0 + others_in xs) e in
-      let j : adjoins x.0 x.1 ≡ true = elim (or-cases (is_same_range x.0 x.1) (adjoins x.0 x.1) f.1) [ inl t ↦ absurd (true_false (sym t ∙ e)) | inr t ↦ t ] in
-      let later = union-both p xs f.2 (omega arith) h.1 in
+      let rest = union-both p xs f.2 (omega (arith, others-cons x xs false e)) h.1 in
+      let j : adjoins x.0 x.1 ≡ true = elim (or_cases (is_same_range x.0 x.1) (adjoins x.0 x.1) f.1) [ inl t ↦ absurd (true≢false (sym t ∙ e)) | inr t ↦ t ] in
       elim (in-one x.0 x.1 (place p x.0.train) fl.0 fl.1 j h.0.0 h.0.1) [
-        | inl i ↦ inl (i, later.0)
-        | inr i ↦ inr (subst (λ v. IsIn (place p v) x.1.range) f.0 i, later.1)
+        | inl i ↦ inl (i, rest.0)
+        | inr i ↦ inr (subst (λ v. IsIn (place p v) x.1.range) f.0 i, rest.1)
       ]
 ]
 
@@ -92,7 +88,10 @@ union-one p (x ∷ xs) f fl z h = elim (bool_cases (is_same_range x.0 x.1)) [
 
 fits-zip : (xs : List (Stay × Stay)) → list_all (λ x. is_same_train x.0 x.1) xs ≡ true → list_all (λ x. is_same_range x.0 x.1 || adjoins x.0 x.1) xs ≡ true → Fits xs
 fits-zip [] h k = tt
-fits-zip (x ∷ xs) h k = (eqb-true _ _ (and-left _ _ h), and-left _ _ k, fits-zip xs (and-right (is_same_train x.0 x.1) _ h) (and-right (is_same_range x.0 x.1 || adjoins x.0 x.1) _ k))
+fits-zip (x ∷ xs) h k =
+    let same = and_parts (is_same_train x.0 x.1) _ h in
+    let near = and_parts (is_same_range x.0 x.1 || adjoins x.0 x.1) _ k in
+    (eqb-true _ _ same.0, near.0, fits-zip xs same.1 near.1)
 
 filled-zip : (n : ℕ) (a b : List Stay) → AreStays n a → AreStays n b → Filled (zip a b)
 filled-zip n [] b x y = tt
@@ -104,12 +103,9 @@ fresh-hull [] b i h = refl
 fresh-hull (s ∷ a) [] i h = refl
 fresh-hull (s ∷ a) (t ∷ b) i h =
     (elim (s.train == i) as (λ c. cond c (Some s) (stay_of a i) ≡ None → cond c (Some (hull s t)) (stay_of (map hull_of (zip a b)) i) ≡ None) [
-      | true ↦ λ e. absurd (some_none' s e)
+      | true ↦ λ e. absurd (none-some s (sym e))
       | false ↦ λ e. fresh-hull a b i e
     ]) h
-  where
-    some_none' : (s : Stay) → Some s ≡ None → ⊥
-    some_none' s e = cc
 
 stays-hull : (n : ℕ) (a b : List Stay) → AreStays n a → AreStays n b → AreStays n (map hull_of (zip a b))
 stays-hull n [] b x y = tt
@@ -124,12 +120,12 @@ length-hull a b h = length-map (zip a b) hull_of ∙ sym (length-map (zip a b) (
 -- the union of two sound sections that join is sound
 union_sound : (M : List Mission) (a b : List Stay) → joins a b ≡ true → IsSound M a → IsSound M b → IsSound M (union a b)
 union_sound M a b h x y =
-    let j : ((length a == length b) && list_all (λ v. is_same_train v.0 v.1) (zip a b) && (others_in (zip a b) == 1)) ≡ true = and-left _ _ h in
-    let k = and-right ((length a == length b) && list_all (λ v. is_same_train v.0 v.1) (zip a b) && (others_in (zip a b) == 1)) _ h in
-    let l : ((length a == length b) && list_all (λ v. is_same_train v.0 v.1) (zip a b)) ≡ true = and-left _ _ j in
-    let one : others_in (zip a b) ≡ 1 = eqb-true _ _ (and-right ((length a == length b) && list_all (λ v. is_same_train v.0 v.1) (zip a b)) _ j) in
-    let e : length a ≡ length b = eqb-true _ _ (and-left _ _ l) in
-    let f : Fits (zip a b) = fits-zip (zip a b) (and-right (length a == length b) _ l) k in
+    let all = and_parts ((length a == length b) && list_all (λ v. is_same_train v.0 v.1) (zip a b) && (others_in (zip a b) == 1)) _ h in
+    let most = and_parts ((length a == length b) && list_all (λ v. is_same_train v.0 v.1) (zip a b)) _ all.0 in
+    let trains = and_parts (length a == length b) _ most.0 in
+    let one : others_in (zip a b) ≡ 1 = eqb-true _ _ most.1 in
+    let e : length a ≡ length b = eqb-true _ _ trains.0 in
+    let f : Fits (zip a b) = fits-zip (zip a b) trains.1 all.1 in
     record {
       stays = stays-hull (length M) a b x.stays y.stays;
       some = omega (arith, length-hull a b e, x.some);
@@ -159,7 +155,7 @@ found-at q [] k j d h = cc
 found-at q (y ∷ ys) k j d h =
     (elim (q y) as (λ b. q y ≡ b → cond b (Some j) (position_from q (j + 1) ys) ≡ Some k → (j ≤ k) × Among (y ∷ ys) (slice_index_or (y ∷ ys) (k - j) d) × (q (slice_index_or (y ∷ ys) (k - j) d) ≡ true)) [
       | true ↦ λ e f.
-          let s : j ≡ k = some_same j k f in
+          let s : j ≡ k = same_Some j k f in
           let z : k - j ≡ 0 = omega arith in
           rw z (omega arith, inl refl, e)
       | false ↦ λ e f.

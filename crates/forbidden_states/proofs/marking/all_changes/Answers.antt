@@ -1,7 +1,7 @@
 use Rattle.std.proofs.Common.{◌∙◌, ap}
 use Rattle.rail_model.specs.Table.{Mission, mission}
 use Rattle.forbidden_states.specs.Forbid.{unmarked, stay_of, changes_of}
-use Rattle.forbidden_states.proofs.Listed.{next_listed}
+use Rattle.forbidden_states.proofs.Growing.{next_listed}
 use Rattle.forbidden_states.proofs.marking.all_changes.Goals as goal
 
 pub loop-train-preserved : goal.loop-train-preserved

@@ -1,6 +1,6 @@
 use Rattle.std.proofs.Common.{◌≡◌, ◌∙◌, rules, to_z, of_z, w32}
 use Rattle.forbidden_states.specs.Forbid.{change_at}
-use Rattle.forbidden_states.proofs.Listed.{next_listed}
+use Rattle.forbidden_states.proofs.Growing.{next_listed}
 use Rattle.forbidden_states.proofs.marking.changes_of.Goals as goal
 
 pub loop-place-preserved : goal.loop-place-preserved

@@ -1,7 +1,7 @@
 use Rattle.std.proofs.Common.{◌+◌, ap}
 use Rattle.std.specs.Prelude.{slice_index}
 use Rattle.ring_sections.specs.Levels.{step_at}
-use Rattle.ring_sections.proofs.Growing.{next_behind}
+use Rattle.forbidden_states.proofs.Growing.{next_behind}
 use Rattle.ring_sections.proofs.levels.add_steps.Goals as goal
 
 pub loop-place-preserved : goal.loop-place-preserved

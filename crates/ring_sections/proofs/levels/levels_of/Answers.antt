@@ -1,13 +1,11 @@
-use Rattle.std.proofs.Common.{◌≡◌, ◌≤◌, ℕ, zero, suc, List, [], ◌∷◌, ◌++◌, Some, Vec, Global, refl, rules, length, take, ◌∙◌, ap, subst, sym, arith}
+use Rattle.std.proofs.Common.{◌≡◌, ◌≤◌, ℕ, zero, suc, List, [], ◌∷◌, ◌++◌, Vec, Global, refl, rules, length, take, ◌∙◌, ap, subst, sym, arith}
 use Rattle.std.specs.Prelude.{All, slice_index, slice_set}
 use Rattle.std.proofs.lemmas.List.{take_all, take-append-le}
+use Rattle.std.proofs.lemmas.Option.{same_Some}
 use Rattle.ring_sections.specs.Levels.{IsStepBelow, IsSettled, AreLevels, steps}
 use Rattle.ring_sections.proofs.StepLists.{steps-below, settled-levels}
 use Rattle.ring_sections.proofs.levels.levels_of.Goals as goal
 use Rattle.ring_sections.proofs.levels.levels_of.Goals.{in-Some, in_default}
-
-some_same : (p q : ℕ) → Some p ≡ Some q → p ≡ q
-some_same p q e = cc
 
 -- 0 is read where it was written, and behind the end
 set_zero : (xs : List ℕ) (i q : ℕ) → i ≡ q → slice_index (slice_set xs i 0) q ≡ 0
@@ -38,7 +36,7 @@ returns-clause-levels c =
     (settled-levels c.args.missions.now c.args.first c.settle.new.levels
     (elim c.match-point_of.branch [
       | in-Some w ↦ λ q at.
-          let same : w.in-Some.goal ≡ q = some_same w.in-Some.goal q (sym w.in-Some.is ∙ c.point_of.ensures ∙ at) in
+          let same : w.in-Some.goal ≡ q = same_Some w.in-Some.goal q (sym w.in-Some.is ∙ c.point_of.ensures ∙ at) in
           let zero_set : slice_index c.match-point_of.levels.items q ≡ 0 =
           ap (λ (v : Vec ℕ Global). slice_index v.items q) w.levels-is ∙ set_zero c.in_ok-levels.levels.items w.in-Some.goal q same in
           let l = low q in

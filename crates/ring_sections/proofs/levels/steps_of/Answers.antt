@@ -2,7 +2,7 @@ use Rattle.std.proofs.Common.{ap}
 use Rattle.rail_model.specs.Table.{Mission, mission}
 use Rattle.forbidden_states.specs.Forbid.{unmarked}
 use Rattle.ring_sections.specs.Levels.{train_steps}
-use Rattle.ring_sections.proofs.Growing.{next_flat}
+use Rattle.forbidden_states.proofs.Growing.{next_flat}
 use Rattle.ring_sections.proofs.levels.steps_of.Goals as goal
 
 pub loop-train-preserved : goal.loop-train-preserved

@@ -1,5 +1,6 @@
 use Rattle.std.proofs.Common.{◌≡◌, ◌-◌, ◌+◌, ◌<◌, ◌≤◌, ℕ, List, [], ◌∷◌, ◌++◌, length, length-append, append-nil, Some, Vec, Global, ap, ◌∙◌, subst, sym, arith, slice_index_or}
 use Rattle.std.specs.Prelude.{All, flat_map}
+use Rattle.std.proofs.lemmas.List.{get_or_default}
 use Rattle.std.proofs.lemmas.List.Elements.{All-nil, All-cons, All-append}
 use Rattle.rail_model.specs.Table.{Mission}
 use Rattle.ring_sections.specs.Ring.{Pair, pair_at, point_at, next_point}
@@ -7,7 +8,7 @@ use Rattle.ring_sections.specs.Search.{IsPair, own_ring, rings_from, standing_at
 use Rattle.ring_sections.specs.Levels.{IsChart}
 use Rattle.ring_sections.proofs.Begun.{at_old}
 use Rattle.ring_sections.proofs.Pruned.{none_behind_taken, rings_from-zero, none_wanted, too_far, rings_from-standing}
-use Rattle.ring_sections.proofs.Adding.{adds_none, adds_err, Fails, own_first, added_more, added_all, failed_part, at-any}
+use Rattle.ring_sections.proofs.Adding.{adds_none, adds_err, Fails, own_first, added_more, added_all, failed_part}
 use Rattle.ring_sections.proofs.StepLists.{looked_up, point_within, here_stands, here_valid}
 use Rattle.ring_sections.proofs.search.+extend.Goals as goal
 use Rattle.ring_sections.proofs.search.+extend.Goals.{then-branch+in_ok-way+in_ok-extend, else-branch, then-left-eq0-via-then-left-eq0, then-left-eq0-via-else-left-eq0+then-is_taken}
@@ -128,7 +129,7 @@ returns-in_err-extend t c =
     let longer : c.deref.result.now ≡ r ++ w ∷ [] = c.deref.ensures.value ∙ c.in_ok-way.ensures in
     failed_part (λ v. rings_from M (r ++ v ∷ []) (c.args.left - 1)) here k w c.args.found.now.items (own_ring M r) c.loop-next.found.items c.extend.new.found.items
     (rings_from M r c.args.left) c.from_residual-in_err-extend.result c.in_err-extend.field-0.0
-    c.loop-next-test.true (at-any here k (0, 0) w c.loop-next-test.true) c.loop-next.invariant.found
+    c.loop-next-test.true (get_or_default here k (0, 0) w c.loop-next-test.true) c.loop-next.invariant.found
     (by_here M r here c.args.left c.in-Some.wanted (omega arith) c.requires.some wants is)
     c.from_residual-in_err-extend.ensures.1
     (subst (λ (rs : List Pair). Fails (c.loop-next.found.items ++ rings_from M rs (c.args.left - 1)) c.in_err-extend.field-0.0) longer c.in_err-extend.ensures)
@@ -140,7 +141,7 @@ loop-next-preserved t c =
     let here = c.at-next-items.result.now in
     let k = c.loop-next.next-index in
     let w : Pair = slice_index_or here k (0, 0) in
-    let same : w ≡ slice_index_or here k w = at-any here k (0, 0) w c.loop-next-test.true in
+    let same : w ≡ slice_index_or here k w = get_or_default here k (0, 0) w c.loop-next-test.true in
     let G : Pair → List (List Pair) = λ v. rings_from M (r ++ v ∷ []) (c.args.left - 1) in
     elim c.if-branch.branch [
       | then-branch+in_ok-way+in_ok-extend v ↦

@@ -1,6 +1,6 @@
 use Rattle.std.proofs.Common.{◌≡◌, ◌-◌, ◌<◌, ℕ, zero, suc, List, [], ◌∷◌, length, ap, ◌∙◌, subst, sym, arith, slice_index_or}
 use Rattle.std.specs.Prelude.{All, flat_map}
-use Rattle.std.proofs.lemmas.List.{take_all}
+use Rattle.std.proofs.lemmas.List.{take_all, get_or_default}
 use Rattle.std.proofs.lemmas.List.FromFn.{length-map-range_with_len}
 use Rattle.rail_model.specs.Table.{Mission}
 use Rattle.rail_model.proofs.Firsts.{Answers-err}
@@ -10,7 +10,6 @@ use Rattle.ring_sections.specs.Search.{IsPair, ArePointsBelow, rings_from, stand
 use Rattle.ring_sections.specs.Answer.{all_rings}
 use Rattle.ring_sections.proofs.Pruned.{rings-by_first}
 use Rattle.ring_sections.proofs.RingLists.{all-rings}
-use Rattle.ring_sections.proofs.Adding.{at-any}
 use Rattle.ring_sections.proofs.Answering.{answer_ok, answer_fails, failed_from}
 use Rattle.ring_sections.proofs.StepLists.{valid-pairs}
 use Rattle.ring_sections.proofs.search.rings.Goals as goal
@@ -49,7 +48,7 @@ returns-in_err-add_from-clause-rings c =
     Answers-err Memory (λ found. found.items) c.from_residual-in_err-add_from.result (all_rings M c.args.most) e c.from_residual-in_err-add_from.ensures.1
     (answer_fails M c.args.most e
     (failed_from (λ v. rings_from M (v ∷ []) (c.args.most - 1)) ws k w c.loop-first.found.items (rings M c.args.most) e
-    c.loop-first-test.true (at-any ws k (0, 0) w c.loop-first-test.true) c.loop-first.invariant.found
+    c.loop-first-test.true (get_or_default ws k (0, 0) w c.loop-first-test.true) c.loop-first.invariant.found
     (by_pairs M c.args.most ws (omega arith) (c.deref-first-items.ensures.value ∙ c.in_ok-pairs.ensures))
     c.in_err-add_from.ensures))
 

@@ -1,5 +1,5 @@
 use Rattle.std.proofs.Common.{refl}
-use Rattle.ring_sections.proofs.Growing.{next_behind}
+use Rattle.forbidden_states.proofs.Growing.{next_behind}
 use Rattle.ring_sections.proofs.standing.add_pairs.Goals as goal
 
 pub loop-place-preserved : goal.loop-place-preserved

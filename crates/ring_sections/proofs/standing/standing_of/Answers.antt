@@ -2,7 +2,7 @@ use Rattle.std.proofs.Common.{◌∙◌, ap, subst, sym}
 use Rattle.std.specs.Prelude.{All, filter}
 use Rattle.ring_sections.specs.Search.{IsPair, stands_at, standing_at}
 use Rattle.ring_sections.proofs.StepLists.{valid-pairs}
-use Rattle.forbidden_states.proofs.Listed.{next_listed}
+use Rattle.forbidden_states.proofs.Growing.{next_listed}
 use Rattle.ring_sections.proofs.standing.standing_of.Goals as goal
 
 pub standers_at-requires : goal.standers_at-requires

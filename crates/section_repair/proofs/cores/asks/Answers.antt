@@ -1,6 +1,6 @@
 use Rattle.std.proofs.Common.{rules}
 use Rattle.rail_model.specs.Checks.{ask}
-use Rattle.forbidden_states.proofs.Listed.{next_listed}
+use Rattle.forbidden_states.proofs.Growing.{next_listed}
 use Rattle.section_repair.proofs.Asks.{told_is_ask}
 use Rattle.section_repair.proofs.cores.asks.Goals as goal
 
