@@ -7,6 +7,9 @@ ghost use Rattle.rail_model.specs.Table.{trains};
 use crate::MarkRefused;
 use rail_model::{Connection, Table, last_of, trains_of};
 
+// A table has at most so many connections.
+const MOST_CONNECTIONS: usize = 32;
+
 /// The table with these connections in place of its own. It takes no memory.
 ///
 /// # Errors
@@ -31,7 +34,7 @@ fn check_connections(table: &Table, list: &[Connection]) -> Result<(), MarkRefus
 fn check_count(count: usize) -> Result<(), MarkRefused>
     ensures { result_err result ≡ too_many count }
 {
-    if count > 32 {
+    if count > MOST_CONNECTIONS {
         return Err(MarkRefused::Connections { count });
     }
     Ok(())

@@ -10,6 +10,9 @@ use crate::{MarkRefused, Marks};
 use rail_model::{Changes, Missions, Section, Table};
 use std::alloc::{AllocError, Global};
 
+// A table has at most so many sections.
+const MOST_SECTIONS: usize = 64;
+
 /// The missions with these sections: for each a limit, and for each train one change per place.
 ///
 /// # Errors
@@ -43,7 +46,7 @@ fn check_sections(
 fn check_count(count: usize) -> Result<(), MarkRefused>
     ensures { result_err result ≡ too_many count }
 {
-    if count > 64 {
+    if count > MOST_SECTIONS {
         return Err(MarkRefused::TooMany { count });
     }
     Ok(())
@@ -163,8 +166,5 @@ fn listed(alloc: Global, lists: Vec<(u32, Vec<Vec<i32>>)>) -> Result<Vec<Section
 fn typed(alloc: Global, changes: Vec<Vec<i32>>) -> Result<Vec<Changes>, AllocError>
     ensures { IfOk result (λ typed. typed.items ≡ changes_seen changes.items) }
 {
-    changes
-        .into_iter()
-        .map(|list| Changes::from(list))
-        .collect(alloc)
+    changes.into_iter().map(Changes::from).collect(alloc)
 }

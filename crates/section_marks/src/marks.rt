@@ -10,6 +10,7 @@ pub enum Marks {
 }
 
 impl Marks {
+    // The greatest share of a train at a place.
     pub(crate) fn most_share(self) -> i32
         ensures { result ≡ pos (most_share self) }
     {
@@ -19,6 +20,7 @@ impl Marks {
         }
     }
 
+    // The greatest limit of a section.
     pub(crate) fn most_limit(self) -> u32
         ensures { result ≡ most_limit self }
     {

@@ -1,7 +1,7 @@
 // What is wrong with sections and connections.
 ghost use Rattle.std.specs.Prelude.{◌≡◌};
 
-use std::alloc::{AllocError, AllocFailed};
+use std::alloc::AllocError;
 use thiserror::Error;
 
 /// Why lists are no sections or connections. Sections, trains, places and connections go by number, counted from 0.
@@ -18,7 +18,7 @@ pub enum MarkRefused {
         section: u32,
         value: u32,
     },
-    /// The first train without one change per position; with a list too many, the number of trains.
+    /// The first train without one change per place; with a list too many, the number of trains.
     #[error("changes of section {section} at train {train}")]
     Count {
         section: u32,
@@ -65,16 +65,6 @@ impl From<AllocError> for MarkRefused {
     ghost from_gives = { λ _ e. e ≡ Memory };
 
     fn from(_error: AllocError) -> MarkRefused {
-        MarkRefused::Memory
-    }
-}
-
-impl<T: Drop> From<AllocFailed<T>> for MarkRefused {
-    ghost use Rattle.section_marks.specs.declared.refused.MarkRefused.TheVariants.{Memory};
-
-    ghost from_gives = { λ _ e. e ≡ Memory };
-
-    fn from(_error: AllocFailed<T>) -> MarkRefused {
         MarkRefused::Memory
     }
 }

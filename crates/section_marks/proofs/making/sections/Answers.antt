@@ -5,7 +5,17 @@ use Rattle.section_marks.specs.declared.refused.MarkRefused.TheVariants.{Memory}
 use Rattle.section_marks.specs.Marking.{sections_refusal, table_from}
 use Rattle.section_marks.specs.Seen.{sections_seen}
 use Rattle.section_marks.proofs.Made.{table_of, table_err, table_ok, is_table}
+use Rattle.section_marks.proofs.making.sections.Goals.{In_ok-check_sections, After-new}
 use Rattle.section_marks.proofs.making.sections.Goals as goal
+
+-- the sections that are given pass the checks
+passes : (c : In_ok-check_sections) → None ≡ sections_refusal c.args.marks c.args.missions (sections_seen c.args.lists.items)
+passes c = c.in_ok-check_sections.ensures ∙ ap (λ ls. sections_refusal c.args.marks c.args.missions (sections_seen ls)) c.deref.ensures.value
+
+-- and are those of the table that is made
+made : (c : After-new) → table_of c.args.missions (sections_seen c.args.lists.items)
+    ≡ record { missions = c.args.missions; sections = c.in_ok-sections.sections.items; connections = c.new.result.items }
+made c = λ i. record { missions = c.args.missions; sections = sym c.in_ok-sections.ensures i; connections = sym c.new.ensures.items i }
 
 pub returns-in_err-check_sections : goal.returns-in_err-check_sections
 returns-in_err-check_sections c =
@@ -17,18 +27,13 @@ returns-in_err-check_sections c =
 
 pub new-requires-2 : goal.new-requires-2
 new-requires-2 c =
-    let lists = sections_seen c.args.lists.items in
-    let row : None ≡ sections_refusal c.args.marks c.args.missions lists =
-    c.in_ok-check_sections.ensures ∙ ap (λ ls. sections_refusal c.args.marks c.args.missions (sections_seen ls)) c.deref.ensures.value in
+    let at = goal.at.new-requires-2 c in
     let formed : AreMissions c.args.missions = subst AreMissions c.missions.view_is c.missions.invariant in
-    subst IsTable (λ i. record { missions = c.args.missions; sections = sym c.in_ok-sections.ensures i; connections = sym c.new.ensures.items i })
-    (is_table c.args.marks c.args.missions lists formed (sym row))
+    subst IsTable (made at.After-new)
+    (is_table c.args.marks c.args.missions (sections_seen c.args.lists.items) formed (sym (passes at.In_ok-check_sections)))
 
 pub returns : goal.returns
 returns c =
-    let lists = sections_seen c.args.lists.items in
-    let row : None ≡ sections_refusal c.args.marks c.args.missions lists =
-    c.in_ok-check_sections.ensures ∙ ap (λ ls. sections_refusal c.args.marks c.args.missions (sections_seen ls)) c.deref.ensures.value in
-    let made : table_of c.args.missions lists ≡ record { missions = c.args.missions; sections = c.in_ok-sections.sections.items; connections = c.new.result.items } =
-    λ i. record { missions = c.args.missions; sections = sym c.in_ok-sections.ensures i; connections = sym c.new.ensures.items i } in
-    table_ok c.args.marks c.args.missions lists row ∙ ap Ok (made ∙ sym c.new-2.ensures)
+    let at = goal.at.returns c in
+    table_ok c.args.marks c.args.missions (sections_seen c.args.lists.items) (passes at.In_ok-check_sections)
+    ∙ ap Ok (made at.After-new ∙ sym c.new-2.ensures)
