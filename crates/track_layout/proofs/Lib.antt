@@ -1,4 +1,5 @@
 pub mod Called
+pub mod Checks
 pub mod Doubles
 pub mod Formed
 pub mod Known

@@ -5,7 +5,8 @@ use Rattle.rail_model.specs.Turns.{first_of}
 use Rattle.track_layout.specs.declared.refused.What.TheVariants.{Points, Links, Zones}
 use Rattle.track_layout.specs.declared.refused.LayoutRefused.TheVariants.{TooMany, NoZone, Name, DoubleName, ZoneRange, ZoneEmpty, UnknownPoint, SelfLink}
 use Rattle.track_layout.specs.Making.{layout_from}
-use Rattle.track_layout.proofs.Order.{count_rows, refused_counts}
+use Rattle.track_layout.proofs.Checks.{stop}
+use Rattle.track_layout.proofs.Order.{count_rows, grouped, refused_by}
 
 -- the points A, B and C in one zone, and the links A B and B C
 abbrev points : List (List ℕ × ℕ)
@@ -32,10 +33,12 @@ unfolding layout_from
 both_ways = refl
 
 many_points : (points : List (List ℕ × ℕ)) → length points ≡ 513 → layout_from points [] 1 ≡ Err (TooMany Points 513)
-many_points points size = refused_counts points [] 1 (TooMany Points 513) (ap (λ n. first_of (count_rows n 0 1)) (sym size))
+many_points points size =
+    refused_by points [] 1 (TooMany Points 513) (stop (grouped points [] 1) (ap (λ n. first_of (count_rows n 0 1)) (sym size)))
 
 many_links : (links : List (List ℕ × List ℕ)) → length links ≡ 2049 → layout_from points links 1 ≡ Err (TooMany Links 2049)
-many_links links size = refused_counts points links 1 (TooMany Links 2049) (ap (λ n. first_of (count_rows 3 n 1)) (sym size))
+many_links links size =
+    refused_by points links 1 (TooMany Links 2049) (stop (grouped points links 1) (ap (λ n. first_of (count_rows 3 n 1)) (sym size)))
 
 many_zones : layout_from points links 17 ≡ Err (TooMany Zones 17)
 unfolding layout_from

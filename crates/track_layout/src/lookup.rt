@@ -11,10 +11,8 @@ pub fn number_of(layout: &Layout, name: &str) -> Option<u32>
     ensures none { IsNone result ↔ (Contains (point_names layout.now) name.now → ⊥) }
 {
     let _count = points_of(layout);
-    match place_of(layout.points(), name) {
-        Some(point) => Some(point as u32),
-        None => None,
-    }
+    let point = place_of(layout.points(), name)?;
+    Some(point as u32)
 }
 
 fn place_of(points: &[Point], name: &str) -> Option<usize>

@@ -11,6 +11,13 @@ use crate::{LayoutRefused, Numbers, What};
 use rail_model::{Layout, Link, Point, first_bad_name};
 use std::alloc::{AllocError, Global};
 
+// A layout has at most so many points, links and zones.
+const MOST_POINTS: usize = 512;
+
+const MOST_LINKS: usize = 2048;
+
+const MOST_ZONES: usize = 16;
+
 /// The layout of these points, each with its zone, these links, and so many zones.
 ///
 /// # Errors
@@ -38,9 +45,9 @@ pub fn layout(
 fn check_counts(points: usize, links: usize, zones: u32) -> Result<(), LayoutRefused>
     ensures { result_err result ≡ first_of (too_many What.Points 512 points ∷ too_many What.Links 2048 links ∷ too_many What.Zones 16 zones ∷ no_zone zones ∷ []) }
 {
-    at_most(512, What::Points, points)?;
-    at_most(2048, What::Links, links)?;
-    at_most(16, What::Zones, zones as usize)?;
+    at_most(MOST_POINTS, What::Points, points)?;
+    at_most(MOST_LINKS, What::Links, links)?;
+    at_most(MOST_ZONES, What::Zones, zones as usize)?;
     if zones == 0 {
         return Err(LayoutRefused::NoZone);
     }
@@ -141,12 +148,8 @@ fn joined(
 fn join(numbers: &Numbers, link: &(String, String)) -> Option<Link>
     ensures { let names = link_seen link.now in result ≡ then_some (is_known numbers.now names.0 && is_known numbers.now names.1) (link_value numbers.now names) }
 {
-    let Some(first) = numbers.number(&link.0) else {
-        return None;
-    };
-    let Some(second) = numbers.number(&link.1) else {
-        return None;
-    };
+    let first = numbers.number(&link.0)?;
+    let second = numbers.number(&link.1)?;
     Some(Link::new(first, second))
 }
 

@@ -70,10 +70,8 @@ impl Numbers {
     pub fn number(&self, name: &str) -> Option<u32>
         ensures { result ≡ position (bytes_eq name.now) self.now }
     {
-        match self.names.get_index_of(name) {
-            Some(number) => Some(number as u32),
-            None => None,
-        }
+        let number = self.names.get_index_of(name)?;
+        Some(number as u32)
     }
 
     /// The names in their order.

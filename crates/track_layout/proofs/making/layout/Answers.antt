@@ -1,141 +1,181 @@
-use Rattle.std.proofs.Common.{◌≡◌, ◌∙◌, ◌⊎◌, Ok, Err, ap, subst, sym, inl, inr, arith, map, string_bytes}
-use Rattle.rail_model.specs.Turns.{first_of}
+use Rattle.std.proofs.Common.{◌≡◌, ◌∙◌, ◌⊎◌, ℕ, List, String, Global, Result, IsErrAnd, Some, None, Ok, Err, ap, subst, sym, inl, inr, arith, length, map, string_bytes}
+use Rattle.rail_model.specs.Layout.{Layout, IsLayout}
+use Rattle.rail_model.specs.Turns.{Answers, first_of}
 use Rattle.rail_model.proofs.Firsts.{Answers-err}
-use Rattle.track_layout.specs.Making.{bad_name, double_name, self_link, names_of, layout_value, layout_from}
+use Rattle.track_layout.specs.Making.{bad_name, double_name, unknown_point, self_link, names_of, zones_of, link_value, layout_value, layout_refusal, layout_from}
 use Rattle.track_layout.specs.Doubling.{point_refusal}
 use Rattle.track_layout.specs.Seen.{points_seen, links_seen}
+use Rattle.track_layout.specs.declared.refused.LayoutRefused.{LayoutRefused}
 use Rattle.track_layout.specs.declared.refused.LayoutRefused.TheVariants.{Memory}
-use Rattle.track_layout.proofs.Order.{zone_rows, refused_counts, refused_name, refused_double, refused_zones, refused_link, refused_self_link, nothing_refused, made_by, counts_seen, names_are, zones_are, numbered_names, double_names, joined_links, lost_link, listed_points}
-use Rattle.rail_model.specs.Layout.{IsLayout}
+use Rattle.track_layout.proofs.Checks.{pass, stop}
+use Rattle.track_layout.proofs.Order.{count_rows, zone_rows, grouped, refused_by, made_by, counts_seen, names_are, zones_are, numbered_names, double_names, links_joined, joined_links, lost_link, listed_points}
 use Rattle.track_layout.proofs.Formed.{formed}
+use Rattle.track_layout.proofs.making.layout.Goals.{After-check_counts, After-check_names, After-check_zones, After-check_self_links, In_ok-numbers, In_ok-joined, In_ok-points}
 use Rattle.track_layout.proofs.making.layout.Goals as goal
+
+-- ---- what the checks read is what is seen of the points and links that are given
+
+counted : (c : After-check_counts) → first_of (count_rows c.len.result c.len-2.result c.args.zones)
+    ≡ first_of (count_rows (length (points_seen c.args.points.items)) (length (links_seen c.args.links.items)) c.args.zones)
+counted c =
+    counts_seen c.args.points.items c.args.links.items c.args.zones c.len.result c.len-2.result
+    (omega (arith, c.args.points.ok.0)) (omega (arith, c.args.links.ok.0))
+
+names_tested : (c : After-check_names) → bad_name (map string_bytes c.deref.result.now) ≡ bad_name (names_of (points_seen c.args.points.items))
+names_tested c =
+    let names = names_are c.args.points.items c.in_ok-names.names.items c.in_ok-names.ensures.names in
+    ap bad_name (ap (map string_bytes) c.deref.ensures.value ∙ names)
+
+zones_tested : (c : After-check_zones)
+    → first_of (zone_rows c.deref-2.result.now c.args.zones) ≡ first_of (zone_rows (zones_of (points_seen c.args.points.items)) c.args.zones)
+zones_tested c =
+    let in_zones = zones_are c.args.points.items c.in_ok-names.in_zones.items c.in_ok-names.ensures.zones in
+    ap (λ zs. first_of (zone_rows zs c.args.zones)) (c.deref-2.ensures.value ∙ in_zones)
+
+self_links_tested : (c : After-check_self_links) → self_link (links_seen c.deref-4.result.now) ≡ self_link (links_seen c.args.links.items)
+self_links_tested c = ap (λ ls. self_link (links_seen ls)) c.deref-4.ensures.value
+
+-- the names that are numbered are no doubles, and are those of the points
+numbered : (c : In_ok-numbers)
+    → (None ≡ double_name (names_of (points_seen c.args.points.items))) × (c.in_ok-numbers.numbers ≡ names_of (points_seen c.args.points.items))
+numbered c =
+    let names = names_are c.args.points.items c.in_ok-names.names.items c.in_ok-names.ensures.names in
+    let apart = numbered_names (map string_bytes c.in_ok-names.names.items) c.in_ok-numbers.numbers c.in_ok-numbers.ensures in
+    (apart.0 ∙ ap double_name names, sym apart.1 ∙ names)
+
+-- the links that are joined by these names have known points
+joined : (c : In_ok-joined) → c.in_ok-numbers.numbers ≡ names_of (points_seen c.args.points.items)
+    → (None ≡ unknown_point (names_of (points_seen c.args.points.items)) (links_seen c.args.links.items))
+    × (map (link_value (names_of (points_seen c.args.points.items))) (links_seen c.args.links.items) ≡ c.in_ok-joined.joined.items)
+joined c numbers =
+    let same = sym (λ i. links_joined (numbers i) (c.deref-3.ensures.value i)) in
+    joined_links (names_of (points_seen c.args.points.items)) c.args.links.items c.in_ok-joined.joined.items (same ∙ c.in_ok-joined.ensures)
+
+-- the layout that is made is that of what is seen
+made : (c : In_ok-points) → c.in_ok-numbers.numbers ≡ names_of (points_seen c.args.points.items)
+    → map (link_value (names_of (points_seen c.args.points.items))) (links_seen c.args.links.items) ≡ c.in_ok-joined.joined.items
+    → layout_value (points_seen c.args.points.items) (links_seen c.args.links.items) c.args.zones
+    ≡ record { points = c.in_ok-points.points.items; links = c.in_ok-joined.joined.items; zones = c.args.zones }
+made c numbers links =
+    let in_zones = zones_are c.args.points.items c.in_ok-names.in_zones.items c.in_ok-names.ensures.zones in
+    let names = c.in_ok-into_names.ensures ∙ numbers in
+    let listed = listed_points (points_seen c.args.points.items) c.in_ok-into_names.field-0.items c.in_ok-names.in_zones.items names in_zones in
+    let points = c.in_ok-points.ensures ∙ listed in
+    λ i. record { points = sym points i; links = links i; zones = c.args.zones }
+
+-- an error that is passed up is the answer, where it is the first refusal
+told : (points : List (String Global × ℕ)) (links : List (String Global × String Global)) (zones : ℕ) (result : Result Layout LayoutRefused)
+    (e : LayoutRefused) → IsErrAnd result (λ y. y ≡ e)
+    → (e ≡ Memory) ⊎ (layout_refusal (points_seen points) (links_seen links) zones ≡ Some e)
+    → Answers Memory (λ made. made) result (layout_from (points_seen points) (links_seen links) zones)
+told points links zones result e is why =
+    let answer = elim why as (λ _. (e ≡ Memory) ⊎ (layout_from (points_seen points) (links_seen links) zones ≡ Err e)) [
+      | inl m ↦ inl m
+      | inr r ↦ inr (refused_by (points_seen points) (links_seen links) zones e r)
+    ] in
+    Answers-err Memory (λ made. made) result (layout_from (points_seen points) (links_seen links) zones) e is answer
+
+-- ---- the answers, each by what is left to look for behind the checks before it
 
 pub returns-in_err-check_counts : goal.returns-in_err-check_counts
 returns-in_err-check_counts c =
-    let points = points_seen c.args.points.items in
-    let links = links_seen c.args.links.items in
-    let zones = c.args.zones in
-    let e = c.in_err-check_counts.field-0.0 in
-    Answers-err Memory (λ made. made) c.from_residual.result (layout_from points links zones) e c.from_residual.ensures.1
-    (inr (refused_counts points links zones e (c.in_err-check_counts.ensures ∙ counts_seen c.args.points.items c.args.links.items zones c.len.result c.len-2.result (omega (arith, c.args.points.ok.0)) (omega (arith, c.args.links.ok.0)))))
+    let at = goal.at.returns-in_err-check_counts c in
+    let all = grouped (points_seen c.args.points.items) (links_seen c.args.links.items) c.args.zones in
+    told c.args.points.items c.args.links.items c.args.zones c.from_residual.result c.in_err-check_counts.field-0.0 c.from_residual.ensures.1
+    (inr (stop all (c.in_err-check_counts.ensures ∙ counted at.After-check_counts)))
 
 pub returns-in_err-check_names : goal.returns-in_err-check_names
 returns-in_err-check_names c =
-    let points = points_seen c.args.points.items in
-    let links = links_seen c.args.links.items in
-    let zones = c.args.zones in
-    let counts = c.in_ok-check_counts.ensures ∙ counts_seen c.args.points.items c.args.links.items zones c.len.result c.len-2.result (omega (arith, c.args.points.ok.0)) (omega (arith, c.args.links.ok.0)) in
-    let names_is = names_are c.args.points.items c.in_ok-names.names.items c.in_ok-names.ensures.names in
-    let e = c.in_err-check_names.field-0.0 in
-    Answers-err Memory (λ made. made) c.from_residual-in_err-check_names.result (layout_from points links zones) e c.from_residual-in_err-check_names.ensures.1
-    (inr (refused_name points links zones e counts (c.in_err-check_names.ensures ∙ ap bad_name (ap (map string_bytes) c.deref.ensures.value ∙ names_is))))
-
-pub returns-in_err-check_zones : goal.returns-in_err-check_zones
-returns-in_err-check_zones c =
-    let points = points_seen c.args.points.items in
-    let links = links_seen c.args.links.items in
-    let zones = c.args.zones in
-    let counts = c.in_ok-check_counts.ensures ∙ counts_seen c.args.points.items c.args.links.items zones c.len.result c.len-2.result (omega (arith, c.args.points.ok.0)) (omega (arith, c.args.links.ok.0)) in
-    let names_is = names_are c.args.points.items c.in_ok-names.names.items c.in_ok-names.ensures.names in
-    let names = c.in_ok-check_names.ensures ∙ ap bad_name (ap (map string_bytes) c.deref.ensures.value ∙ names_is) in
-    let numbers = numbered_names (map string_bytes c.in_ok-names.names.items) c.in_ok-numbers.numbers c.in_ok-numbers.ensures in
-    let doubles = numbers.0 ∙ ap double_name names_is in
-    let zones_is = zones_are c.args.points.items c.in_ok-names.in_zones.items c.in_ok-names.ensures.zones in
-    let e = c.in_err-check_zones.field-0.0 in
-    Answers-err Memory (λ made. made) c.from_residual-in_err-check_zones.result (layout_from points links zones) e c.from_residual-in_err-check_zones.ensures.1
-    (inr (refused_zones points links zones e counts names doubles (c.in_err-check_zones.ensures ∙ ap (λ in_zones. first_of (zone_rows in_zones zones)) (c.deref-2.ensures.value ∙ zones_is))))
-
-pub returns-in_err-check_self_links : goal.returns-in_err-check_self_links
-returns-in_err-check_self_links c =
-    let points = points_seen c.args.points.items in
-    let links = links_seen c.args.links.items in
-    let zones = c.args.zones in
-    let counts = c.in_ok-check_counts.ensures ∙ counts_seen c.args.points.items c.args.links.items zones c.len.result c.len-2.result (omega (arith, c.args.points.ok.0)) (omega (arith, c.args.links.ok.0)) in
-    let names_is = names_are c.args.points.items c.in_ok-names.names.items c.in_ok-names.ensures.names in
-    let names = c.in_ok-check_names.ensures ∙ ap bad_name (ap (map string_bytes) c.deref.ensures.value ∙ names_is) in
-    let numbers = numbered_names (map string_bytes c.in_ok-names.names.items) c.in_ok-numbers.numbers c.in_ok-numbers.ensures in
-    let doubles = numbers.0 ∙ ap double_name names_is in
-    let numbers_is = sym numbers.1 ∙ names_is in
-    let zones_is = zones_are c.args.points.items c.in_ok-names.in_zones.items c.in_ok-names.ensures.zones in
-    let in_zones = c.in_ok-check_zones.ensures ∙ ap (λ in_zones. first_of (zone_rows in_zones zones)) (c.deref-2.ensures.value ∙ zones_is) in
-    let joined = joined_links c.in_ok-numbers.numbers (names_of points) c.deref-3.result.now c.args.links.items c.in_ok-joined.joined.items numbers_is c.deref-3.ensures.value c.in_ok-joined.ensures in
-    let e = c.in_err-check_self_links.field-0.0 in
-    Answers-err Memory (λ made. made) c.from_residual-in_err-check_self_links.result (layout_from points links zones) e c.from_residual-in_err-check_self_links.ensures.1
-    (inr (refused_self_link points links zones e counts names doubles in_zones joined.0 (c.in_err-check_self_links.ensures ∙ ap (λ ls. self_link (links_seen ls)) c.deref-4.ensures.value)))
+    let at = goal.at.returns-in_err-check_names c in
+    let all = grouped (points_seen c.args.points.items) (links_seen c.args.links.items) c.args.zones in
+    let names_left = pass all (c.in_ok-check_counts.ensures ∙ counted at.After-check_counts) in
+    told c.args.points.items c.args.links.items c.args.zones c.from_residual-in_err-check_names.result c.in_err-check_names.field-0.0
+    c.from_residual-in_err-check_names.ensures.1
+    (inr (stop names_left (c.in_err-check_names.ensures ∙ names_tested at.After-check_names)))
 
 pub returns-in_err-numbers : goal.returns-in_err-numbers
 returns-in_err-numbers c =
+    let at = goal.at.returns-in_err-numbers c in
     let points = points_seen c.args.points.items in
     let links = links_seen c.args.links.items in
-    let zones = c.args.zones in
-    let counts = c.in_ok-check_counts.ensures ∙ counts_seen c.args.points.items c.args.links.items zones c.len.result c.len-2.result (omega (arith, c.args.points.ok.0)) (omega (arith, c.args.links.ok.0)) in
-    let names_is = names_are c.args.points.items c.in_ok-names.names.items c.in_ok-names.ensures.names in
-    let names = c.in_ok-check_names.ensures ∙ ap bad_name (ap (map string_bytes) c.deref.ensures.value ∙ names_is) in
+    let names = names_are c.args.points.items c.in_ok-names.names.items c.in_ok-names.ensures.names in
+    let names_left = pass (grouped points links c.args.zones) (c.in_ok-check_counts.ensures ∙ counted at.After-check_counts) in
+    let doubles_left = pass names_left (c.in_ok-check_names.ensures ∙ names_tested at.After-check_names) in
     let e = c.in_err-numbers.field-0.0 in
-    let answer = elim c.in_err-numbers.ensures as (λ _. (point_refusal e ≡ Memory) ⊎ (layout_from points links zones ≡ Err (point_refusal e))) [
+    let why = elim c.in_err-numbers.ensures as (λ _. (point_refusal e ≡ Memory) ⊎ (layout_refusal points links c.args.zones ≡ Some (point_refusal e))) [
       | inl m ↦ inl (ap point_refusal m)
-      | inr d ↦ inr (refused_double points links zones (point_refusal e) counts names (double_names (map string_bytes c.in_ok-names.names.items) e d ∙ ap double_name names_is))
+      | inr d ↦ inr (stop doubles_left (double_names (map string_bytes c.in_ok-names.names.items) e d ∙ ap double_name names))
     ] in
-    Answers-err Memory (λ made. made) c.from_residual-in_err-numbers.result (layout_from points links zones) (point_refusal e) c.from_residual-in_err-numbers.ensures.1 answer
+    told c.args.points.items c.args.links.items c.args.zones c.from_residual-in_err-numbers.result (point_refusal e)
+    c.from_residual-in_err-numbers.ensures.1 why
+
+pub returns-in_err-check_zones : goal.returns-in_err-check_zones
+returns-in_err-check_zones c =
+    let at = goal.at.returns-in_err-check_zones c in
+    let all = grouped (points_seen c.args.points.items) (links_seen c.args.links.items) c.args.zones in
+    let names_left = pass all (c.in_ok-check_counts.ensures ∙ counted at.After-check_counts) in
+    let doubles_left = pass names_left (c.in_ok-check_names.ensures ∙ names_tested at.After-check_names) in
+    let zones_left = pass doubles_left (numbered at.In_ok-numbers).0 in
+    told c.args.points.items c.args.links.items c.args.zones c.from_residual-in_err-check_zones.result c.in_err-check_zones.field-0.0
+    c.from_residual-in_err-check_zones.ensures.1
+    (inr (stop zones_left (c.in_err-check_zones.ensures ∙ zones_tested at.After-check_zones)))
 
 pub returns-in_err-joined : goal.returns-in_err-joined
 returns-in_err-joined c =
+    let at = goal.at.returns-in_err-joined c in
     let points = points_seen c.args.points.items in
     let links = links_seen c.args.links.items in
-    let zones = c.args.zones in
-    let counts = c.in_ok-check_counts.ensures ∙ counts_seen c.args.points.items c.args.links.items zones c.len.result c.len-2.result (omega (arith, c.args.points.ok.0)) (omega (arith, c.args.links.ok.0)) in
-    let names_is = names_are c.args.points.items c.in_ok-names.names.items c.in_ok-names.ensures.names in
-    let names = c.in_ok-check_names.ensures ∙ ap bad_name (ap (map string_bytes) c.deref.ensures.value ∙ names_is) in
-    let numbers = numbered_names (map string_bytes c.in_ok-names.names.items) c.in_ok-numbers.numbers c.in_ok-numbers.ensures in
-    let doubles = numbers.0 ∙ ap double_name names_is in
-    let numbers_is = sym numbers.1 ∙ names_is in
-    let zones_is = zones_are c.args.points.items c.in_ok-names.in_zones.items c.in_ok-names.ensures.zones in
-    let in_zones = c.in_ok-check_zones.ensures ∙ ap (λ in_zones. first_of (zone_rows in_zones zones)) (c.deref-2.ensures.value ∙ zones_is) in
+    let numbers = numbered at.In_ok-numbers in
+    let names_left = pass (grouped points links c.args.zones) (c.in_ok-check_counts.ensures ∙ counted at.After-check_counts) in
+    let doubles_left = pass names_left (c.in_ok-check_names.ensures ∙ names_tested at.After-check_names) in
+    let zones_left = pass doubles_left numbers.0 in
+    let links_left = pass zones_left (c.in_ok-check_zones.ensures ∙ zones_tested at.After-check_zones) in
+    let same = sym (λ i. links_joined (numbers.1 i) (c.deref-3.ensures.value i)) in
     let e = c.in_err-joined.field-0.0 in
-    let answer = elim c.in_err-joined.ensures as (λ _. (e ≡ Memory) ⊎ (layout_from points links zones ≡ Err e)) [
+    let why = elim c.in_err-joined.ensures as (λ _. (e ≡ Memory) ⊎ (layout_refusal points links c.args.zones ≡ Some e)) [
       | inl m ↦ inl m
-      | inr d ↦ inr (refused_link points links zones e counts names doubles in_zones (lost_link c.in_ok-numbers.numbers (names_of points) c.deref-3.result.now c.args.links.items e numbers_is c.deref-3.ensures.value d))
+      | inr d ↦ inr (stop links_left (lost_link (names_of points) c.args.links.items e (same ∙ d)))
     ] in
-    Answers-err Memory (λ made. made) c.from_residual-in_err-joined.result (layout_from points links zones) e c.from_residual-in_err-joined.ensures.1 answer
+    told c.args.points.items c.args.links.items c.args.zones c.from_residual-in_err-joined.result e c.from_residual-in_err-joined.ensures.1 why
+
+pub returns-in_err-check_self_links : goal.returns-in_err-check_self_links
+returns-in_err-check_self_links c =
+    let at = goal.at.returns-in_err-check_self_links c in
+    let all = grouped (points_seen c.args.points.items) (links_seen c.args.links.items) c.args.zones in
+    let numbers = numbered at.In_ok-numbers in
+    let names_left = pass all (c.in_ok-check_counts.ensures ∙ counted at.After-check_counts) in
+    let doubles_left = pass names_left (c.in_ok-check_names.ensures ∙ names_tested at.After-check_names) in
+    let zones_left = pass doubles_left numbers.0 in
+    let links_left = pass zones_left (c.in_ok-check_zones.ensures ∙ zones_tested at.After-check_zones) in
+    let self_links_left = pass links_left (joined at.In_ok-joined numbers.1).0 in
+    told c.args.points.items c.args.links.items c.args.zones c.from_residual-in_err-check_self_links.result
+    c.in_err-check_self_links.field-0.0 c.from_residual-in_err-check_self_links.ensures.1
+    (inr (stop self_links_left (c.in_err-check_self_links.ensures ∙ self_links_tested at.After-check_self_links)))
 
 pub new-requires-2 : goal.new-requires-2
 new-requires-2 c =
+    let at = goal.at.new-requires-2 c in
     let points = points_seen c.args.points.items in
     let links = links_seen c.args.links.items in
-    let zones = c.args.zones in
-    let counts = c.in_ok-check_counts.ensures ∙ counts_seen c.args.points.items c.args.links.items zones c.len.result c.len-2.result (omega (arith, c.args.points.ok.0)) (omega (arith, c.args.links.ok.0)) in
-    let names_is = names_are c.args.points.items c.in_ok-names.names.items c.in_ok-names.ensures.names in
-    let names = c.in_ok-check_names.ensures ∙ ap bad_name (ap (map string_bytes) c.deref.ensures.value ∙ names_is) in
-    let numbers = numbered_names (map string_bytes c.in_ok-names.names.items) c.in_ok-numbers.numbers c.in_ok-numbers.ensures in
-    let doubles = numbers.0 ∙ ap double_name names_is in
-    let numbers_is = sym numbers.1 ∙ names_is in
-    let zones_is = zones_are c.args.points.items c.in_ok-names.in_zones.items c.in_ok-names.ensures.zones in
-    let in_zones = c.in_ok-check_zones.ensures ∙ ap (λ in_zones. first_of (zone_rows in_zones zones)) (c.deref-2.ensures.value ∙ zones_is) in
-    let joined = joined_links c.in_ok-numbers.numbers (names_of points) c.deref-3.result.now c.args.links.items c.in_ok-joined.joined.items numbers_is c.deref-3.ensures.value c.in_ok-joined.ensures in
-    let self_links = c.in_ok-check_self_links.ensures ∙ ap (λ ls. self_link (links_seen ls)) c.deref-4.ensures.value in
-    let good = nothing_refused points links zones counts names doubles in_zones joined.0 self_links in
-    let listed = c.in_ok-points.ensures ∙ listed_points points c.in_ok-into_names.field-0.items c.in_ok-names.in_zones.items (c.in_ok-into_names.ensures ∙ numbers_is) zones_is in
-    let made : layout_value points links zones ≡ record { points = c.in_ok-points.points.items; links = c.in_ok-joined.joined.items; zones = zones } =
-    λ i. record { points = sym listed i; links = joined.1 i; zones = zones } in
-    subst IsLayout made (formed points links zones good)
+    let numbers = numbered at.In_ok-numbers in
+    let ends = joined at.In_ok-joined numbers.1 in
+    let names_left = pass (grouped points links c.args.zones) (c.in_ok-check_counts.ensures ∙ counted at.After-check_counts) in
+    let doubles_left = pass names_left (c.in_ok-check_names.ensures ∙ names_tested at.After-check_names) in
+    let zones_left = pass doubles_left numbers.0 in
+    let links_left = pass zones_left (c.in_ok-check_zones.ensures ∙ zones_tested at.After-check_zones) in
+    let none_left = pass (pass links_left ends.0) (c.in_ok-check_self_links.ensures ∙ self_links_tested at.After-check_self_links) in
+    subst IsLayout (made at.In_ok-points numbers.1 ends.1) (formed points links c.args.zones none_left.is)
 
 pub returns : goal.returns
 returns c =
+    let at = goal.at.returns c in
     let points = points_seen c.args.points.items in
     let links = links_seen c.args.links.items in
-    let zones = c.args.zones in
-    let counts = c.in_ok-check_counts.ensures ∙ counts_seen c.args.points.items c.args.links.items zones c.len.result c.len-2.result (omega (arith, c.args.points.ok.0)) (omega (arith, c.args.links.ok.0)) in
-    let names_is = names_are c.args.points.items c.in_ok-names.names.items c.in_ok-names.ensures.names in
-    let names = c.in_ok-check_names.ensures ∙ ap bad_name (ap (map string_bytes) c.deref.ensures.value ∙ names_is) in
-    let numbers = numbered_names (map string_bytes c.in_ok-names.names.items) c.in_ok-numbers.numbers c.in_ok-numbers.ensures in
-    let doubles = numbers.0 ∙ ap double_name names_is in
-    let numbers_is = sym numbers.1 ∙ names_is in
-    let zones_is = zones_are c.args.points.items c.in_ok-names.in_zones.items c.in_ok-names.ensures.zones in
-    let in_zones = c.in_ok-check_zones.ensures ∙ ap (λ in_zones. first_of (zone_rows in_zones zones)) (c.deref-2.ensures.value ∙ zones_is) in
-    let joined = joined_links c.in_ok-numbers.numbers (names_of points) c.deref-3.result.now c.args.links.items c.in_ok-joined.joined.items numbers_is c.deref-3.ensures.value c.in_ok-joined.ensures in
-    let self_links = c.in_ok-check_self_links.ensures ∙ ap (λ ls. self_link (links_seen ls)) c.deref-4.ensures.value in
-    let good = nothing_refused points links zones counts names doubles in_zones joined.0 self_links in
-    let listed = c.in_ok-points.ensures ∙ listed_points points c.in_ok-into_names.field-0.items c.in_ok-names.in_zones.items (c.in_ok-into_names.ensures ∙ numbers_is) zones_is in
-    let made : layout_value points links zones ≡ record { points = c.in_ok-points.points.items; links = c.in_ok-joined.joined.items; zones = zones } =
-    λ i. record { points = sym listed i; links = joined.1 i; zones = zones } in
-    made_by points links zones good ∙ ap Ok (made ∙ sym c.new-2.ensures)
+    let numbers = numbered at.In_ok-numbers in
+    let ends = joined at.In_ok-joined numbers.1 in
+    let names_left = pass (grouped points links c.args.zones) (c.in_ok-check_counts.ensures ∙ counted at.After-check_counts) in
+    let doubles_left = pass names_left (c.in_ok-check_names.ensures ∙ names_tested at.After-check_names) in
+    let zones_left = pass doubles_left numbers.0 in
+    let links_left = pass zones_left (c.in_ok-check_zones.ensures ∙ zones_tested at.After-check_zones) in
+    let none_left = pass (pass links_left ends.0) (c.in_ok-check_self_links.ensures ∙ self_links_tested at.After-check_self_links) in
+    made_by points links c.args.zones none_left.is ∙ ap Ok (made at.In_ok-points numbers.1 ends.1 ∙ sym c.new-2.ensures)
