@@ -1,5 +1,5 @@
 -- The missions of all trains, one after another.
-use Rattle.std.proofs.Common.{◌≡◌, ◌∙◌, ℕ, zero, suc, ◌+◌, ◌<◌, ◌≤◌, Bool, true, false, not, ◌==◌, ◌||◌, List, [], ◌∷◌, ◌++◌, length, map, zip, take, get_or, slice_index_or, Option, Some, None, Ok, Err, String, Vec, Global, refl, sym, ap, subst, arith}
+use Rattle.std.proofs.Common.{◌≡◌, ◌∙◌, ℕ, zero, suc, ◌+◌, ◌<◌, ◌≤◌, Bool, true, false, not, ◌==◌, ◌||◌, List, [], ◌∷◌, ◌++◌, length, map, zip, take, get_or, slice_index_or, Option, Some, None, Result, Ok, Err, String, Vec, Global, refl, sym, ap, subst, arith}
 use Rattle.std.specs.Prelude.{nat_lt}
 use Rattle.std.proofs.lemmas.Bool.Decides.{nat_tests}
 use Rattle.std.proofs.lemmas.List.{length-map, get_or-map}
@@ -65,41 +65,38 @@ mission_made L i names exits m h = (unless-ok (mission_refusal L i names exits) 
 same_count : (a b : ℕ) (e : MissionRefused) → then_some (not (a == b)) e ≡ None → a ≡ b
 same_count a b e h = let test : not (a == b) ≡ false = then_some-none _ e h in grind (arith, nat_tests)
 
+-- what is wrong with the numbers of lists and exits
+abbrev pub count_rows : ℕ → ℕ → ℕ → List (Option MissionRefused)
+count_rows trains lists exits = other_lists trains lists ∷ other_exits trains exits ∷ []
+
 -- as many lists and exits as trains
-pub same_counts : (trains lists exits : ℕ) → None ≡ first_of (other_lists trains lists ∷ other_exits trains exits ∷ []) → (lists ≡ trains) × (exits ≡ trains)
+pub same_counts : (trains lists exits : ℕ) → None ≡ first_of (count_rows trains lists exits) → (lists ≡ trains) × (exits ≡ trains)
 same_counts trains lists exits h =
     let a = option_or-none (other_lists trains lists) _ (sym h) in
     let b = option_or-none (other_exits trains exits) None a.1 in
     (same_count lists trains _ a.0, same_count exits trains _ b.0)
 
-refused_by : (L : Layout) (trains : ℕ) (lists : List (List (List ℕ))) (exits : List Bool) (e : MissionRefused) → missions_refusal L trains lists exits ≡ Some e
-    → missions_from L trains lists exits ≡ Err e
+ways_size : (lists : List (Vec (String Global) Global)) → length (ways_seen lists) ≡ length lists
+ways_size lists = length-map lists (λ (v : Vec (String Global) Global). names_seen v.items)
+
+-- the numbers of trains, lists and exits are those of what is seen
+pub counts_seen : (trains : ℕ) (lists : List (Vec (String Global) Global)) (exits : List Bool) (n a b : ℕ)
+    → n ≡ trains → a ≡ length lists → b ≡ length exits
+    → first_of (count_rows n a b) ≡ first_of (count_rows trains (length (ways_seen lists)) (length exits))
+counts_seen trains lists exits n a b same_n same_a same_b =
+    let seen : a ≡ length (ways_seen lists) = same_a ∙ sym (ways_size lists) in
+    λ i. first_of (count_rows (same_n i) (seen i) (same_b i))
+
+refused_by : (L : Layout) (trains : ℕ) (lists : List (List (List ℕ))) (exits : List Bool) (e : MissionRefused)
+    → missions_refusal L trains lists exits ≡ Some e → missions_from L trains lists exits ≡ Err e
 unfolding missions_from
 refused_by L trains lists exits e h = ap (λ r. unless r (missions_value L lists exits)) h
 
 pub refused_counts : (L : Layout) (trains : ℕ) (lists : List (List (List ℕ))) (exits : List Bool) (e : MissionRefused)
-    → Some e ≡ first_of (other_lists trains (length lists) ∷ other_exits trains (length exits) ∷ []) → missions_from L trains lists exits ≡ Err e
+    → Some e ≡ first_of (count_rows trains (length lists) (length exits)) → missions_from L trains lists exits ≡ Err e
 refused_counts L trains lists exits e h =
-    refused_by L trains lists exits e
-    (first_of-before (other_lists trains (length lists) ∷ other_exits trains (length exits) ∷ []) (ways_refusal L trains lists exits ∷ []) e (sym h))
-
-pub refused_way : (L : Layout) (trains : ℕ) (lists : List (List (List ℕ))) (exits : List Bool) (e : MissionRefused)
-    → None ≡ first_of (other_lists trains (length lists) ∷ other_exits trains (length exits) ∷ []) → ways_refusal L trains lists exits ≡ Some e
-    → missions_from L trains lists exits ≡ Err e
-refused_way L trains lists exits e h k =
-    refused_by L trains lists exits e
-    (first_of-after (other_lists trains (length lists) ∷ other_exits trains (length exits) ∷ []) (ways_refusal L trains lists exits ∷ []) (sym h)
-    ∙ ap (λ r. option_or r None) k)
-
--- missions with nothing wrong
-pub missions_made : (L : Layout) (trains : ℕ) (lists : List (List (List ℕ))) (exits : List Bool)
-    → None ≡ first_of (other_lists trains (length lists) ∷ other_exits trains (length exits) ∷ []) → ways_refusal L trains lists exits ≡ None
-    → missions_from L trains lists exits ≡ Ok (missions_value L lists exits)
-unfolding missions_from
-missions_made L trains lists exits h k =
-    ap (λ r. unless r (missions_value L lists exits))
-    (first_of-after (other_lists trains (length lists) ∷ other_exits trains (length exits) ∷ []) (ways_refusal L trains lists exits ∷ []) (sym h)
-    ∙ ap (λ r. option_or r None) k)
+    let rows = count_rows trains (length lists) (length exits) in
+    refused_by L trains lists exits e (first_of-before rows (ways_refusal L trains lists exits ∷ []) e (sym h))
 
 -- ---- what is made
 
@@ -143,3 +140,42 @@ are_missions L lists exits few size h =
       each = λ i lt. subst IsMission (sym (zip_at made lists exits i [] false (record { points = []; exits = false }) size (omega arith)))
           (is_mission L i (slice_index_or lists i []) (slice_index_or exits i false) (first_below-none (length lists) (at_train L lists exits) h i (omega arith)));
     }
+
+-- ---- the answer, by the missions one after another
+
+-- the missions of the lists, unless one is refused
+abbrev pub each_of : Layout → List (Vec (String Global) Global) → List Bool → Result (List Mission) MissionRefused
+each_of L lists exits = unless (ways_refusal L (length lists) (ways_seen lists) exits) (missions_value L (ways_seen lists) exits)
+
+module _ (L : Layout) (trains : ℕ) (lists : List (Vec (String Global) Global)) (exits : List Bool)
+    (counted : None ≡ first_of (count_rows trains (length (ways_seen lists)) (length exits))) where
+  sizes : (length lists ≡ trains) × (length exits ≡ trains)
+  sizes =
+      let same = same_counts trains (length (ways_seen lists)) (length exits) counted in
+      (sym (ways_size lists) ∙ same.0, same.1)
+
+  -- the counts are good, so the first refusal is that of the ways
+  by_ways : missions_refusal L trains (ways_seen lists) exits ≡ option_or (ways_refusal L (length lists) (ways_seen lists) exits) None
+  by_ways =
+      let rows = count_rows trains (length (ways_seen lists)) (length exits) in
+      first_of-after rows (ways_refusal L trains (ways_seen lists) exits ∷ []) (sym counted)
+      ∙ ap (λ n. option_or (ways_refusal L n (ways_seen lists) exits) None) (sym sizes.0)
+
+  pub refused_way : (e : MissionRefused) → each_of L lists exits ≡ Err e → missions_from L trains (ways_seen lists) exits ≡ Err e
+  refused_way e h =
+      let ways = unless-err _ (missions_value L (ways_seen lists) exits) e h in
+      refused_by L trains (ways_seen lists) exits e (by_ways ∙ ap (λ r. option_or r None) ways)
+
+  -- missions with nothing wrong
+  pub missions_made : (M : List Mission) → each_of L lists exits ≡ Ok M → missions_from L trains (ways_seen lists) exits ≡ Ok M
+  unfolding missions_from
+  missions_made M h =
+      let made = unless-ok _ (missions_value L (ways_seen lists) exits) M h in
+      ap (λ r. unless r (missions_value L (ways_seen lists) exits)) (by_ways ∙ ap (λ r. option_or r None) made.0) ∙ ap Ok made.1
+
+  pub missions_formed : (M : List Mission) → trains ≤ 32 → each_of L lists exits ≡ Ok M → AreMissions M
+  missions_formed M few h =
+      let made = unless-ok _ (missions_value L (ways_seen lists) exits) M h in
+      let size = ways_size lists in
+      let none = ap (λ n. ways_refusal L n (ways_seen lists) exits) size ∙ made.0 in
+      subst AreMissions made.1 (are_missions L (ways_seen lists) exits (omega (arith, sizes.0)) (omega (arith, sizes.0, sizes.1)) none)

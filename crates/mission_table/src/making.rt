@@ -12,6 +12,9 @@ use rail_model::{Layout, Mission, Missions, are_linked};
 use std::alloc::Global;
 use track_layout::number_of;
 
+// A mission has at most so many places; the one behind the exit counts.
+const MOST_PLACES: usize = 128;
+
 /// The missions of these trains: for each the names of the points on its way, and whether it leaves the layout behind the last one.
 ///
 /// # Errors
@@ -80,7 +83,7 @@ fn mission(
 fn check_length(train: u32, count: usize, exits: bool) -> Result<(), MissionRefused>
     ensures { result_err result ≡ bad_length train count exits }
 {
-    let most = if exits { 127 } else { 128 };
+    let most = if exits { MOST_PLACES - 1 } else { MOST_PLACES };
     if count == 0 || count > most {
         return Err(MissionRefused::Length { train, count });
     }

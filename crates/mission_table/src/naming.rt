@@ -28,9 +28,5 @@ fn names_of_points(alloc: Global, points: &[Point]) -> Result<Vec<String>, Alloc
 fn names_of_trains(alloc: Global, trains: &[String]) -> Result<Vec<String>, AllocError>
     ensures { IfOk result (λ names. map string_bytes names.items ≡ map string_bytes trains.now) }
 {
-    let mut names = Vec::new(alloc);
-    for train in trains {
-        names.push(String::from_str(alloc, train)?)?;
-    }
-    Ok(names)
+    trains.to_vec(alloc)
 }

@@ -10,6 +10,9 @@ use rail_model::first_bad_name;
 use std::alloc::Global;
 use track_layout::Numbers;
 
+// There are at most so many trains.
+const MOST_TRAINS: usize = 32;
+
 /// The trains with these names.
 ///
 /// # Errors
@@ -27,7 +30,7 @@ pub fn trains(alloc: Global, names: Vec<String>) -> Result<Trains, TrainRefused>
 fn check_count(count: usize) -> Result<(), TrainRefused>
     ensures { result_err result ≡ too_many count }
 {
-    if count > 32 {
+    if count > MOST_TRAINS {
         return Err(TrainRefused::TooMany { count });
     }
     Ok(())

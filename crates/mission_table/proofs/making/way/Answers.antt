@@ -9,7 +9,12 @@ use Rattle.mission_table.specs.Ways.{way_value, way_refusal, step_refusal, point
 use Rattle.rail_model.specs.Layout.{point_names}
 use Rattle.track_layout.specs.Making.{number_in}
 use Rattle.mission_table.proofs.Steps.{name_there, way_stops, way_goes, reached, before_next, way_next}
+use Rattle.mission_table.proofs.making.way.Goals.{After-step}
 use Rattle.mission_table.proofs.making.way.Goals as goal
+
+-- the name that is read is the one at the place
+read : (c : After-step) → c.deref.result.now ≡ name_at (names_seen c.args.names.now) c.loop-place.place
+read c = c.deref.ensures ∙ name_there c.args.names.now c.loop-place.place c.index-names-place.result c.loop-place-test.true c.index-names-place.is
 
 pub returns-in_err-point : goal.returns-in_err-point
 returns-in_err-point c =
@@ -17,23 +22,25 @@ returns-in_err-point c =
     let names = names_seen c.args.names.now in
     let e = c.in_err-point.field-0.0 in
     let size : length names ≡ length c.args.names.now = length-map c.args.names.now string_bytes in
-    let name = c.deref.ensures ∙ name_there c.args.names.now c.loop-place.place c.index-names-place.result c.loop-place-test.true c.index-names-place.is in
-    let stops = way_stops L c.args.train names c.loop-place.place c.loop-place.before c.deref.result.now e (omega arith) c.loop-place.invariant.1 name c.in_err-point.ensures c.loop-place.invariant.2 in
-    Answers-err Memory (λ points. points.items) c.from_residual.result (unless (way_refusal L c.args.train names) (way_value L names)) e c.from_residual.ensures.1
-    (inr (ap (λ r. unless r (way_value L names)) stops))
+    let name = read (goal.at.returns-in_err-point c).After-step in
+    let stops = way_stops L c.args.train names c.loop-place.place c.loop-place.before c.deref.result.now e (omega arith)
+    c.loop-place.invariant.1 name c.in_err-point.ensures c.loop-place.invariant.2 in
+    Answers-err Memory (λ points. points.items) c.from_residual.result (unless (way_refusal L c.args.train names) (way_value L names)) e
+    c.from_residual.ensures.1 (inr (ap (λ r. unless r (way_value L names)) stops))
 
 pub loop-place-preserved : goal.loop-place-preserved
 loop-place-preserved c =
     let L = c.args.layout.now in
     let names = names_seen c.args.names.now in
     let q = c.in_ok-point.point in
-    let name = c.deref.ensures ∙ name_there c.args.names.now c.loop-place.place c.index-names-place.result c.loop-place-test.true c.index-names-place.is in
+    let name = read (goal.at.loop-place-preserved c).After-step in
     let point = reached L c.args.train c.loop-place.place c.loop-place.before c.deref.result.now q c.in_ok-point.ensures in
     let there = ap (number_in (point_names L)) (sym c.deref.ensures) ∙ point in (
       c.in_ok-push.ensures.items ∙ ap (λ ps. ps ++ q ∷ []) c.loop-place.invariant.0
           ∙ way_next L c.args.names.now c.loop-place.place c.index-names-place.result q c.loop-place-test.true c.index-names-place.is there,
       before_next L names c.loop-place.place c.deref.result.now q name point,
-      way_goes L c.args.train names c.loop-place.place c.loop-place.before c.deref.result.now q c.loop-place.invariant.1 name c.in_ok-point.ensures c.loop-place.invariant.2,
+      way_goes L c.args.train names c.loop-place.place c.loop-place.before c.deref.result.now q c.loop-place.invariant.1 name
+          c.in_ok-point.ensures c.loop-place.invariant.2,
     )
 
 pub returns : goal.returns
