@@ -19,13 +19,13 @@ use Rattle.track_layout.specs.declared.refused.What.{What}
 use Rattle.std.proofs.lemmas.Grind.{common_steps}
 use Rattle.track_layout.specs.declared.refused.What.TheVariants.{Points, Links, Zones}
 
-both : (a b : Bool) → (a && b) ≡ true → (a ≡ true) × (b ≡ true)
-both true true e = (refl, refl)
-both true false e = absurd cc
-both false b e = absurd cc
+both_true : (a b : Bool) → (a && b) ≡ true → (a ≡ true) × (b ≡ true)
+both_true true true e = (refl, refl)
+both_true true false e = absurd cc
+both_true false b e = absurd cc
 
-few : (what : What) (limit count : ℕ) → too_many what limit count ≡ None → count ≤ limit
-few what limit count h = let test : nat_lt limit count ≡ false = then_some-none _ _ h in grind (arith, nat_tests)
+few_counted : (what : What) (limit count : ℕ) → too_many what limit count ≡ None → count ≤ limit
+few_counted what limit count h = let test : nat_lt limit count ≡ false = then_some-none _ _ h in grind (arith, nat_tests)
 
 some_zone : (zones : ℕ) → no_zone zones ≡ None → 1 ≤ zones
 some_zone zones h = let test : nat_eq zones 0 ≡ false = then_some-none _ _ h in grind (arith, nat_tests)
@@ -62,7 +62,7 @@ pub known_at : (names : List (List ℕ)) (links : List (List ℕ × List ℕ)) (
 known_at names links k l h at =
     let here : get_or links k l ≡ l = get_or_from_slice_get links k l l at in
     let test = position-none (λ (l : List ℕ × List ℕ). not (is_known names l.0 && is_known names l.1)) links k l (option_map-none _ _ h) (slice_get_within links k l at) in
-    both (is_known names l.0) (is_known names l.1) (passing _ (subst (λ (m : List ℕ × List ℕ). not (is_known names m.0 && is_known names m.1) ≡ false) here test))
+    both_true (is_known names l.0) (is_known names l.1) (passing _ (subst (λ (m : List ℕ × List ℕ). not (is_known names m.0 && is_known names m.1) ≡ false) here test))
 
 different_at : (links : List (List ℕ × List ℕ)) (k : ℕ) (l : List ℕ × List ℕ) → self_link links ≡ None → slice_get links k ≡ Some l → l.0 ≡ l.1 → ⊥
 different_at links k l h at =
@@ -110,13 +110,13 @@ formed points links zones h =
     let size_names : length (names_of points) ≡ length points = length-map points (λ p. p.0) in
     let size_zones : length (zones_of points) ≡ length points = length-map points (λ p. p.1) in
     let size_links : length L.links ≡ length links = length-map links (link_value names) in
-    let few_points = few Points 512 (length points) a.0 in
-    let few_links = few Links 2048 (length links) b.0 in
+    let few_points = few_counted Points 512 (length points) a.0 in
+    let few_links = few_counted Links 2048 (length links) b.0 in
     record {
       few_points = omega arith;
       few_links = omega arith;
       some_zone = some_zone zones d.0;
-      few_zones = few Zones 16 zones c.0;
+      few_zones = few_counted Zones 16 zones c.0;
       named = subst AreNames (sym (names_made points links zones)) (are_names names (option_map-none _ _ e.0) (option_map-none _ _ f.0));
       zoned = λ q lt. subst (λ z. z < zones) (sym (zone_made points links zones q)) (in_range (zones_of points) zones q g.0 (omega arith));
       used = λ z lt. let u = used (zones_of points) zones z i.0 lt in (u.0, omega arith, zone_made points links zones u.0 ∙ u.2);
