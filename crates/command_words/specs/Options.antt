@@ -15,15 +15,15 @@ pub record NumberOption : Type 0 where
 abbrev pub option : Text → ℕ → ℕ → ℕ → NumberOption
 option name least greatest default = record { name = name; least = least; greatest = greatest; default = default }
 
--- the greatest number of workers that the trains can be given to
+-- no workers can be asked for: the trains run on one thread
 abbrev pub most_workers : ℕ
 most_workers = 0
 
--- how many workers run the trains; 0 is one thread alone
+-- how many workers run the trains: 0, which is one thread alone
 abbrev pub workers : NumberOption
 workers = option (codes "workers") 0 most_workers 0
 
--- how many rounds the workers make at most
+-- how many rounds a run makes at most; the number is read and has no effect
 abbrev pub rounds : NumberOption
 rounds = option (codes "rounds") 0 1000000 1000
 

@@ -16,7 +16,7 @@ pub record Subcommand : Type 0 where
   pub options : List NumberOption
   pub order : List Row → Option Order
 
--- runs the trains of a document
+-- runs the trains of a document on one thread, whatever number of rounds is given
 abbrev pub run : Subcommand
 run = record {
   name = codes "run";
@@ -27,7 +27,7 @@ run = record {
     Some (order.Run w r);
 }
 
--- runs the trains of a document on from the beginning of a journal
+-- runs the trains of a document on from the beginning of a journal, likewise
 abbrev pub resume : Subcommand
 resume = record {
   name = codes "resume";

@@ -1,4 +1,4 @@
-//! The number of each option, of what clap found.
+// The number of each option, of what clap found.
 ghost use Rattle.std.specs.Prelude.{◌≡◌, ◌≤◌, IfSome};
 ghost use Rattle.clap.specs.Words.{found_of, rows_of};
 ghost use Rattle.command_words.specs.Options as spec;
@@ -6,8 +6,24 @@ ghost use Rattle.command_words.specs.Options as spec;
 use clap::ArgMatches;
 use decimal_number::number_of;
 
-// The greatest number of workers that the trains can be given to.
+// The trains run on one thread, so no workers can be asked for.
 const MOST_WORKERS: u32 = 0;
+
+const MOST_ROUNDS: u32 = 1_000_000;
+
+const DEFAULT_ROUNDS: u32 = 1000;
+
+const MOST_NODES: u32 = 1_000_000;
+
+const LEAST_RING: u32 = 2;
+
+const GREATEST_RING: u32 = 8;
+
+const MOST_REPAIR_ROUNDS: u32 = 10_000;
+
+const MOST_TRAINS: u32 = 32;
+
+const DEFAULT_TRAINS: u32 = 2;
 
 pub(crate) fn workers(matches: &ArgMatches<'_>) -> Option<u32>
     ensures exact { result ≡ spec.number spec.workers (rows_of (found_of matches.now)) }
@@ -20,42 +36,42 @@ pub(crate) fn rounds(matches: &ArgMatches<'_>) -> Option<u32>
     ensures exact { result ≡ spec.number spec.rounds (rows_of (found_of matches.now)) }
     ensures within { IfSome result (spec.Takes spec.rounds) }
 {
-    number(matches, "rounds", 0, 1_000_000, 1000)
+    number(matches, "rounds", 0, MOST_ROUNDS, DEFAULT_ROUNDS)
 }
 
 pub(crate) fn budget(matches: &ArgMatches<'_>) -> Option<u32>
     ensures exact { result ≡ spec.number spec.budget (rows_of (found_of matches.now)) }
     ensures within { IfSome result (spec.Takes spec.budget) }
 {
-    number(matches, "budget", 1, 1_000_000, 1_000_000)
+    number(matches, "budget", 1, MOST_NODES, MOST_NODES)
 }
 
 pub(crate) fn most(matches: &ArgMatches<'_>) -> Option<u32>
     ensures exact { result ≡ spec.number spec.most (rows_of (found_of matches.now)) }
     ensures within { IfSome result (spec.Takes spec.most) }
 {
-    number(matches, "most", 2, 8, 2)
+    number(matches, "most", LEAST_RING, GREATEST_RING, LEAST_RING)
 }
 
 pub(crate) fn repair_rounds(matches: &ArgMatches<'_>) -> Option<u32>
     ensures exact { result ≡ spec.number spec.repair_rounds (rows_of (found_of matches.now)) }
     ensures within { IfSome result (spec.Takes spec.repair_rounds) }
 {
-    number(matches, "rounds", 0, 10_000, 1000)
+    number(matches, "rounds", 0, MOST_REPAIR_ROUNDS, DEFAULT_ROUNDS)
 }
 
 pub(crate) fn seed(matches: &ArgMatches<'_>) -> Option<u32>
     ensures exact { result ≡ spec.number spec.seed (rows_of (found_of matches.now)) }
     ensures within { IfSome result (spec.Takes spec.seed) }
 {
-    number(matches, "seed", 0, 4_294_967_295, 0)
+    number(matches, "seed", 0, u32::MAX, 0)
 }
 
 pub(crate) fn trains(matches: &ArgMatches<'_>) -> Option<u32>
     ensures exact { result ≡ spec.number spec.trains (rows_of (found_of matches.now)) }
     ensures within { IfSome result (spec.Takes spec.trains) }
 {
-    number(matches, "trains", 0, 32, 2)
+    number(matches, "trains", 0, MOST_TRAINS, DEFAULT_TRAINS)
 }
 
 // The number of the option, or its default where it isn't given.

@@ -1,14 +1,15 @@
-//! What the program can be asked for.
+// What the program can be asked for.
 
 /// What the words ask for, with the numbers of its options.
 #[derive(Clone, Copy, Debug, PartialEq, Eq)]
 pub enum Order {
-    /// Run the trains of a document by so many workers, which make so many rounds at most.
+    /// Run the trains of a document on one thread: `workers` is 0, and `rounds` is read and has no effect.
     Run {
         workers: u32,
         rounds: u32,
     },
-    /// Run the trains of a document on from the beginning of a journal.
+    /// Run the trains of a document on from the beginning of a journal, on one thread: `workers` is 0, and
+    /// `rounds` is read and has no effect.
     Resume {
         workers: u32,
         rounds: u32,
@@ -41,7 +42,7 @@ pub enum Order {
         seed: u32,
         trains: u32,
     },
-    /// Make a document of so many trains from a seed, and run its trains by so many workers.
+    /// Make a document of so many trains from a seed, and run its trains on one thread: `workers` is 0.
     Drill {
         seed: u32,
         trains: u32,

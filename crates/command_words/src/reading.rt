@@ -1,4 +1,4 @@
-//! Reading the words.
+// Reading the words.
 ghost use Rattle.std.specs.Prelude.{◌≡◌, ◌⊎◌, IfOk, IfErr, IfSome, Some, None, map, string_bytes, option_and_then};
 ghost use Rattle.clap.specs.Words.{found_of, rows_of, subcommand_rows_of};
 ghost use Rattle.command_words.specs.Subcommands as sub;
@@ -11,8 +11,11 @@ use clap::ArgMatches;
 use clap::error::ErrorKind;
 use std::alloc::Global;
 
-/// What the words after the program's name ask for. `Words` comes exactly where the definition refuses
-/// them, unless there was no memory to read them: then the answer is `Memory`, whatever they are.
+/// What the words after the program's name ask for.
+///
+/// # Errors
+/// `Words` exactly where the definition refuses them, unless there was no memory to read them: then the answer is
+/// `Memory`, whatever they are.
 pub fn words(alloc: Global, words: &[String]) -> Result<Order, WordsRefused>
     ensures ok { IfOk result (λ order. spec.words (map string_bytes words.now) ≡ Some order) }
     ensures within { IfOk result sub.HasItsNumbers }

@@ -1,4 +1,4 @@
-//! The command as clap takes it.
+// The command as clap takes it.
 ghost use Rattle.std.specs.Prelude.{◌≡◌, false, IfOk, Some, codes};
 ghost use Rattle.clap.specs.Words.{app_of, rule_of, new_rule, with_rule, with_subcommand};
 ghost use Rattle.command_words.specs.Subcommands as sub;
