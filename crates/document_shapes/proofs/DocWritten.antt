@@ -20,21 +20,19 @@ use Rattle.document_shapes.specs.declared.table.TableMembers.{TableMembers}
 use Rattle.document_shapes.specs.declared.member.Member.TheVariants as names
 use Rattle.document_shapes.proofs.Agreement.{agrees-list, agrees-items, agrees-pair, agrees-text, agrees-whole}
 use Rattle.document_shapes.proofs.PlainLemmas.{plain-no_members, plain-member, plain-object, plain-within}
-use Rattle.document_shapes.proofs.SeenLemmas.{list-seen}
+use Rattle.document_shapes.proofs.InTurn.{doc_in_turn}
+use Rattle.document_shapes.proofs.SeenLemmas.{list-seen, put_text, put_names, names-seen}
 use Rattle.document_shapes.proofs.TableWritten.{needed-back}
 
 -- what stands for the lists of a document
-abbrev put_text : String Global → Data
-put_text s = string (string_bytes s)
+abbrev put_numbers : Vec ℕ Global → Data
+put_numbers v = list_data whole_data v.items
 
 abbrev put_points : Vec (String Global × ℕ) Global → Data
 put_points v = list_data (pair_data put_text whole_data) v.items
 
 abbrev put_links : Vec (String Global × String Global) Global → Data
 put_links v = list_data (pair_data put_text put_text) v.items
-
-abbrev put_names : Vec (String Global) Global → Data
-put_names v = list_data put_text v.items
 
 abbrev put_tables : Vec TableMembers Global → Data
 put_tables v = list_data (λ t. table_data (seen_table t)) v.items
@@ -45,17 +43,16 @@ look_point p = (string_bytes p.0, p.1)
 abbrev look_link : String Global × String Global → List ℕ × List ℕ
 look_link l = (string_bytes l.0, string_bytes l.1)
 
-abbrev doc_object : Data → Data → Data → Data → Data → ℕ → ℕ → Data
-doc_object links points start tables trains version zones =
-    object
-    (member (codes "links") links
+abbrev listed : Data → Data → Data → Data → Data → ℕ → ℕ → Members
+listed links points start tables trains version zones =
+    member (codes "links") links
     (member (codes "points") points
     (member (codes "start") start
     (member (codes "tables") tables
     (member (codes "trains") trains
     (member (codes "version") (whole_data version)
     (member (codes "zones") (whole_data zones)
-    no_members)))))))
+    no_members))))))
 
 -- ---- each list reads back
 
@@ -74,25 +71,29 @@ tables-back version number (t ∷ ts) h of =
     let first = h.0 version number (All-head (IsOfVersion version) (seen_table t) (map seen_table ts) of) in
     rw (first, tables-back version (number + 1) ts h.1 (All-tail (IsOfVersion version) (seen_table t) (map seen_table ts) of)) refl
 
-in_turns : {A E : Type 0} (given : Result A E) (version : Result ℕ E) (points : Result (List (List ℕ × ℕ)) E) (links : Result (List (List ℕ × List ℕ)) E)
+all_read : {A E : Type 0} (given : Result A E) (version : Result ℕ E) (points : Result (List (List ℕ × ℕ)) E) (links : Result (List (List ℕ × List ℕ)) E)
     (zones : Result ℕ E) (trains : Result (List (List ℕ)) E) (start : Result (List ℕ) E) (tables : ℕ → Result (List RawTable) E) (a : A) (m : RawDoc)
     → given ≡ Ok a → version ≡ Ok m.version → points ≡ Ok m.points → links ≡ Ok m.links → zones ≡ Ok m.zones → trains ≡ Ok m.trains → start ≡ Ok m.start → tables m.version ≡ Ok m.tables
-    → in_turn given (λ _. in_turn version (λ v. in_turn points (λ p. in_turn links (λ l. in_turn zones (λ z. in_turn trains (λ n. in_turn start (λ s. in_turn (tables v) (λ t.
-    Ok (record { version = v; points = p; links = l; zones = z; trains = n; start = s; tables = t }))))))))) ≡ Ok m
-in_turns given version points links zones trains start tables a m i b c d e f g h = rw (i, b, c, d, e, f, g, h) refl
+    → doc_in_turn given version points links zones trains start tables ≡ Ok m
+all_read _ _ _ _ _ _ _ _ a m given version points links zones trains start tables = rw (given, version, points, links, zones, trains, start, tables) refl
 
 module _ (d : DocMembers) where
-  abbrev M : RawDoc
-  M = seen_document d
+  abbrev seen : RawDoc
+  seen = seen_document d
+
+  abbrev all_members : Members
+  all_members = listed (put_links d.links) (put_points d.points) (put_numbers d.start) (put_tables d.tables) (put_names d.trains) d.version d.zones
+
+  tables-seen : put_tables d.tables ≡ list_data table_data seen.tables
+  tables-seen = list-seen (λ t. table_data (seen_table t)) table_data seen_table (λ t. refl) d.tables.items
 
   -- the document as it is seen
-  doc-seen : doc_object (put_links d.links) (put_points d.points) (list_data whole_data d.start.items) (put_tables d.tables) (put_names d.trains) d.version d.zones ≡ doc_data M
+  doc-seen : object all_members ≡ doc_data seen
   doc-seen =
       let links = list-seen (pair_data put_text put_text) (pair_data string string) look_link (λ l. refl) d.links.items in
       let points = list-seen (pair_data put_text whole_data) (pair_data string whole_data) look_point (λ p. refl) d.points.items in
-      let tables = list-seen (λ t. table_data (seen_table t)) table_data seen_table (λ t. refl) d.tables.items in
-      let trains = list-seen put_text string string_bytes (λ s. refl) d.trains.items in
-      λ i. doc_object (links i) (points i) (list_data whole_data d.start.items) (tables i) (trains i) d.version d.zones
+      let trains = names-seen d.trains in
+      λ i. object (listed (links i) (points i) (put_numbers d.start) (tables-seen i) (trains i) d.version d.zones)
 
   -- the members put in one after another
   pub doc-value : (m0 m1 m2 m3 m4 m5 m6 m7 : Members) → m0 ≡ no_members
@@ -100,65 +101,59 @@ module _ (d : DocMembers) where
       → m2 ≡ put (codes "version") (whole_data d.version) m1
       → m3 ≡ put (codes "trains") (put_names d.trains) m2
       → m4 ≡ put (codes "tables") (put_tables d.tables) m3
-      → m5 ≡ put (codes "start") (list_data whole_data d.start.items) m4
+      → m5 ≡ put (codes "start") (put_numbers d.start) m4
       → m6 ≡ put (codes "points") (put_points d.points) m5
       → m7 ≡ put (codes "links") (put_links d.links) m6
-      → object m7 ≡ doc_data M
+      → object m7 ≡ doc_data seen
   doc-value m0 m1 m2 m3 m4 m5 m6 m7 e0 e1 e2 e3 e4 e5 e6 e7 =
-      let a1 = e1 ∙ ap (put (codes "zones") (whole_data d.zones)) e0 in
-      let a2 = e2 ∙ ap (put (codes "version") (whole_data d.version)) a1 in
-      let a3 = e3 ∙ ap (put (codes "trains") (put_names d.trains)) a2 in
-      let a4 = e4 ∙ ap (put (codes "tables") (put_tables d.tables)) a3 in
-      let a5 = e5 ∙ ap (put (codes "start") (list_data whole_data d.start.items)) a4 in
-      let a6 = e6 ∙ ap (put (codes "points") (put_points d.points)) a5 in
-      ap object (e7 ∙ ap (put (codes "links") (put_links d.links)) a6) ∙ doc-seen
+      let zones = e1 ∙ ap (put (codes "zones") (whole_data d.zones)) e0 in
+      let version = e2 ∙ ap (put (codes "version") (whole_data d.version)) zones in
+      let trains = e3 ∙ ap (put (codes "trains") (put_names d.trains)) version in
+      let tables = e4 ∙ ap (put (codes "tables") (put_tables d.tables)) trains in
+      let start = e5 ∙ ap (put (codes "start") (put_numbers d.start)) tables in
+      let points = e6 ∙ ap (put (codes "points") (put_points d.points)) start in
+      ap object (e7 ∙ ap (put (codes "links") (put_links d.links)) points) ∙ doc-seen
 
   module _
       (zones : ReadsBack whole_data 0 (λ e n. whole e ≡ Some n) d.zones)
       (version : ReadsBack whole_data 0 (λ e n. whole e ≡ Some n) d.version)
       (trains : ReadsBack put_names 1 (λ e v. ReadsList (λ f s. text f ≡ Some (string_bytes s)) e v.items) d.trains)
       (tables : ReadsBack put_tables 6 (λ e v. ReadsList TableReads e v.items) d.tables)
-      (start : ReadsBack {X = Vec ℕ Global} (λ v. list_data whole_data v.items) 1 (λ e v. ReadsList (λ f n. whole f ≡ Some n) e v.items) d.start)
+      (start : ReadsBack put_numbers 1 (λ e v. ReadsList (λ f n. whole f ≡ Some n) e v.items) d.start)
       (points : ReadsBack put_points 2 (λ e v. ReadsList (λ f p. ReadsPair (λ g s. text g ≡ Some (string_bytes s)) (λ g n. whole g ≡ Some n) f p) e v.items) d.points)
       (links : ReadsBack put_links 2 (λ e v. ReadsList (λ f p. ReadsPair (λ g s. text g ≡ Some (string_bytes s)) (λ g s. text g ≡ Some (string_bytes s)) f p) e v.items) d.links) where
-    pub doc-plain : IsPlain 7 (doc_data M)
+    pub doc-plain : IsPlain 7 (doc_data seen)
     doc-plain =
-        let m7 = plain-member 6 (codes "zones") (whole_data d.zones) no_members (plain-within 0 6 (whole_data d.zones) (omega arith) zones.plain) (plain-no_members 6) in
-        let m6 = plain-member 6 (codes "version") (whole_data d.version) _ (plain-within 0 6 (whole_data d.version) (omega arith) version.plain) m7 in
-        let m5 = plain-member 6 (codes "trains") (put_names d.trains) _ (plain-within 1 6 (put_names d.trains) (omega arith) trains.plain) m6 in
-        let m4 = plain-member 6 (codes "tables") (put_tables d.tables) _ tables.plain m5 in
-        let m3 = plain-member 6 (codes "start") (list_data whole_data d.start.items) _ (plain-within 1 6 (list_data whole_data d.start.items) (omega arith) start.plain) m4 in
-        let m2 = plain-member 6 (codes "points") (put_points d.points) _ (plain-within 2 6 (put_points d.points) (omega arith) points.plain) m3 in
-        let m1 = plain-member 6 (codes "links") (put_links d.links) _ (plain-within 2 6 (put_links d.links) (omega arith) links.plain) m2 in
-        subst (IsPlain 7) doc-seen (plain-object 6 _ m1)
+        let from_zones = plain-member 6 (codes "zones") (whole_data d.zones) no_members (plain-within 0 6 (whole_data d.zones) (omega arith) zones.plain) (plain-no_members 6) in
+        let from_version = plain-member 6 (codes "version") (whole_data d.version) _ (plain-within 0 6 (whole_data d.version) (omega arith) version.plain) from_zones in
+        let from_trains = plain-member 6 (codes "trains") (put_names d.trains) _ (plain-within 1 6 (put_names d.trains) (omega arith) trains.plain) from_version in
+        let from_tables = plain-member 6 (codes "tables") (put_tables d.tables) _ tables.plain from_trains in
+        let from_start = plain-member 6 (codes "start") (put_numbers d.start) _ (plain-within 1 6 (put_numbers d.start) (omega arith) start.plain) from_tables in
+        let from_points = plain-member 6 (codes "points") (put_points d.points) _ (plain-within 2 6 (put_points d.points) (omega arith) points.plain) from_start in
+        let all = plain-member 6 (codes "links") (put_links d.links) _ (plain-within 2 6 (put_links d.links) (omega arith) links.plain) from_points in
+        subst (IsPlain 7) doc-seen (plain-object 6 _ all)
 
     known : (n : ℕ) → 1 ≤ n → n ≤ 3 → known_version n ≡ Ok n
     known n low high = grind (arith, nat_tests)
 
+    table_objects : need None names.Tables (list_of shape.object) (object all_members) ≡ Ok (map table_data seen.tables)
+    table_objects =
+        needed-back None names.Tables (list_of shape.object) all_members (put_tables d.tables) (map table_data seen.tables) refl
+        (ap (list_of shape.object) tables-seen ∙ tables_are_objects seen.tables)
+
     -- the document reads back
-    pub doc-back : IsRead M → doc_members (doc_object (put_links d.links) (put_points d.points) (list_data whole_data d.start.items) (put_tables d.tables) (put_names d.trains) d.version d.zones) ≡ Ok M
+    doc-back : IsRead seen → doc_members (object all_members) ≡ Ok seen
     doc-back read =
-        let ms : Members =
-        member (codes "links") (put_links d.links)
-        (member (codes "points") (put_points d.points)
-        (member (codes "start") (list_data whole_data d.start.items)
-        (member (codes "tables") (put_tables d.tables)
-        (member (codes "trains") (put_names d.trains)
-        (member (codes "version") (whole_data d.version)
-        (member (codes "zones") (whole_data d.zones)
-        no_members)))))) in
-        let listed : need None names.Tables (list_of shape.object) (object ms) ≡ Ok (map table_data M.tables) =
-        needed-back None names.Tables (list_of shape.object) ms (put_tables d.tables) (map table_data M.tables) refl
-        (ap (list_of shape.object) (list-seen (λ t. table_data (seen_table t)) table_data seen_table (λ t. refl) d.tables.items) ∙ tables_are_objects M.tables) in
-        in_turns _ _ _ _ _ _ _ (λ v. in_turn (need None names.Tables (list_of shape.object) (object ms)) (each_from (table_members v) 0)) (object ms) M
+        let ms = all_members in
+        all_read _ _ _ _ _ _ _ (λ v. in_turn (need None names.Tables (list_of shape.object) (object ms)) (each_from (table_members v) 0)) (object ms) seen
         refl
         (ap (λ r. in_turn r known_version) (needed-back None names.Version whole ms (whole_data d.version) d.version refl version.back) ∙ known d.version read.first read.last)
-        (needed-back None names.Points (list_of (pair text whole)) ms (put_points d.points) M.points refl ((agrees-list (agrees-pair agrees-text agrees-whole)).reads (put_points d.points) d.points points.back))
-        (needed-back None names.Links (list_of (pair text text)) ms (put_links d.links) M.links refl ((agrees-list (agrees-pair agrees-text agrees-text)).reads (put_links d.links) d.links links.back))
+        (needed-back None names.Points (list_of (pair text whole)) ms (put_points d.points) seen.points refl ((agrees-list (agrees-pair agrees-text agrees-whole)).reads (put_points d.points) d.points points.back))
+        (needed-back None names.Links (list_of (pair text text)) ms (put_links d.links) seen.links refl ((agrees-list (agrees-pair agrees-text agrees-text)).reads (put_links d.links) d.links links.back))
         (needed-back None names.Zones whole ms (whole_data d.zones) d.zones refl zones.back)
-        (needed-back None names.Trains (list_of text) ms (put_names d.trains) M.trains refl ((agrees-list agrees-text).reads (put_names d.trains) d.trains trains.back))
-        (needed-back None names.Start (list_of whole) ms (list_data whole_data d.start.items) M.start refl ((agrees-items agrees-whole).reads (list_data whole_data d.start.items) d.start start.back))
-        (ap (λ r. in_turn r (each_from (table_members d.version) 0)) listed ∙ tables-back d.version 0 d.tables.items tables.back read.tables)
+        (needed-back None names.Trains (list_of text) ms (put_names d.trains) seen.trains refl ((agrees-list agrees-text).reads (put_names d.trains) d.trains trains.back))
+        (needed-back None names.Start (list_of whole) ms (put_numbers d.start) seen.start refl ((agrees-items agrees-whole).reads (put_numbers d.start) d.start start.back))
+        (ap (λ r. in_turn r (each_from (table_members d.version) 0)) table_objects ∙ tables-back d.version 0 d.tables.items tables.back read.tables)
 
-    pub doc-read : IsRead M → doc_members (doc_data M) ≡ Ok M
+    pub doc-read : IsRead seen → doc_members (doc_data seen) ≡ Ok seen
     doc-read read = ap doc_members (sym doc-seen) ∙ doc-back read

@@ -6,6 +6,7 @@ pub mod MemberLemmas
 pub mod TurnLemmas
 pub mod ObjectLemmas
 pub mod EachLemmas
+pub mod InTurn
 pub mod Versions
 pub mod PlainLemmas
 pub mod BackLemmas
@@ -13,6 +14,7 @@ pub mod Trailing
 pub mod ListWritten
 pub mod PartsBack
 pub mod SeenLemmas
+pub mod TableOrder
 pub mod MemberOrder
 pub mod TableWritten
 pub mod TableValue

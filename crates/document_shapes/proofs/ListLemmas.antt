@@ -1,6 +1,6 @@
 -- The items of a list, read in turn.
 use Rattle.std.proofs.Common.{◌≡◌, inl, inr, ℕ, zero, suc, ◌+◌, ◌<◌, ◌≤◌, List, [], ◌∷◌, ◌++◌, length, take, get_or, map, Some, refl, sym, ap, ◌∙◌, subst, arith}
-use Rattle.std.specs.Prelude.{⊤, IsSomeAnd, MatchOption, IfOk, Result, Ok, Err, Vec}
+use Rattle.std.specs.Prelude.{⊤, IsSomeAnd, MatchOption, IfOk, IsErrAnd, Result, Ok, Err, Vec}
 use Rattle.std.specs.declared.alloc.Global.{Global}
 use Rattle.serde_json.specs.Find.{as_array}
 use Rattle.std.specs.List.{AllZip}
@@ -19,6 +19,11 @@ allzip_push R [] [] x y h r = (r, tt)
 allzip_push R [] (b ∷ ys) x y h r = absurd h
 allzip_push R (a ∷ xs) [] x y h r = absurd h
 allzip_push R (a ∷ xs) (b ∷ ys) x y h r = (h.0, allzip_push R xs ys x y h.1 r)
+
+-- an error that is passed up is the error of its call
+pub passed_up : {A E : Type 0} (r : Result A E) (e f : E) → IsErrAnd r (λ y. y ≡ e) → r ≡ Err f → e ≡ f
+passed_up (Ok a) e f is h = absurd is
+passed_up (Err y) e f is h = let same : y ≡ f = cc in sym is ∙ same
 
 -- the values below i read as the items so far
 pub record ReadTo {X : Type 0} (R : Data → X → Type 0) (vs : List Value) (xs : List X) (i : ℕ) : Type 0 where

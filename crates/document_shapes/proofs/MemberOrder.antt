@@ -4,13 +4,14 @@ use Rattle.std.specs.Ordering.{nat_cmp}
 use Rattle.std.specs.Cmp.Lexicographic.{slice_cmp}
 use Rattle.serde_json.specs.Data.{Data, Members, no_members, member, put}
 use Rattle.document_shapes.specs.Written.{given_put, given_member}
+use Rattle.document_shapes.proofs.TableOrder.{Standing, from_times, from_sections, from_missions, from_exits, from_connections, from_certificate, all_members}
 
 -- The name comes before those of the members.
-abbrev pub IsBefore : List ℕ → Members → Type 0
+abbrev IsBefore : List ℕ → Members → Type 0
 IsBefore name no_members = Unit {0}
 IsBefore name (member k d ms) = slice_cmp nat_cmp name k ≡ Less
 
-pub put-before : (name : List ℕ) (d : Data) (ms : Members) → IsBefore name ms → put name d ms ≡ member name d ms
+put-before : (name : List ℕ) (d : Data) (ms : Members) → IsBefore name ms → put name d ms ≡ member name d ms
 put-before name d no_members h = refl
 put-before name d (member k e ms) h = rw h refl
 
@@ -26,40 +27,22 @@ before-given name k (Some d) ms less rest = less
 one-before : (name : List ℕ) (o : Option Data) (ms sorted : Members) → ms ≡ sorted → IsBefore name sorted → given_put name o ms ≡ given_member name o sorted
 one-before name o ms sorted same before = ap (given_put name o) same ∙ given-before name o sorted before
 
-module _ (after certificate connections exits : Option Data) (missions : Data) (sections times : Option Data) where
-  abbrev timed : Members
-  timed = given_member (codes "times") times no_members
-
-  abbrev marked : Members
-  marked = given_member (codes "sections") sections timed
-
-  abbrev led : Members
-  led = member (codes "missions") missions marked
-
-  abbrev left : Members
-  left = given_member (codes "exits") exits led
-
-  abbrev joined : Members
-  joined = given_member (codes "connections") connections left
-
-  abbrev certified : Members
-  certified = given_member (codes "certificate") certificate joined
-
+module _ (s : Standing) where
   -- a table's members
   pub table-in_order :
-      given_put (codes "after") after (given_put (codes "certificate") certificate (given_put (codes "connections") connections (given_put (codes "exits") exits
-      (put (codes "missions") missions (given_put (codes "sections") sections (given_put (codes "times") times no_members))))))
-      ≡ given_member (codes "after") after certified
+      given_put (codes "after") s.after (given_put (codes "certificate") s.certificate (given_put (codes "connections") s.connections (given_put (codes "exits") s.exits
+      (put (codes "missions") s.missions (given_put (codes "sections") s.sections (given_put (codes "times") s.times no_members))))))
+      ≡ all_members s
   table-in_order =
-      let a = given-before (codes "times") times no_members tt in
-      let b = one-before (codes "sections") sections _ timed a (before-given (codes "sections") (codes "times") times no_members refl tt) in
-      let c = ap (put (codes "missions") missions) b
-      ∙ put-before (codes "missions") missions marked
-      (before-given (codes "missions") (codes "sections") sections timed refl (before-given (codes "missions") (codes "times") times no_members refl tt)) in
-      let d = one-before (codes "exits") exits _ led c refl in
-      let e = one-before (codes "connections") connections _ left d (before-given (codes "connections") (codes "exits") exits led refl refl) in
-      let f = one-before (codes "certificate") certificate _ joined e
-      (before-given (codes "certificate") (codes "connections") connections left refl (before-given (codes "certificate") (codes "exits") exits led refl refl)) in
-      one-before (codes "after") after _ certified f
-      (before-given (codes "after") (codes "certificate") certificate joined refl
-      (before-given (codes "after") (codes "connections") connections left refl (before-given (codes "after") (codes "exits") exits led refl refl)))
+      let times = given-before (codes "times") s.times no_members tt in
+      let sections = one-before (codes "sections") s.sections _ (from_times s) times (before-given (codes "sections") (codes "times") s.times no_members refl tt) in
+      let missions = ap (put (codes "missions") s.missions) sections
+      ∙ put-before (codes "missions") s.missions (from_sections s)
+      (before-given (codes "missions") (codes "sections") s.sections (from_times s) refl (before-given (codes "missions") (codes "times") s.times no_members refl tt)) in
+      let exits = one-before (codes "exits") s.exits _ (from_missions s) missions refl in
+      let connections = one-before (codes "connections") s.connections _ (from_exits s) exits (before-given (codes "connections") (codes "exits") s.exits (from_missions s) refl refl) in
+      let certificate = one-before (codes "certificate") s.certificate _ (from_connections s) connections
+      (before-given (codes "certificate") (codes "connections") s.connections (from_exits s) refl (before-given (codes "certificate") (codes "exits") s.exits (from_missions s) refl refl)) in
+      one-before (codes "after") s.after _ (from_certificate s) certificate
+      (before-given (codes "after") (codes "certificate") s.certificate (from_connections s) refl
+      (before-given (codes "after") (codes "connections") s.connections (from_exits s) refl (before-given (codes "after") (codes "exits") s.exits (from_missions s) refl refl)))

@@ -16,10 +16,6 @@ use Rattle.document_shapes.specs.Values.{is_object}
 abbrev onto : Option Data → Option (List Data) → Option (List Data)
 onto o r = option_and_then (λ x. option_map (λ xs. x ∷ xs) r) o
 
-none_behind : (o : Option Data) → onto o None ≡ None
-none_behind None = refl
-none_behind (Some x) = refl
-
 pub each-objects : (ds : List Data) → list_all is_object ds ≡ true → each shape.object (items_of ds) ≡ Some ds
 each-objects [] h = refl
 each-objects (null ∷ ds) h = cc
@@ -41,6 +37,10 @@ each-no_object (object ms ∷ ds) h = ap (onto (Some (object ms))) (each-no_obje
 list_all-map : {A B : Type 0} (p : B → Bool) (f : A → B) (xs : List A) → list_all p (map f xs) ≡ list_all (λ x. p (f x)) xs
 list_all-map p f [] = refl
 list_all-map p f (x ∷ xs) = rw (list_all-map p f xs) refl
+
+-- what is shown of the value of an option
+pub shown : {X B : Type 0} (look : X → B) (o : Option X) (x : X) (b : Option B) → o ≡ Some x → option_map look o ≡ b → Some (look x) ≡ b
+shown look o x b is h = sym (ap (option_map look) is) ∙ h
 
 abbrev tables_in : Option Data → Option (List Data)
 tables_in o = option_and_then (shape.list_of shape.object) o

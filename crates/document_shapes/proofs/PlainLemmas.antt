@@ -5,17 +5,11 @@ use Rattle.std.proofs.lemmas.Int.{ints}
 use Rattle.std.proofs.lemmas.List.Elements.{All-head, All-tail}
 use Rattle.json.specs.Tree.{ItemsHaveNumbers, MembersHaveNumbers}
 use Rattle.json.proofs.Printed.Decimals.{IsNumber-decimal, IsNumber-signed_decimal}
-use Rattle.serde_json.specs.Data.{Data, boolean, string, array, object, Items, no_items, item, Members, no_members, member, items_depth, members_depth}
+use Rattle.serde_json.specs.Data.{Data, array, object, Items, no_items, item, Members, no_members, member, items_depth, members_depth}
 use Rattle.serde_json.specs.View.{items_of}
 use Rattle.serde_json.specs.Written.{items_outline, members_outline, has_float, items_have_float, members_have_float}
 use Rattle.document_shapes.specs.ReadsBack.{IsPlain}
 use Rattle.document_shapes.specs.Written.{whole_data, change_data, pair_data, list_data}
-
-pub plain-truth : (b : Bool) → IsPlain 0 (boolean b)
-plain-truth b = record { numbers = tt; whole = refl; deep = omega arith }
-
-pub plain-text : (s : List ℕ) → IsPlain 0 (string s)
-plain-text s = record { numbers = tt; whole = refl; deep = omega arith }
 
 pub plain-whole : (n : ℕ) → n < 2 ^ 32 → IsPlain 0 (whole_data n)
 plain-whole n small = record { numbers = IsNumber-decimal n (omega arith); whole = refl; deep = omega arith }

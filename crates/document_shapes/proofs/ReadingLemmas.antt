@@ -1,4 +1,4 @@
--- `reading` where the bytes are a text, and where they are not.
+-- `reading` where the bytes are a text, and where they are refused.
 use Rattle.std.proofs.Common.{◌≡◌, ℕ, List, true, false, Some, None, cond, refl, ◌∙◌, IsUtf8}
 use Rattle.std.specs.Str.{is_utf8}
 use Rattle.std.proofs.lemmas.Str.{IsUtf8-from_is_utf8, is_utf8-from_IsUtf8}
@@ -9,13 +9,6 @@ use Rattle.document_shapes.specs.Reading.{reading}
 pub reading-text : (bs : List ℕ) → IsUtf8 bs → reading bs ≡ read bs
 unfolding reading
 reading-text bs text = rw (is_utf8-from_IsUtf8 bs text) refl
-
-pub reading-no_text : (bs : List ℕ) → (IsUtf8 bs → ⊥) → reading bs ≡ None
-unfolding reading
-reading-no_text bs broken = elim (is_utf8 bs) as (λ b. is_utf8 bs ≡ b → cond b (read bs) None ≡ None) [
-  | true ↦ λ e. absurd (broken (IsUtf8-from_is_utf8 bs e))
-  | false ↦ λ e. refl
-] refl
 
 -- the clauses of `from_slice`
 pub reading-ok : (bs : List ℕ) (d : Data) → IsUtf8 bs × (read bs ≡ Some d) → reading bs ≡ Some d

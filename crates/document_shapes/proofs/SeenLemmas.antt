@@ -1,9 +1,10 @@
 -- What stands for lists of values, as definitions see them.
-use Rattle.std.proofs.Common.{◌≡◌, ℕ, List, [], ◌∷◌, map, Option, Some, None, option_map, refl, sym, ap, ap₂, ◌∙◌}
+use Rattle.std.proofs.Common.{◌≡◌, ℕ, List, [], ◌∷◌, map, Option, Some, None, option_map, refl, sym, ap, ap₂, ◌∙◌, Vec, String, Global, string_bytes}
 use Rattle.std.specs.Prelude.{MatchOption, ⊤}
-use Rattle.serde_json.specs.Data.{Data, array, item}
+use Rattle.serde_json.specs.Data.{Data, string, array, item}
 use Rattle.serde_json.specs.View.{items_of}
 use Rattle.document_shapes.specs.ReadsBack.{IsPlain, ReadsBack}
+use Rattle.document_shapes.specs.Seen.{names_seen}
 use Rattle.document_shapes.specs.Shape.{Shape}
 use Rattle.document_shapes.specs.Written.{list_data}
 
@@ -29,3 +30,13 @@ pub given-plain : {X : Type 0} (put : X → Data) (levels : ℕ) (R : Data → X
     → MatchOption (option_map put o) ⊤ (IsPlain levels)
 given-plain put levels R None h = tt
 given-plain put levels R (Some x) h = h.plain
+
+-- what stands for a text, and for a list of names
+abbrev pub put_text : String Global → Data
+put_text s = string (string_bytes s)
+
+abbrev pub put_names : Vec (String Global) Global → Data
+put_names v = list_data put_text v.items
+
+pub names-seen : (v : Vec (String Global) Global) → put_names v ≡ list_data string (names_seen v)
+names-seen v = list-seen put_text string string_bytes (λ s. refl) v.items

@@ -6,8 +6,7 @@ use Rattle.std.specs.Cmp.Lexicographic.{slice_cmp}
 use Rattle.std.proofs.lemmas.Bool.Decides.{leb_tells}
 use Rattle.rail_model.specs.declared.types.Node.{Node}
 use Rattle.rail_model.specs.Table.{Section, Connection}
-use Rattle.rail_model.specs.Turns.{in_turn}
-use Rattle.serde_json.specs.Data.{Data, boolean, string, object, Members, no_members, member}
+use Rattle.serde_json.specs.Data.{Data, boolean, string, object, Members, no_members}
 use Rattle.serde_json.specs.Find.{get_member}
 use Rattle.document_shapes.specs.Members.{name_of, need, may, since, shaped}
 use Rattle.document_shapes.specs.Parts.{node, section, connection}
@@ -18,6 +17,8 @@ use Rattle.document_shapes.specs.declared.member.Member.{Member}
 use Rattle.document_shapes.specs.declared.member.Member.TheVariants as names
 use Rattle.document_shapes.specs.declared.refused.ShapeRefused.{ShapeRefused}
 use Rattle.document_shapes.specs.declared.refused.ShapeRefused.TheVariants as refused
+use Rattle.document_shapes.proofs.InTurn.{table_in_turn}
+use Rattle.document_shapes.proofs.TableOrder.{Standing, from_times, from_sections, from_missions, from_exits, from_connections, from_certificate, all_members, standing_for}
 
 -- ---- what is found under a name
 
@@ -34,76 +35,55 @@ found-here : (k : List ℕ) (o : Option Data) (ms : Members) → slice_cmp nat_c
 found-here k None ms same none = none
 found-here k (Some d) ms same none = rw same refl
 
-module _ (after certificate connections exits : Option Data) (missions : Data) (sections times : Option Data) where
-  abbrev a7 : Members
-  a7 = given_member (codes "times") times no_members
-
-  abbrev a6 : Members
-  a6 = given_member (codes "sections") sections a7
-
-  abbrev a5 : Members
-  a5 = member (codes "missions") missions a6
-
-  abbrev a4 : Members
-  a4 = given_member (codes "exits") exits a5
-
-  abbrev a3 : Members
-  a3 = given_member (codes "connections") connections a4
-
-  abbrev a2 : Members
-  a2 = given_member (codes "certificate") certificate a3
-
-  abbrev a1 : Members
-  a1 = given_member (codes "after") after a2
-
+module _ (s : Standing) where
   -- neither of the last two members
-  absent : (k : List ℕ) → is_eq (slice_cmp nat_cmp k (codes "sections")) ≡ false → is_eq (slice_cmp nat_cmp k (codes "times")) ≡ false → get_member k a6 ≡ None
-  absent k p q = found-past k (codes "sections") sections a7 p ∙ found-past k (codes "times") times no_members q
+  absent : (k : List ℕ) → is_eq (slice_cmp nat_cmp k (codes "sections")) ≡ false → is_eq (slice_cmp nat_cmp k (codes "times")) ≡ false → get_member k (from_sections s) ≡ None
+  absent k sections times = found-past k (codes "sections") s.sections (from_times s) sections ∙ found-past k (codes "times") s.times no_members times
 
   -- what a name that comes after those of the first four finds
   past_four : (k : List ℕ) → is_eq (slice_cmp nat_cmp k (codes "after")) ≡ false → is_eq (slice_cmp nat_cmp k (codes "certificate")) ≡ false
-      → is_eq (slice_cmp nat_cmp k (codes "connections")) ≡ false → is_eq (slice_cmp nat_cmp k (codes "exits")) ≡ false → get_member k a1 ≡ get_member k a5
-  past_four k p q r s =
-      found-past k (codes "after") after a2 p ∙ found-past k (codes "certificate") certificate a3 q
-      ∙ found-past k (codes "connections") connections a4 r ∙ found-past k (codes "exits") exits a5 s
+      → is_eq (slice_cmp nat_cmp k (codes "connections")) ≡ false → is_eq (slice_cmp nat_cmp k (codes "exits")) ≡ false → get_member k (all_members s) ≡ get_member k (from_missions s)
+  past_four k after certificate connections exits =
+      found-past k (codes "after") s.after (from_certificate s) after ∙ found-past k (codes "certificate") s.certificate (from_connections s) certificate
+      ∙ found-past k (codes "connections") s.connections (from_exits s) connections ∙ found-past k (codes "exits") s.exits (from_missions s) exits
 
-  at_after : get_member (codes "after") a1 ≡ after
+  at_after : get_member (codes "after") (all_members s) ≡ s.after
   at_after =
-      found-here (codes "after") after a2 refl
-      (found-past (codes "after") (codes "certificate") certificate a3 refl ∙ found-past (codes "after") (codes "connections") connections a4 refl
-      ∙ found-past (codes "after") (codes "exits") exits a5 refl ∙ absent (codes "after") refl refl)
+      found-here (codes "after") s.after (from_certificate s) refl
+      (found-past (codes "after") (codes "certificate") s.certificate (from_connections s) refl ∙ found-past (codes "after") (codes "connections") s.connections (from_exits s) refl
+      ∙ found-past (codes "after") (codes "exits") s.exits (from_missions s) refl ∙ absent (codes "after") refl refl)
 
-  at_certificate : get_member (codes "certificate") a1 ≡ certificate
+  at_certificate : get_member (codes "certificate") (all_members s) ≡ s.certificate
   at_certificate =
-      found-past (codes "certificate") (codes "after") after a2 refl
-      ∙ found-here (codes "certificate") certificate a3 refl
-      (found-past (codes "certificate") (codes "connections") connections a4 refl ∙ found-past (codes "certificate") (codes "exits") exits a5 refl
+      found-past (codes "certificate") (codes "after") s.after (from_certificate s) refl
+      ∙ found-here (codes "certificate") s.certificate (from_connections s) refl
+      (found-past (codes "certificate") (codes "connections") s.connections (from_exits s) refl ∙ found-past (codes "certificate") (codes "exits") s.exits (from_missions s) refl
       ∙ absent (codes "certificate") refl refl)
 
-  at_connections : get_member (codes "connections") a1 ≡ connections
+  at_connections : get_member (codes "connections") (all_members s) ≡ s.connections
   at_connections =
-      found-past (codes "connections") (codes "after") after a2 refl ∙ found-past (codes "connections") (codes "certificate") certificate a3 refl
-      ∙ found-here (codes "connections") connections a4 refl
-      (found-past (codes "connections") (codes "exits") exits a5 refl ∙ absent (codes "connections") refl refl)
+      found-past (codes "connections") (codes "after") s.after (from_certificate s) refl ∙ found-past (codes "connections") (codes "certificate") s.certificate (from_connections s) refl
+      ∙ found-here (codes "connections") s.connections (from_exits s) refl
+      (found-past (codes "connections") (codes "exits") s.exits (from_missions s) refl ∙ absent (codes "connections") refl refl)
 
-  at_exits : get_member (codes "exits") a1 ≡ exits
+  at_exits : get_member (codes "exits") (all_members s) ≡ s.exits
   at_exits =
-      found-past (codes "exits") (codes "after") after a2 refl ∙ found-past (codes "exits") (codes "certificate") certificate a3 refl
-      ∙ found-past (codes "exits") (codes "connections") connections a4 refl
-      ∙ found-here (codes "exits") exits a5 refl (absent (codes "exits") refl refl)
+      found-past (codes "exits") (codes "after") s.after (from_certificate s) refl ∙ found-past (codes "exits") (codes "certificate") s.certificate (from_connections s) refl
+      ∙ found-past (codes "exits") (codes "connections") s.connections (from_exits s) refl
+      ∙ found-here (codes "exits") s.exits (from_missions s) refl (absent (codes "exits") refl refl)
 
-  at_missions : get_member (codes "missions") a1 ≡ Some missions
+  at_missions : get_member (codes "missions") (all_members s) ≡ Some s.missions
   at_missions = past_four (codes "missions") refl refl refl refl
 
-  at_sections : get_member (codes "sections") a1 ≡ sections
+  at_sections : get_member (codes "sections") (all_members s) ≡ s.sections
   at_sections =
       past_four (codes "sections") refl refl refl refl
-      ∙ found-here (codes "sections") sections a7 refl (found-past (codes "sections") (codes "times") times no_members refl)
+      ∙ found-here (codes "sections") s.sections (from_times s) refl (found-past (codes "sections") (codes "times") s.times no_members refl)
 
-  at_times : get_member (codes "times") a1 ≡ times
+  at_times : get_member (codes "times") (all_members s) ≡ s.times
   at_times =
       past_four (codes "times") refl refl refl refl
-      ∙ found-past (codes "times") (codes "sections") sections a7 refl ∙ found-here (codes "times") times no_members refl refl
+      ∙ found-past (codes "times") (codes "sections") s.sections (from_times s) refl ∙ found-here (codes "times") s.times no_members refl refl
 
 -- ---- and what is read of it
 
@@ -127,13 +107,12 @@ since-back least version r o older is = elim (leb_tells least version) [
   | inr then_none ↦ rw then_none.0 (ap Ok (sym (older (omega (arith, then_none.1)))))
 ]
 
-in_turns : {E : Type 0} (missions : Result (List (List (List ℕ))) E) (exits : Result (Option (List Bool)) E) (sections : Result (Option (List Section)) E)
+all_read : {E : Type 0} (missions : Result (List (List (List ℕ))) E) (exits : Result (Option (List Bool)) E) (sections : Result (Option (List Section)) E)
     (connections : Result (Option (List Connection)) E) (certificate : Result (Option (List Node)) E) (times : Result (Option (List (List ℕ))) E) (after : Result (Option ℕ) E)
     (t : TableMembers)
     → missions ≡ Ok t.missions → exits ≡ Ok t.exits → sections ≡ Ok t.sections → connections ≡ Ok t.connections → certificate ≡ Ok t.certificate → times ≡ Ok t.times → after ≡ Ok t.after
-    → in_turn missions (λ a. in_turn exits (λ b. in_turn sections (λ c. in_turn connections (λ d. in_turn certificate (λ e. in_turn times (λ f. in_turn after (λ g.
-    Ok (record { missions = a; exits = b; sections = c; connections = d; certificate = e; times = f; after = g })))))))) ≡ Ok t
-in_turns missions exits sections connections certificate times after t a b c d e f g = rw (a, b, c, d, e, f, g) refl
+    → table_in_turn missions exits sections connections certificate times after ≡ Ok t
+all_read _ _ _ _ _ _ _ t missions exits sections connections certificate times after = rw (missions, exits, sections, connections, certificate, times, after) refl
 
 -- What is written of the members reads as they do, each by itself.
 pub record MembersRead (t : TableMembers) : Type 0 where
@@ -148,21 +127,14 @@ pub record MembersRead (t : TableMembers) : Type 0 where
 -- a table reads back
 pub table-back : (version number : ℕ) (t : TableMembers) → MembersRead t → IsOfVersion version t → table_members version number (table_data t) ≡ Ok t
 table-back version number t h of =
-    let after = option_map whole_data t.after in
-    let certificate = option_map (list_data node_data) t.certificate in
-    let connections = option_map (list_data connection_data) t.connections in
-    let exits = option_map (list_data boolean) t.exits in
-    let missions = list_data (list_data string) t.missions in
-    let sections = option_map (list_data section_data) t.sections in
-    let times = option_map (list_data (list_data whole_data)) t.times in
-    let ms = a1 after certificate connections exits missions sections times in
-    in_turns _ _ _ _ _ _ _ t
-    (needed-back (Some number) names.Missions (list_of (list_of text)) ms missions t.missions (at_missions after certificate connections exits missions sections times) h.missions)
-    (since-back 2 version _ t.exits of.exits
-    (given-back number names.Exits (list_of truth) (list_data boolean) t.exits ms (at_exits after certificate connections exits missions sections times) h.exits))
-    (given-back number names.Sections (list_of section) (list_data section_data) t.sections ms (at_sections after certificate connections exits missions sections times) h.sections)
+    let s = standing_for t in
+    let ms = all_members s in
+    all_read _ _ _ _ _ _ _ t
+    (needed-back (Some number) names.Missions (list_of (list_of text)) ms s.missions t.missions (at_missions s) h.missions)
+    (since-back 2 version _ t.exits of.exits (given-back number names.Exits (list_of truth) (list_data boolean) t.exits ms (at_exits s) h.exits))
+    (given-back number names.Sections (list_of section) (list_data section_data) t.sections ms (at_sections s) h.sections)
     (since-back 3 version _ t.connections of.connections
-    (given-back number names.Connections (list_of connection) (list_data connection_data) t.connections ms (at_connections after certificate connections exits missions sections times) h.connections))
-    (given-back number names.Certificate (list_of node) (list_data node_data) t.certificate ms (at_certificate after certificate connections exits missions sections times) h.certificate)
-    (given-back number names.Times (list_of (list_of whole)) (list_data (list_data whole_data)) t.times ms (at_times after certificate connections exits missions sections times) h.times)
-    (given-back number names.After whole whole_data t.after ms (at_after after certificate connections exits missions sections times) h.after)
+    (given-back number names.Connections (list_of connection) (list_data connection_data) t.connections ms (at_connections s) h.connections))
+    (given-back number names.Certificate (list_of node) (list_data node_data) t.certificate ms (at_certificate s) h.certificate)
+    (given-back number names.Times (list_of (list_of whole)) (list_data (list_data whole_data)) t.times ms (at_times s) h.times)
+    (given-back number names.After whole whole_data t.after ms (at_after s) h.after)

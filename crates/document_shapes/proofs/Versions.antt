@@ -16,6 +16,7 @@ use Rattle.document_shapes.specs.declared.member.Member.TheVariants as member
 use Rattle.document_shapes.specs.declared.refused.ShapeRefused.{ShapeRefused}
 use Rattle.document_shapes.specs.declared.refused.ShapeRefused.TheVariants as refused
 use Rattle.document_shapes.proofs.EachLemmas.{in_turn-ok, each-good}
+use Rattle.document_shapes.proofs.InTurn.{table_in_turn, doc_in_turn}
 
 since-older : {A : Type 0} (least version : ℕ) (r : Result (Option A) ShapeRefused) (o : Option A) → version < least → since least version r ≡ Ok o → o ≡ None
 since-older least version r o lt h =
@@ -26,8 +27,7 @@ since-older least version r o lt h =
 table-chain : {E : Type 0} (missions : Result (List (List (List ℕ))) E) (exits : Result (Option (List Bool)) E) (sections : Result (Option (List Section)) E)
     (connections : Result (Option (List Connection)) E) (certificate : Result (Option (List Node)) E) (times : Result (Option (List (List ℕ))) E) (after : Result (Option ℕ) E)
     (m : TableMembers)
-    → in_turn missions (λ a. in_turn exits (λ b. in_turn sections (λ c. in_turn connections (λ d. in_turn certificate (λ e. in_turn times (λ f. in_turn after (λ g.
-    Ok (record { missions = a; exits = b; sections = c; connections = d; certificate = e; times = f; after = g })))))))) ≡ Ok m
+    → table_in_turn missions exits sections connections certificate times after ≡ Ok m
     → (exits ≡ Ok m.exits) × (connections ≡ Ok m.connections)
 table-chain (Ok a) (Ok b) (Ok c) (Ok d) (Ok e) (Ok f) (Ok g) m h =
     let same : record { missions = a; exits = b; sections = c; connections = d; certificate = e; times = f; after = g } ≡ m = cc in
@@ -55,8 +55,7 @@ table-version version t d m h =
 -- where a document's members are all there, version and tables are those that were read
 doc-chain : {A E : Type 0} (given : Result A E) (version : Result ℕ E) (points : Result (List (List ℕ × ℕ)) E) (links : Result (List (List ℕ × List ℕ)) E)
     (zones : Result ℕ E) (trains : Result (List (List ℕ)) E) (start : Result (List ℕ) E) (tables : ℕ → Result (List TableMembers) E) (m : DocMembers)
-    → in_turn given (λ _. in_turn version (λ v. in_turn points (λ p. in_turn links (λ l. in_turn zones (λ z. in_turn trains (λ n. in_turn start (λ s. in_turn (tables v) (λ t.
-    Ok (record { version = v; points = p; links = l; zones = z; trains = n; start = s; tables = t }))))))))) ≡ Ok m
+    → doc_in_turn given version points links zones trains start tables ≡ Ok m
     → (version ≡ Ok m.version) × (tables m.version ≡ Ok m.tables)
 doc-chain (Ok g) (Ok v) (Ok p) (Ok l) (Ok z) (Ok n) (Ok s) tables m h =
     let last = in_turn-ok (tables v) (λ t. Ok (record { version = v; points = p; links = l; zones = z; trains = n; start = s; tables = t })) m h in

@@ -47,14 +47,14 @@ fn read_value(alloc: Global, bytes: &[u8]) -> Result<Value, ShapeRefused>
 }
 
 // A whole number that has to be there.
-fn number(value: &Value, name: Member) -> Result<u32, ShapeRefused>
-    ensures { result ≡ need None name shape.whole (view value.now) }
+fn number(value: &Value, member: Member) -> Result<u32, ShapeRefused>
+    ensures { result ≡ need None member shape.whole (view value.now) }
 {
     let refused = ShapeRefused::Shape {
         table: None,
-        member: name,
+        member,
     };
-    value.get(name.name()).and_then(whole).ok_or(refused)
+    value.get(member.name()).and_then(whole).ok_or(refused)
 }
 
 // The version, where it is known.
@@ -112,13 +112,8 @@ fn table_objects(value: &Value) -> Result<&[Value], ShapeRefused>
         table: None,
         member: Member::Tables,
     };
-    let Some(tables) = value.get(Member::Tables.name()) else {
-        return Err(refused);
-    };
-    let Some(tables) = tables.as_array() else {
-        return Err(refused);
-    };
-    let tables = tables.as_slice();
+    let tables = value.get(Member::Tables.name()).ok_or(refused)?;
+    let tables = tables.as_array().ok_or(refused)?.as_slice();
     if are_objects(tables) {
         Ok(tables)
     } else {
@@ -157,8 +152,9 @@ fn read_members(alloc: Global, value: &Value) -> Result<DocMembers, ShapeRefused
 /// The members of the document that the bytes are.
 ///
 /// # Errors
-/// The first refusal: the bytes are no JSON, no object; the version has another shape or is not known; a member
-/// is missing or has another shape, in the order of [`DocMembers`] and, table by table, of [`TableMembers`].
+/// Want of memory, or the first refusal: the bytes are no JSON, no object; the version has another shape or is not
+/// known; a member is missing or has another shape, in the order of [`DocMembers`] and, table by table, of
+/// [`TableMembers`].
 pub fn read_document(alloc: Global, bytes: &[u8]) -> Result<DocMembers, ShapeRefused>
     ensures { Answers ShapeRefused.Memory seen_document result (members_of bytes.now) }
 {

@@ -11,7 +11,7 @@ use serde_json::Value;
 use std::alloc::Global;
 
 /// What is read of a value of one shape.
-pub trait FromValue: Sized + Drop {
+pub(crate) trait FromValue: Sized + Drop {
     /// The value reads as this.
     ghost reads: { Data → Self → Type 0 };
 
@@ -44,7 +44,7 @@ impl FromValue for u32 {
 }
 
 /// The integer from 0 to 4,294,967,295 that the value is.
-pub fn whole(value: &Value) -> Option<u32>
+pub(crate) fn whole(value: &Value) -> Option<u32>
     ensures { result ≡ shape.whole (view value.now) }
 {
     let number = value.as_u64()?;
@@ -94,24 +94,24 @@ impl<T: FromValue> FromValue for Vec<T> {
     }
 }
 
-// The one loop over items.
+// Each of the values, in order, or the first that isn't read.
 fn items<T: FromValue>(alloc: Global, values: &[Value]) -> Result<Vec<T>, Misfit>
     ensures ok { IfOk result (λ v. AllZip T.FromValue.reads (map view values.now) v.items) }
     ensures err { result ≡ Err Misfit.Shape → SomeMisfits T.FromValue.misfits (map view values.now) }
 {
     let mut found = Vec::new(alloc);
     for value in values {
-        let item = match T::from_value(alloc, value) {
-            Ok(item) => item,
-            Err(misfit) => return Err(misfit),
-        };
-        found.push(item)?;
+        found.push(T::from_value(alloc, value)?)?;
     }
     Ok(found)
 }
 
 /// A member of an object.
-pub fn member<T: FromValue>(alloc: Global, value: &Value, name: &str) -> Result<T, Misfit>
+pub(crate) fn member_called<T: FromValue>(
+    alloc: Global,
+    value: &Value,
+    name: &str,
+) -> Result<T, Misfit>
     ensures ok { IfOk result (λ x. ReadsAt T.FromValue.reads name.now (view value.now) x) }
     ensures err { result ≡ Err Misfit.Shape → MisfitsAt T.FromValue.misfits name.now (view value.now) }
 {

@@ -18,5 +18,4 @@ pub use member::Member;
 pub use parts::SectionMembers;
 pub use refused::ShapeRefused;
 pub use table::TableMembers;
-pub use to_value::{ToValue, list_value};
 pub use writing::write_document;

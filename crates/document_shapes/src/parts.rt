@@ -6,7 +6,7 @@ ghost use Rattle.document_shapes.specs.Shape as shape;
 ghost use Rattle.document_shapes.specs.Parts as part;
 ghost use Rattle.document_shapes.specs.Values.{each_whole, changes_seen};
 
-use crate::from_value::{FromValue, member, whole};
+use crate::from_value::{FromValue, member_called, whole};
 use crate::refused::Misfit;
 use rail_model::{Connection, Node, TrainTimes};
 use serde_json::Value;
@@ -85,10 +85,8 @@ impl FromValue for TrainTimes {
     ghost misfits = { λ d. shape.list_of shape.whole d ≡ None };
 
     fn from_value(alloc: Global, value: &Value) -> Result<TrainTimes, Misfit> {
-        match Vec::<u32>::from_value(alloc, value) {
-            Ok(steps) => Ok(TrainTimes::from(steps)),
-            Err(misfit) => Err(misfit),
-        }
+        let steps = Vec::<u32>::from_value(alloc, value)?;
+        Ok(TrainTimes::from(steps))
     }
 }
 
@@ -97,7 +95,7 @@ fn changes_of(alloc: Global, section: &Value) -> Result<Vec<Vec<i32>>, Misfit>
     ensures ok { IfOk result (λ v. part.changes (view section.now) ≡ Some (changes_seen v)) }
     ensures err { result ≡ Err Misfit.Shape → part.changes (view section.now) ≡ None }
 {
-    member(alloc, section, "changes")
+    member_called(alloc, section, "changes")
 }
 
 /// A section's members: a limit, and for each train a list of changes.
@@ -115,12 +113,8 @@ impl FromValue for SectionMembers {
     ghost misfits = { λ d. part.section d ≡ None };
 
     fn from_value(alloc: Global, value: &Value) -> Result<SectionMembers, Misfit> {
-        let Some(limit) = value.get("limit").and_then(whole) else {
-            return Err(Misfit::Shape);
-        };
-        match changes_of(alloc, value) {
-            Ok(changes) => Ok(SectionMembers { limit, changes }),
-            Err(misfit) => Err(misfit),
-        }
+        let limit = value.get("limit").and_then(whole).ok_or(Misfit::Shape)?;
+        let changes = changes_of(alloc, value)?;
+        Ok(SectionMembers { limit, changes })
     }
 }

@@ -24,7 +24,7 @@ pub enum ShapeRefused {
 
 /// Why a value is not read: it has another shape, or memory ran out.
 #[derive(Clone, Copy, Debug, PartialEq, Eq)]
-pub enum Misfit {
+pub(crate) enum Misfit {
     Shape,
     Memory,
 }
@@ -46,16 +46,6 @@ impl<T: Drop> From<AllocFailed<T>> for Misfit {
 
     fn from(_error: AllocFailed<T>) -> Misfit {
         Misfit::Memory
-    }
-}
-
-impl From<AllocError> for ShapeRefused {
-    ghost use Rattle.document_shapes.specs.declared.refused.ShapeRefused.TheVariants.{Memory};
-
-    ghost from_gives = { λ _ e. e ≡ Memory };
-
-    fn from(_error: AllocError) -> ShapeRefused {
-        ShapeRefused::Memory
     }
 }
 

@@ -134,7 +134,7 @@ fn read_table(
 }
 
 /// The members of all tables, table by table.
-pub fn read_tables(
+pub(crate) fn read_tables(
     alloc: Global,
     values: &[Value],
     version: u32,

@@ -15,7 +15,7 @@ use serde_json::{Value, json};
 use std::alloc::{AllocError, Global};
 
 /// What stands for a value in JSON.
-pub trait ToValue {
+pub(crate) trait ToValue {
     /// The data that stand for the value.
     ghost stands: { Self → Data };
 
@@ -155,7 +155,7 @@ impl<T: ToValue> ToValue for Vec<T> {
 }
 
 /// The list of what stands for each item.
-pub fn list_value<T: ToValue>(alloc: Global, items: &[T]) -> Result<Value, AllocError>
+pub(crate) fn list_value<T: ToValue>(alloc: Global, items: &[T]) -> Result<Value, AllocError>
     ensures value { IfOk result (λ v. view v ≡ list_data T.ToValue.stands items.now) }
     ensures back { IfOk result (λ _. All (ReadsBack T.ToValue.stands T.ToValue.levels T.ToValue.reads) items.now) }
 {

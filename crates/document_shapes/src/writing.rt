@@ -17,31 +17,31 @@ use std::alloc::{AllocError, Global};
 fn put_member<T: ToValue>(
     map: &mut Map<String, Value>,
     alloc: Global,
-    name: Member,
+    member: Member,
     item: &T,
 ) -> Result<(), AllocError>
     ensures members { OnOk result (members_view map.new.entries
-        ≡ put (name_of name) (T.ToValue.stands item.now) (members_view map.old.entries)) }
+        ≡ put (name_of member) (T.ToValue.stands item.now) (members_view map.old.entries)) }
     ensures back { OnOk result (ReadsBack T.ToValue.stands T.ToValue.levels T.ToValue.reads item.now) }
 {
     let value = item.to_value(alloc)?;
-    serde_json::put(map, alloc, name.name(), value)
+    serde_json::put(map, alloc, member.name(), value)
 }
 
 // Puts a member among others, where there is one.
 fn put_given<T: ToValue>(
     map: &mut Map<String, Value>,
     alloc: Global,
-    name: Member,
+    member: Member,
     item: &Option<T>,
 ) -> Result<(), AllocError>
     ensures members { OnOk result (members_view map.new.entries
-        ≡ given_put (name_of name) (option_map T.ToValue.stands item.now) (members_view map.old.entries)) }
+        ≡ given_put (name_of member) (option_map T.ToValue.stands item.now) (members_view map.old.entries)) }
     ensures back { OnOk result
         (MatchOption item.now ⊤ (ReadsBack T.ToValue.stands T.ToValue.levels T.ToValue.reads)) }
 {
     match item {
-        Some(item) => put_member(map, alloc, name, item),
+        Some(item) => put_member(map, alloc, member, item),
         None => Ok(()),
     }
 }

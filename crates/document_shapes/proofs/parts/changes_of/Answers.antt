@@ -9,6 +9,6 @@ returns c =
     let agrees = agrees-at (agrees-list (agrees-items agrees-change)) (codes "changes") in
     let section = view c.args.section.now in
     record {
-      ok = IfOk-weaker c.member.result _ _ (λ v h. agrees.reads section v h) c.member.ensures.ok;
-      err = λ e. agrees.misfits section (c.member.ensures.err e);
+      ok = IfOk-weaker c.member_called.result _ _ (λ v h. agrees.reads section v h) c.member_called.ensures.ok;
+      err = λ e. agrees.misfits section (c.member_called.ensures.err e);
     }
