@@ -4,11 +4,16 @@ ghost use Rattle.document_generator.specs.Draws.{next_draw, drawn_of};
 
 use std::marker::Model;
 
+// The next number is MULTIPLIER times the last, and INCREMENT more, modulo MODULUS.
+const MULTIPLIER: u32 = 75;
+
+const INCREMENT: u32 = 74;
+
 const MODULUS: u32 = 65537;
 
 /// Numbers drawn one after the other, from a seed on.
 #[derive(Drop)]
-pub struct Draws {
+pub(crate) struct Draws {
     last: u32,
 }
 
@@ -21,7 +26,7 @@ impl Model for Draws {
 }
 
 impl Draws {
-    pub fn new(seed: u32) -> Self
+    pub(crate) fn new(seed: u32) -> Self
         ensures { result ≡ drawn_of seed }
     {
         Draws {
@@ -30,11 +35,11 @@ impl Draws {
     }
 
     /// The next number.
-    pub fn draw(&mut self) -> u32
+    pub(crate) fn draw(&mut self) -> u32
         ensures drawn { result ≡ next_draw self.old }
         ensures last { self.new ≡ next_draw self.old }
     {
-        let next = (75 * self.last + 74) % MODULUS;
+        let next = (MULTIPLIER * self.last + INCREMENT) % MODULUS;
         self.last = next;
         next
     }

@@ -8,7 +8,7 @@ use crate::pairs::Pair;
 use std::alloc::{AllocError, Global};
 
 /// How many zones there are.
-pub const ZONES: u32 = 4;
+pub(crate) const ZONES: u32 = 4;
 
 // Adds the points of a loop behind its first joint.
 fn add_loop_points(
@@ -20,7 +20,7 @@ fn add_loop_points(
     requires { place < 8 }
     ensures { OnOk result (map point_seen found.new.items ≡ map point_seen found.old.items ++ loop_points pair.now place) }
 {
-    let start = pair.first() + 3 * place;
+    let start = pair.first_point() + 3 * place;
     found.push((upper(alloc, pair, place)?, (start + 1) % ZONES))?;
     found.push((lower(alloc, pair, place)?, (start + 2) % ZONES))?;
     found.push((joint(alloc, pair, place + 1)?, (start + 3) % ZONES))?;
@@ -31,7 +31,7 @@ fn add_loop_points(
 fn add_points(alloc: Global, pair: &Pair, found: &mut Vec<(String, u32)>) -> Result<(), AllocError>
     ensures { OnOk result (map point_seen found.new.items ≡ map point_seen found.old.items ++ points_of pair.now) }
 {
-    found.push((joint(alloc, pair, 0)?, pair.first() % ZONES))?;
+    found.push((joint(alloc, pair, 0)?, pair.first_point() % ZONES))?;
     for place in 0..pair.loops() {
         add_loop_points(alloc, pair, place, found)?;
     }
@@ -39,7 +39,7 @@ fn add_points(alloc: Global, pair: &Pair, found: &mut Vec<(String, u32)>) -> Res
 }
 
 /// The points of all pairs, with their zones.
-pub fn points(alloc: Global, pairs: &[Pair]) -> Result<Vec<(String, u32)>, AllocError>
+pub(crate) fn points(alloc: Global, pairs: &[Pair]) -> Result<Vec<(String, u32)>, AllocError>
     ensures { IfOk result (λ v. map point_seen v.items ≡ flat_map points_of pairs.now) }
 {
     let mut found = Vec::new(alloc);
@@ -82,7 +82,7 @@ fn add_links(
 }
 
 /// The links of all pairs, by the names of their points.
-pub fn links(alloc: Global, pairs: &[Pair]) -> Result<Vec<(String, String)>, AllocError>
+pub(crate) fn links(alloc: Global, pairs: &[Pair]) -> Result<Vec<(String, String)>, AllocError>
     ensures { IfOk result (λ v. map link_seen v.items ≡ flat_map links_of pairs.now) }
 {
     let mut found = Vec::new(alloc);

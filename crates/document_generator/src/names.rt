@@ -6,7 +6,7 @@ use crate::pairs::Pair;
 use std::alloc::{AllocError, Global};
 
 /// The joint of this number.
-pub fn joint(alloc: Global, pair: &Pair, joint: u32) -> Result<String, AllocError>
+pub(crate) fn joint(alloc: Global, pair: &Pair, joint: u32) -> Result<String, AllocError>
     ensures { IfOk result (λ s. string_bytes s ≡ piece.joint pair.now joint) }
 {
     let number = pair.number();
@@ -14,7 +14,7 @@ pub fn joint(alloc: Global, pair: &Pair, joint: u32) -> Result<String, AllocErro
 }
 
 /// The point of the upper track in this loop.
-pub fn upper(alloc: Global, pair: &Pair, place: u32) -> Result<String, AllocError>
+pub(crate) fn upper(alloc: Global, pair: &Pair, place: u32) -> Result<String, AllocError>
     ensures { IfOk result (λ s. string_bytes s ≡ piece.upper pair.now place) }
 {
     let number = pair.number();
@@ -22,7 +22,7 @@ pub fn upper(alloc: Global, pair: &Pair, place: u32) -> Result<String, AllocErro
 }
 
 /// The point of the lower track in this loop.
-pub fn lower(alloc: Global, pair: &Pair, place: u32) -> Result<String, AllocError>
+pub(crate) fn lower(alloc: Global, pair: &Pair, place: u32) -> Result<String, AllocError>
     ensures { IfOk result (λ s. string_bytes s ≡ piece.lower pair.now place) }
 {
     let number = pair.number();

@@ -8,9 +8,18 @@ use rail_model::TrainTimes;
 use std::alloc::{AllocError, Global};
 use std::marker::Model;
 
+// A step takes 1 to so many ticks.
+const MOST_TICKS: u32 = 9;
+
+// A pair has 1 to so many loops.
+const MOST_LOOPS: u32 = 8;
+
+// How many trains a pair has, if there are so many left.
+const TRAINS_OF_A_PAIR: u32 = 2;
+
 /// Two trains with a row of loops of their own; the last pair may have one train or none.
 #[derive(Drop)]
-pub struct Pair {
+pub(crate) struct Pair {
     number: u32,
     first: u32,
     loops: u32,
@@ -28,7 +37,7 @@ impl Model for Pair {
 }
 
 impl Pair {
-    pub fn number(&self) -> u32
+    pub(crate) fn number(&self) -> u32
         ensures value { result ≡ self.now.number }
         ensures bound { result < 16 }
     {
@@ -36,14 +45,14 @@ impl Pair {
     }
 
     /// The number of its first point in the document.
-    pub fn first(&self) -> u32
+    pub(crate) fn first_point(&self) -> u32
         ensures value { result ≡ self.now.first }
         ensures bound { result ≤ 400 }
     {
         self.first
     }
 
-    pub fn loops(&self) -> u32
+    pub(crate) fn loops(&self) -> u32
         ensures value { result ≡ self.now.loops }
         ensures bound { result ≤ 8 }
     {
@@ -51,7 +60,7 @@ impl Pair {
     }
 
     /// The travel times of each of its trains, in ticks.
-    pub fn times(&self) -> &[TrainTimes]
+    pub(crate) fn times(&self) -> &[TrainTimes]
         ensures { result.now ≡ self.now.times }
     {
         &self.times
@@ -65,7 +74,7 @@ fn train_times(alloc: Global, draws: &mut Draws, steps: u32) -> Result<TrainTime
 {
     let mut times = Vec::new(alloc);
     for _step in 0..steps {
-        times.push(1 + draws.draw() % 9)?;
+        times.push(1 + draws.draw() % MOST_TICKS)?;
     }
     Ok(TrainTimes::from(times))
 }
@@ -100,7 +109,7 @@ fn draw_pair(
     ensures pair { IfOk result (λ g. g ≡ pair_after number first trains draws.old) }
     ensures drawn { OnOk result (draws.new ≡ last_draw trains draws.old) }
 {
-    let loops = 1 + draws.draw() % 8;
+    let loops = 1 + draws.draw() % MOST_LOOPS;
     let times = pair_times(alloc, draws, trains, 2 * loops)?;
     Ok(Pair {
         number,
@@ -111,7 +120,7 @@ fn draw_pair(
 }
 
 /// All pairs of a seed, for so many trains.
-pub fn draw_pairs(alloc: Global, seed: u32, trains: u32) -> Result<Vec<Pair>, AllocError>
+pub(crate) fn draw_pairs(alloc: Global, seed: u32, trains: u32) -> Result<Vec<Pair>, AllocError>
     requires { trains ≤ 32 }
     ensures { IfOk result (λ v. v.items ≡ all_pairs seed trains) }
 {
@@ -120,7 +129,7 @@ pub fn draw_pairs(alloc: Global, seed: u32, trains: u32) -> Result<Vec<Pair>, Al
     let mut first = 0;
     let mut left = trains;
     for number in 0..((trains + 1) / 2).max(1) {
-        let here = left.min(2);
+        let here = left.min(TRAINS_OF_A_PAIR);
         let next = draw_pair(alloc, &mut draws, number, first, here)?;
         first += 3 * next.loops() + 1;
         left -= here;

@@ -9,6 +9,9 @@ use crate::pairs::Pair;
 use document_shapes::SectionMembers;
 use std::alloc::{AllocError, Global};
 
+// How many trains may be in the section of a pair: both of the pair.
+const LIMIT: u32 = 2;
+
 // The change at a place of a way: in at place 1, and out at the last.
 fn change_at(steps: u32, place: u32) -> i32
     ensures { result ≡ piece.change_at steps place }
@@ -67,7 +70,10 @@ fn section(alloc: Global, pairs: &[Pair], own: &Pair) -> Result<SectionMembers, 
     for pair in pairs {
         add_changes(alloc, own, pair, &mut changes)?;
     }
-    Ok(SectionMembers { limit: 2, changes })
+    Ok(SectionMembers {
+        limit: LIMIT,
+        changes,
+    })
 }
 
 // Adds the section of a pair, where it has a train.
@@ -86,7 +92,7 @@ fn add_section(
 }
 
 /// The sections of all pairs.
-pub fn sections(alloc: Global, pairs: &[Pair]) -> Result<Vec<SectionMembers>, AllocError>
+pub(crate) fn sections(alloc: Global, pairs: &[Pair]) -> Result<Vec<SectionMembers>, AllocError>
     ensures { IfOk result (λ v. map seen_section v.items ≡ flat_map (sections_of pairs.now) pairs.now) }
 {
     let mut found = Vec::new(alloc);

@@ -55,7 +55,7 @@ fn add_ways(alloc: Global, pair: &Pair, found: &mut Vec<Vec<String>>) -> Result<
 }
 
 /// The ways of all trains.
-pub fn ways(alloc: Global, pairs: &[Pair]) -> Result<Vec<Vec<String>>, AllocError>
+pub(crate) fn ways(alloc: Global, pairs: &[Pair]) -> Result<Vec<Vec<String>>, AllocError>
     ensures { IfOk result (λ v. map names_seen v.items ≡ flat_map ways_of pairs.now) }
 {
     let mut found = Vec::new(alloc);
