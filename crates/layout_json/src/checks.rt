@@ -12,21 +12,28 @@ use crate::DocRefused;
 use legal_state::judge;
 use rail_model::{State, Table, TrainTimes, last_of, trains_of};
 
+const MOST_TABLES: usize = 16;
+
+// The moves after which a table is due at the latest.
+const LATEST_DUE: u32 = 1_000_000;
+
+const MOST_TICKS: u32 = 1000;
+
 /// Refuses no table, and more than 16.
-pub fn check_count(count: usize) -> Result<(), DocRefused>
+pub(crate) fn check_count(count: usize) -> Result<(), DocRefused>
     ensures { result_err result ≡ tables_refusal count }
 {
-    if count == 0 || count > 16 {
+    if count == 0 || count > MOST_TABLES {
         return Err(DocRefused::Tables { count });
     }
     Ok(())
 }
 
 /// Refuses a table that is due too late.
-pub fn check_after(table: usize, value: u32) -> Result<(), DocRefused>
+pub(crate) fn check_after(table: usize, value: u32) -> Result<(), DocRefused>
     ensures { result_err result ≡ after_refusal table value }
 {
-    let most = if table == 0 { 0 } else { 1_000_000 };
+    let most = if table == 0 { 0 } else { LATEST_DUE };
     if value > most {
         return Err(DocRefused::After { table, value });
     }
@@ -86,7 +93,7 @@ fn check_lengths(number: usize, table: &Table, times: &[TrainTimes]) -> Result<(
 fn check_time(table: usize, train: u32, place: u32, value: u32) -> Result<(), DocRefused>
     ensures { result_err result ≡ bad_time table train place value }
 {
-    if value == 0 || value > 1000 {
+    if value == 0 || value > MOST_TICKS {
         return Err(DocRefused::TimesValue {
             table,
             train,
@@ -102,8 +109,8 @@ fn check_train(table: usize, train: u32, times: &[u32]) -> Result<(), DocRefused
     requires { length times.now < 2 ^ 32 }
     ensures { result_err result ≡ bad_times table train times.now }
 {
-    for place in 0..times.len() {
-        check_time(table, train, place as u32, times[place])?;
+    for (place, &value) in times.iter().enumerate() {
+        check_time(table, train, place as u32, value)?;
     }
     Ok(())
 }
@@ -115,7 +122,7 @@ fn check_values(number: usize, table: &Table, times: &[TrainTimes]) -> Result<()
     ensures { result_err result ≡ first_below (trains table.now) (λ i. bad_times number i (slice_index_or times.now i [])) }
 {
     for train in 0..trains_of(table) {
-        last_of(table, train);
+        let _last = last_of(table, train);
         check_train(number, train, times[train as usize].as_slice())?;
     }
     Ok(())
@@ -123,7 +130,11 @@ fn check_values(number: usize, table: &Table, times: &[TrainTimes]) -> Result<()
 
 /// Refuses another number of lists than trains, then the first train without one time per step, then the first
 /// time that isn't 1 to 1,000.
-pub fn check_times(number: usize, table: &Table, times: &[TrainTimes]) -> Result<(), DocRefused>
+pub(crate) fn check_times(
+    number: usize,
+    table: &Table,
+    times: &[TrainTimes],
+) -> Result<(), DocRefused>
     ensures { result_err result ≡ times_refusal number table.now times.now }
 {
     check_lists(number, table, times)?;
@@ -132,7 +143,7 @@ pub fn check_times(number: usize, table: &Table, times: &[TrainTimes]) -> Result
 }
 
 /// Refuses another number of positions than trains, and a start that is illegal.
-pub fn check_start(table: &Table, start: &State) -> Result<(), DocRefused>
+pub(crate) fn check_start(table: &Table, start: &State) -> Result<(), DocRefused>
     ensures refusal { result_err result ≡ start_refusal table.now start.now }
     ensures legal { OnOk result (Legal table.now start.now) }
 {

@@ -8,7 +8,7 @@ use std::marker::Model;
 
 // A table without its travel times.
 #[derive(Drop)]
-pub struct Untimed {
+pub(crate) struct Untimed {
     table: Table,
     after: u32,
     nodes: Vec<Node>,
@@ -23,7 +23,7 @@ impl Model for Untimed {
 }
 
 impl Untimed {
-    pub fn new(table: Table, after: u32, nodes: Vec<Node>) -> Self
+    pub(crate) fn new(table: Table, after: u32, nodes: Vec<Node>) -> Self
         ensures { result ≡ record { table = table; after = after; nodes = nodes.items } }
     {
         Untimed {
@@ -33,19 +33,19 @@ impl Untimed {
         }
     }
 
-    pub fn table(&self) -> &Table
+    pub(crate) fn table(&self) -> &Table
         ensures { result.now ≡ self.now.table }
     {
         &self.table
     }
 
-    pub fn after(&self) -> u32
+    pub(crate) fn after(&self) -> u32
         ensures { result ≡ self.now.after }
     {
         self.after
     }
 
-    pub fn nodes(&self) -> &[Node]
+    pub(crate) fn nodes(&self) -> &[Node]
         ensures { result.now ≡ self.now.nodes }
     {
         &self.nodes

@@ -156,7 +156,7 @@ fn times(alloc: Global, times: &[TrainTimes]) -> Result<Vec<TrainTimes>, AllocEr
 }
 
 /// The members of a table of the document, with this table and these nodes in place of its own.
-pub fn table_with(
+pub(crate) fn table_with(
     alloc: Global,
     version: u32,
     doc: &Doc,
@@ -204,7 +204,7 @@ fn own_tables(alloc: Global, version: u32, doc: &Doc) -> Result<Vec<TableMembers
 }
 
 /// The members of the document, with this version and these tables in place of its own.
-pub fn members_with(
+pub(crate) fn members_with(
     alloc: Global,
     version: u32,
     doc: &Doc,
@@ -226,7 +226,7 @@ pub fn members_with(
 }
 
 /// The members of the document in a version.
-pub fn members_in(alloc: Global, version: u32, doc: &Doc) -> Result<DocMembers, AllocError>
+pub(crate) fn members_in(alloc: Global, version: u32, doc: &Doc) -> Result<DocMembers, AllocError>
     ensures { IfOk result (λ m. seen_document m ≡ members_in (in_version version doc.now)) }
 {
     let tables = own_tables(alloc, version, doc)?;

@@ -81,7 +81,7 @@ fn legal_start(table: &Table, positions: Vec<u32>) -> Result<State, DocRefused>
 }
 
 /// The document of these members.
-pub fn checked(alloc: Global, members: DocMembers) -> Result<Doc, DocRefused>
+pub(crate) fn checked(alloc: Global, members: DocMembers) -> Result<Doc, DocRefused>
     requires { IsRead (seen_document members) }
     ensures { Answers DocRefused.Memory (λ d. d) result (doc_from (seen_document members)) }
 {

@@ -28,7 +28,10 @@ impl<T: Drop> From<AllocFailed<T>> for TreeRefused {
     }
 }
 
-/// The tree of each table, in order; or the first table whose nodes spell none, and why.
+/// The tree of each table, in order.
+///
+/// # Errors
+/// Want of memory, or the first table whose nodes spell no tree, and why.
 pub fn certificates(alloc: Global, doc: &Doc) -> Result<Vec<Cert>, TreeRefused>
     ensures ok { IfOk result (λ certs. AreTrees doc.now certs.items) }
 
@@ -36,10 +39,7 @@ pub fn certificates(alloc: Global, doc: &Doc) -> Result<Vec<Cert>, TreeRefused>
 {
     let mut certs = Vec::new(alloc);
     for table in 0..tables_of(doc) {
-        match certificate_of(alloc, doc, table) {
-            Ok(cert) => certs.push(cert)?,
-            Err(refused) => return Err(refused),
-        }
+        certs.push(certificate_of(alloc, doc, table)?)?;
     }
     Ok(certs)
 }
@@ -54,17 +54,6 @@ fn certificate_of(alloc: Global, doc: &Doc, table: u32) -> Result<Cert, TreeRefu
     match tree(alloc, nodes_of(doc, table)) {
         Ok(cert) => Ok(cert),
         Err(CertRefused::Memory) => Err(TreeRefused::Memory),
-        Err(CertRefused::TooMany { count }) => Err(TreeRefused::Tree {
-            table,
-            refused: CertRefused::TooMany { count },
-        }),
-        Err(CertRefused::Short { missing }) => Err(TreeRefused::Tree {
-            table,
-            refused: CertRefused::Short { missing },
-        }),
-        Err(CertRefused::Over { used }) => Err(TreeRefused::Tree {
-            table,
-            refused: CertRefused::Over { used },
-        }),
+        Err(refused) => Err(TreeRefused::Tree { table, refused }),
     }
 }

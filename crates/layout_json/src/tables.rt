@@ -46,9 +46,7 @@ fn made_missions(
         (missions_from layout.now (length trains.now) (ways_seen lists.items)
         (exits_or_none (length trains.now) (option_map (λ e. e.items) exits)))) }
 {
-    let Ok(exits) = exits_or(alloc, trains.len(), exits) else {
-        return Err(DocRefused::Memory);
-    };
+    let exits = exits_or(alloc, trains.len(), exits)?;
     match missions(alloc, layout, trains, lists, exits) {
         Ok(missions) => Ok(missions),
         Err(MissionRefused::Memory) => Err(DocRefused::Memory),
@@ -96,9 +94,7 @@ fn made_sections(
         (refused_as (DocRefused.Marks number)
         (table_from (marks_of version) missions (unwrap_or (option_map (λ v. map seen_section v.items) members) []))) }
 {
-    let Ok(pairs) = section_pairs(alloc, members.unwrap_or(Vec::new(alloc))) else {
-        return Err(DocRefused::Memory);
-    };
+    let pairs = section_pairs(alloc, members.unwrap_or(Vec::new(alloc)))?;
     match sections(alloc, missions, pairs, marks(version)) {
         Ok(table) => Ok(table),
         Err(MarkRefused::Memory) => Err(DocRefused::Memory),
@@ -143,10 +139,7 @@ fn travel_times(
 {
     let times = match times {
         Some(times) => times,
-        None => match ones(alloc, table) {
-            Ok(times) => times,
-            Err(_) => return Err(DocRefused::Memory),
-        },
+        None => ones(alloc, table)?,
     };
     check_times(number, table, &times)?;
     Ok(TableTimes::from(times))
@@ -199,12 +192,12 @@ fn made_table(
     let table = made_connections(alloc, number, table, connections)?;
     let times = travel_times(alloc, number, &table, times)?;
     let nodes = certificate.unwrap_or(Vec::new(alloc));
-    trains_of(&table);
+    let _trains = trains_of(&table);
     Ok((Untimed::new(table, after, nodes), times))
 }
 
 /// The tables of a document, table by table, and their travel times.
-pub fn made_tables(
+pub(crate) fn made_tables(
     alloc: Global,
     version: u32,
     layout: &Layout,
