@@ -14,6 +14,7 @@ use std::alloc::Global;
 /// What the words after the program's name ask for.
 ///
 /// # Errors
+///
 /// `Words` exactly where the definition refuses them, unless there was no memory to read them: then the answer is
 /// `Memory`, whatever they are.
 pub fn words(alloc: Global, words: &[String]) -> Result<Order, WordsRefused>

@@ -104,6 +104,7 @@ fn document(alloc: Global, count: u32, pairs: &[Pair]) -> Result<DocMembers, All
 /// one table, due after 0 moves, whose certificate is empty.
 ///
 /// # Errors
+///
 /// Want of memory.
 pub fn generate(alloc: Global, seed: u32, trains: u32) -> Result<Vec<u8>, AllocError>
     requires { trains ≤ 32 }

@@ -152,6 +152,7 @@ fn read_members(alloc: Global, value: &Value) -> Result<DocMembers, ShapeRefused
 /// The members of the document that the bytes are.
 ///
 /// # Errors
+///
 /// Want of memory, or the first refusal: the bytes are no JSON, no object; the version has another shape or is not
 /// known; a member is missing or has another shape, in the order of [`DocMembers`] and, table by table, of
 /// [`TableMembers`].

@@ -106,6 +106,7 @@ pub(crate) fn checked(alloc: Global, members: DocMembers) -> Result<Doc, DocRefu
 /// The document that the bytes are.
 ///
 /// # Errors
+///
 /// The first thing wrong with it, in the order of [`DocRefused`]; want of memory likewise.
 pub fn document(alloc: Global, bytes: &[u8]) -> Result<Doc, DocRefused>
     ensures { Answers DocRefused.Memory (λ d. d) result (doc_of bytes.now) }

@@ -31,6 +31,7 @@ impl<T: Drop> From<AllocFailed<T>> for TreeRefused {
 /// The tree of each table, in order.
 ///
 /// # Errors
+///
 /// Want of memory, or the first table whose nodes spell no tree, and why.
 pub fn certificates(alloc: Global, doc: &Doc) -> Result<Vec<Cert>, TreeRefused>
     ensures ok { IfOk result (λ certs. AreTrees doc.now certs.items) }
