@@ -1,8 +1,7 @@
 -- How what a sink took adds up over several writes.
-use Rattle.std.proofs.Common.{ℕ, List, [], ◌++◌, length, None, Some, sym, ap, subst, ◌∙◌, append_assoc}
-use Rattle.std.proofs.Math.Seq.{take-length}
+use Rattle.std.proofs.Common.{ℕ, List, ◌++◌, None, Some, ap, ◌∙◌, append_assoc}
 use Rattle.std.specs.Prelude.{Option}
-use Rattle.ats_io.specs.Bytes.{Adds, AddsPrefix}
+use Rattle.ats_io.specs.Bytes.{Adds}
 
 -- what was taken first, and then what was taken next
 pub adds_both : (a b c : Option (List ℕ)) (first next : List ℕ) → Adds a b first → Adds b c next → Adds a c (first ++ next)

@@ -1,8 +1,8 @@
 -- How what was taken from a source adds up over several reads.
 use Rattle.std.proofs.Common.{ℕ, ◌+◌, ◌≤◌, List, ◌++◌, length, take, arith, length-append}
 use Rattle.std.specs.Prelude.{Option}
-use Rattle.std.specs.Io.KnownBytes.{Consumes, Keeps}
-use Rattle.std.proofs.KnownBytes.{Consumes-trans, Consumes-kept}
+use Rattle.std.specs.Io.KnownBytes.{Consumes}
+use Rattle.std.proofs.KnownBytes.{Consumes-trans}
 use Rattle.std.proofs.lemmas.List.{length-take}
 use Rattle.ats_io.specs.Bytes.{ConsumesAtMost}
 

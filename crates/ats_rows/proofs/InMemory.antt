@@ -1,5 +1,5 @@
 -- What the clauses of the top call come to where its devices are in memory.
-use Rattle.std.proofs.Common.{◌≡◌, ℕ, List, [], ◌++◌, take, Option, None, Some, Ok, sym, ap, ◌∙◌, subst, arith}
+use Rattle.std.proofs.Common.{◌≡◌, ℕ, List, [], ◌++◌, take, Option, Some, Ok, sym, ap, ◌∙◌, subst, arith}
 use Rattle.ats_io.specs.Bytes.{Adds, AddsPrefix}
 use Rattle.ats_io.specs.Faults.{Rose}
 use Rattle.command_words.specs.declared.orders.Order.{Order}

@@ -1,23 +1,21 @@
 -- From what was read and written to the cause of a call's end.
-use Rattle.std.proofs.Common.{◌≡◌, ◌⊎◌, ℕ, List, [], Option, None, Some, refl, sym, subst, inl, inr}
-use Rattle.std.proofs.lemmas.List.{append-nil}
+use Rattle.std.proofs.Common.{◌≡◌, ◌⊎◌, ℕ, List, Some, refl, sym, subst, inl, inr}
 use Rattle.std.specs.Prelude.{Err}
-use Rattle.ats_io.specs.Bytes.{Adds}
 use Rattle.command_words.specs.declared.orders.Order.{Order}
 use Rattle.command_words.specs.declared.orders.Order.TheVariants.{Run, Resume, Check, Verify, Migrate, Make, Derive, Repair, Simulate, Generate, Drill}
 use Rattle.layout_json.specs.Doc.{Doc, table_at}
 use Rattle.ats_run.specs.declared.failure.Failure.{Failure}
 use Rattle.ats_run.specs.declared.failure.Failure.TheVariants as failure
-use Rattle.ats_run.specs.Causes.{Call, IsRead, IsCause, IsUnread, IsUnwritten}
+use Rattle.ats_run.specs.Causes.{Call, IsRead, IsCause, IsUnwritten}
 use Rattle.ats_run.specs.Command.{Comes, IsUnchecked, IsUnverifiedInput, IsUnresumedInput, IsNoDoc, IsUnmadeInput, IsUnderivedInput}
 use Rattle.ats_run.specs.Deriving.{derived, HasTooManyRings}
 use Rattle.document_generator.specs.Generated.{generated}
 use Rattle.ats_run.specs.Generating.{full_budget}
 use Rattle.ats_run.specs.Making.{MakesNone, tables_in, table_in}
-use Rattle.ats_run.specs.Orders.{Reads, OnInput}
+use Rattle.ats_run.specs.Orders.{OnInput}
 use Rattle.ats_run.specs.Repairing.{RepairsNone, IsUnrepaired}
 use Rattle.ats_run.specs.Starting.{IsBadStart}
-use Rattle.ats_run.proofs.Reading.{of_bytes, on_input}
+use Rattle.ats_run.proofs.Reading.{of_bytes}
 
 -- a failure of words or devices
 abbrev IsOutside : Failure → Type 0

@@ -1,17 +1,13 @@
 -- Tables with the sections of their rings.
-use Rattle.std.proofs.Common.{◌≡◌, ℕ, ◌+◌, ◌<◌, ◌≤◌, List, [], ◌∷◌, ◌++◌, length, map, take, get_or, slice_get, All, Option, Some, None, sym, ◌∙◌, ap, subst, arith}
-use Rattle.std.specs.Prelude.{pos, ◌≤ℤ◌, Ok}
-use Rattle.std.proofs.lemmas.Int.{ints}
+use Rattle.std.proofs.Common.{◌≡◌, ℕ, ◌+◌, ◌<◌, ◌≤◌, List, [], ◌∷◌, ◌++◌, length, map, take, get_or, slice_get, All, Some, sym, ◌∙◌, ap, subst, arith}
+use Rattle.std.specs.Prelude.{◌≤ℤ◌, Ok}
 use Rattle.std.proofs.lemmas.List.{get_or-map, length-map, take_more}
-use Rattle.std.proofs.lemmas.Option.{slice_get-get_or}
 use Rattle.rail_model.specs.Table.{Table, Mission, Section, Connection, IsTable, IsConnection}
 use Rattle.rail_model.specs.State.{Legal}
 use Rattle.rail_model.specs.Certificate.{Tree}
 use Rattle.rail_model.proofs.Tables.{with_connections}
-use Rattle.forbidden_states.specs.Forbid.{Stay, AreStays, stay_of, forbidding, marked}
-use Rattle.forbidden_states.proofs.Over.{hit-le}
-use Rattle.forbidden_states.proofs.Shares.{hit_of, section-at, share-marked}
-use Rattle.forbidden_states.proofs.Tables.{is_table, stays-le}
+use Rattle.forbidden_states.specs.Forbid.{Stay, AreStays, forbidding, marked}
+use Rattle.forbidden_states.proofs.Tables.{is_table}
 use Rattle.ring_sections.specs.Ring.{Pair, rings}
 use Rattle.ring_sections.specs.Marking.{stays, ring_table}
 use Rattle.ring_sections.proofs.Excluded.{rings-stays}

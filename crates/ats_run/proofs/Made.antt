@@ -1,5 +1,5 @@
 -- Tables for which certificates are made one after another.
-use Rattle.std.proofs.Common.{◌≡◌, ◌⊎◌, ℕ, ◌+◌, ◌<◌, ◌≤◌, List, [], ◌∷◌, ◌++◌, length, map, refl, sym, ◌∙◌, ap, subst, arith, inl, inr}
+use Rattle.std.proofs.Common.{◌≡◌, ◌⊎◌, ℕ, ◌+◌, ◌<◌, ◌≤◌, List, [], ◌∷◌, ◌++◌, length, map, sym, ◌∙◌, ap, subst, arith, inl, inr}
 use Rattle.std.proofs.lemmas.Bool.{cases_eq}
 use Rattle.std.proofs.lemmas.List.{get_or-map, length-map, map-append, get_or_append_left, length-append}
 use Rattle.std.proofs.Math.Seq.{get_or-append_seam}
@@ -11,7 +11,7 @@ use Rattle.layout_json.specs.Doc.{Doc, table_at}
 use Rattle.layout_json.specs.Trees.{tree_at}
 use Rattle.ats_run.specs.declared.failure.Failure.{Failure}
 use Rattle.ats_run.specs.declared.failure.Failure.TheVariants.{Memory as NoMemory}
-use Rattle.ats_run.specs.Making.{tables_in, table_in, AreMade, MakesNone, IsUnmade}
+use Rattle.ats_run.specs.Making.{tables_in, table_in, MakesNone, IsUnmade}
 
 pub table_count : (D : Doc) → length (tables_in D) ≡ length D.tables
 table_count D = length-map D.tables (λ t. t.table)

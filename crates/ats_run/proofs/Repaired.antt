@@ -1,6 +1,6 @@
 -- Tables that are repaired one after another, and what their document is.
 use Rattle.std.specs.Prelude.{Result, Ok, Err, IfErr, IsErrAnd}
-use Rattle.std.proofs.Common.{◌≡◌, ◌⊎◌, ℕ, ◌+◌, ◌<◌, ◌≤◌, List, [], ◌∷◌, ◌++◌, All, length, refl, sym, ◌∙◌, ap, subst, arith, inl, inr}
+use Rattle.std.proofs.Common.{◌≡◌, ◌⊎◌, ℕ, ◌+◌, ◌<◌, ◌≤◌, List, [], ◌∷◌, ◌++◌, All, length, sym, ◌∙◌, ap, subst, arith, inl, inr}
 use Rattle.std.proofs.lemmas.Bool.{cases_eq}
 use Rattle.std.proofs.lemmas.List.{get_or_append_left, length-append}
 use Rattle.std.proofs.Math.Seq.{get_or-append_seam}
@@ -22,11 +22,11 @@ use Rattle.layout_json.specs.Replaced.{replaced, IsLight, IsRemarked}
 use Rattle.layout_json.specs.Written.{written}
 use Rattle.layout_json.proofs.Remade.{remarked-is-taken}
 use Rattle.ats_run.specs.Making.{part_in}
-use Rattle.ats_run.specs.Repairing.{IsRepairedAs, EndsRepair, AreRepaired, IsUnconnected, IsRepaired, HasConnection, IsRefusedStart, IsUnrepaired}
+use Rattle.ats_run.specs.Repairing.{IsRepairedAs, EndsRepair, AreRepaired, IsUnconnected, IsRepaired, IsRefusedStart, IsUnrepaired}
 use Rattle.ats_run.specs.Command.{IsUnrepairedInput}
 use Rattle.ats_run.specs.Starting.{IsBadStart}
 use Rattle.ats_run.specs.declared.failure.Failure.{Failure}
-use Rattle.ats_run.specs.declared.failure.Failure.TheVariants.{Connected, Memory}
+use Rattle.ats_run.specs.declared.failure.Failure.TheVariants.{Memory}
 use Rattle.ats_run.proofs.AcceptedText.{repaired_text}
 use Rattle.ats_run.proofs.LightMarked.{light}
 use Rattle.ats_run.proofs.Offered.{offer_count}

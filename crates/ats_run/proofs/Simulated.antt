@@ -7,7 +7,7 @@ use Rattle.rail_model.specs.Certificate.{Tree}
 use Rattle.rail_model.specs.Table.{Table, trains}
 use Rattle.rail_model.specs.Times.{AreTimes}
 use Rattle.rail_model.specs.Names.{Names}
-use Rattle.rail_model.specs.Yard.{Offer, Yard, opening, in_force}
+use Rattle.rail_model.specs.Yard.{Yard, opening, in_force}
 use Rattle.rail_model.specs.Journal.{IsRight, IsDone, after_lines, words}
 use Rattle.plain_yard.specs.Keeps.{Keeps}
 use Rattle.plain_yard.proofs.Keeping.{whole}

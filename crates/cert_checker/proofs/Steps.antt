@@ -4,15 +4,10 @@ use Rattle.std.specs.Prelude.{slice_set}
 use Rattle.std.proofs.lemmas.List.{reverse-append, set-set, set-get_or}
 use Rattle.rail_model.specs.Certificate.{Range, range, left_half, right_half}
 use Rattle.cert_checker.specs.declared.walk.Step.{Step}
-use Rattle.cert_checker.specs.Walked.{shown, waiting}
+use Rattle.cert_checker.specs.Walked.{waiting}
 
 pub reverse_step : (steps : List Step) (step : Step) → reverse (steps ++ step ∷ []) ≡ step ∷ reverse steps
 reverse_step steps step = reverse-append steps (step ∷ [])
-
--- the step that was made last on is the first to be made
-pub made : (B : List Range) (items rest : List Step) (step : Step) → items ≡ rest ++ step ∷ []
-    → waiting B (reverse items) ≡ shown step.visit (slice_set B step.train step.span) (waiting (slice_set B step.train step.span) (reverse rest))
-made B items rest step e = ap (λ (steps : List Step). waiting B (reverse steps)) e ∙ ap (waiting B) (reverse_step rest step)
 
 pub planned : (B : List Range) (i m : ℕ) (old : List Step) (whole right left : Step)
     → whole ≡ record { train = i; span = range B i; visit = false }

@@ -1,8 +1,8 @@
 -- The walk from the first node of a tree on: what is behind is good, and the open boxes are ahead.
-use Rattle.std.proofs.Common.{◌≡◌, ℕ, ◌+◌, ◌≤◌, List, [], ◌∷◌, ◌++◌, Bool, false, length, reverse, drop, refl, sym, ◌∙◌, ap, subst, arith, append_assoc, length-append}
+use Rattle.std.proofs.Common.{◌≡◌, ℕ, ◌+◌, ◌≤◌, List, [], ◌∷◌, ◌++◌, Bool, false, length, reverse, drop, sym, ◌∙◌, ap, subst, arith, append_assoc, length-append}
 use Rattle.std.specs.Prelude.{All}
-use Rattle.std.proofs.lemmas.List.{append-nil, drop_all}
-use Rattle.std.proofs.lemmas.List.Elements.{All-nil, All-push}
+use Rattle.std.proofs.lemmas.List.{append-nil}
+use Rattle.std.proofs.lemmas.List.Elements.{All-push}
 use Rattle.rail_model.specs.declared.types.Node.{Node}
 use Rattle.rail_model.specs.declared.types.Bad.{Bad}
 use Rattle.rail_model.specs.Table.{Table}
@@ -19,9 +19,6 @@ pub record Visiting (T : Table) (nodes : List Node) (first index : ℕ) (B : Lis
   pub behind : first + length front ≡ index
   pub visited : walked (B ∷ []) (drop first nodes) ≡ front ++ walked boxes (drop index nodes)
   pub good : All (λ v. IsGood T v.0 v.1) front
-
-pub start : (T : Table) (nodes : List Node) (first : ℕ) (B : List Range) → Visiting T nodes first first B (B ∷ [])
-start T nodes first B = record { front = []; behind = omega arith; visited = refl; good = All-nil (IsGoodVisit T) }
 
 next : (T : Table) (nodes : List Node) (first index : ℕ) (B C : List Range) (Cs : List (List Range)) (n : Node) (later : List Node) (v : Visiting T nodes first index B (C ∷ Cs))
     → drop index nodes ≡ n ∷ later → walked (B ∷ []) (drop first nodes) ≡ v.front ++ ((C, n) ∷ walked (opened C n Cs) later)
@@ -51,19 +48,9 @@ stopped T nodes first index B C Cs n e v here refused at = record {
   refused = refused;
 }
 
-walked_nil : (boxes : List (List Range)) → walked boxes [] ≡ []
-walked_nil [] = refl
-walked_nil (B ∷ Bs) = refl
-
 all_front : (T : Table) (visits front rest : List Visit) → visits ≡ front ++ rest → rest ≡ [] → All (λ v. IsGood T v.0 v.1) front → All (λ v. IsGood T v.0 v.1) visits
 all_front T visits front rest e none good =
     subst (λ (vs : List Visit). All (λ v. IsGood T v.0 v.1) vs) (sym (e ∙ ap (λ (vs : List Visit). front ++ vs) none ∙ append-nil front)) good
-
--- when all nodes are behind, all are good
-pub ended : (T : Table) (nodes : List Node) (first index : ℕ) (B : List Range) (boxes : List (List Range)) → Visiting T nodes first index B boxes → length nodes ≤ index
-    → All (λ v. IsGood T v.0 v.1) (walked (B ∷ []) (drop first nodes))
-ended T nodes first index B boxes v all =
-    all_front T _ v.front _ v.visited (ap (walked boxes) (drop_all index nodes all) ∙ walked_nil boxes) v.good
 
 -- when no box is open, all nodes of the tree are good
 pub closed : (T : Table) (nodes : List Node) (first index : ℕ) (B : List Range) (boxes : List (List Range)) → Visiting T nodes first index B boxes → boxes ≡ []

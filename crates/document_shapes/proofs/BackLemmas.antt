@@ -1,5 +1,5 @@
 -- What is written reads back, shape by shape.
-use Rattle.std.proofs.Common.{◌≡◌, ℕ, ◌+◌, ◌-◌, ◌<◌, ◌^◌, ℤ, pos, negsuc, List, [], ◌∷◌, map, All, Some, max, arith, Vec, Global}
+use Rattle.std.proofs.Common.{◌≡◌, ℕ, ◌+◌, ◌-◌, ◌<◌, ◌^◌, ℤ, pos, negsuc, List, [], ◌∷◌, map, All, Some, arith, Vec, Global}
 use Rattle.std.specs.Prelude.{neg_ℤ, ◌≤ℤ◌}
 use Rattle.std.specs.List.{AllZip}
 use Rattle.std.proofs.lemmas.Bool.Decides.{nat_tests}
@@ -8,10 +8,10 @@ use Rattle.std.proofs.lemmas.List.Elements.{All-head, All-tail}
 use Rattle.serde_json.specs.Data.{Data}
 use Rattle.serde_json.specs.View.{items_of}
 use Rattle.document_shapes.specs.Shape.{whole, change}
-use Rattle.document_shapes.specs.Readings.{elements, ReadsList, ReadsPair}
+use Rattle.document_shapes.specs.Readings.{elements, ReadsList}
 use Rattle.document_shapes.specs.ReadsBack.{ReadsBack}
-use Rattle.document_shapes.specs.Written.{whole_data, change_data, list_data, pair_data}
-use Rattle.document_shapes.proofs.PlainLemmas.{pos-small, plain-whole, plain-change, plain-list, plain-pair}
+use Rattle.document_shapes.specs.Written.{whole_data, change_data, list_data}
+use Rattle.document_shapes.proofs.PlainLemmas.{pos-small, plain-whole, plain-change, plain-list}
 
 pub whole-back : (n : ℕ) → n < 2 ^ 32 → whole (whole_data n) ≡ Some n
 whole-back n small = grind (arith, nat_tests)
@@ -38,8 +38,3 @@ module _ {X : Type 0} (put : X → Data) (levels : ℕ) (R : Data → X → Type
     plain = plain-list levels put v.items (λ k d lt. (h k d lt).plain);
     back = items-back v.items h;
   }
-
--- a pair whose parts read back
-pub pair-back : {X Y : Type 0} (a : X → Data) (j : ℕ) (R : Data → X → Type 0) (b : Y → Data) (k : ℕ) (S : Data → Y → Type 0) (p : X × Y)
-    → ReadsBack a j R p.0 → ReadsBack b k S p.1 → ReadsBack (pair_data a b) (max j k + 1) (ReadsPair R S) p
-pair-back a j R b k S p first second = record { plain = plain-pair j k a b p first.plain second.plain; back = (first.back, second.back) }

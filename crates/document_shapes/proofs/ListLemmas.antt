@@ -4,7 +4,7 @@ use Rattle.std.specs.Prelude.{⊤, IsSomeAnd, MatchOption, IfOk, IsErrAnd, Resul
 use Rattle.std.specs.declared.alloc.Global.{Global}
 use Rattle.serde_json.specs.Find.{as_array}
 use Rattle.std.specs.List.{AllZip}
-use Rattle.std.proofs.lemmas.List.{take_more, map-append, take_all}
+use Rattle.std.proofs.lemmas.List.{take_more, map-append}
 use Rattle.serde_json.specs.Data.{Data}
 use Rattle.serde_json.specs.View.{view, items_view}
 use Rattle.serde_json.specs.declared.value.Value.{Value}
@@ -35,9 +35,6 @@ read_push R vs old new i v x lt item reads added h =
     let front : map view (take (i + 1) vs) ≡ map view (take i vs) ++ view v ∷ [] =
     ap (map view) (take_more vs i v lt) ∙ map-append view (take i vs) (get_or vs i v ∷ []) ∙ ap (λ w. map view (take i vs) ++ view w ∷ []) (sym item) in
     record { each = rw (front, added) (allzip_push R _ old (view v) x h.each reads) }
-
-pub read_whole : {X : Type 0} (R : Data → X → Type 0) (vs : List Value) (xs : List X) (i : ℕ) → length vs ≤ i → ReadTo R vs xs i → AllZip R (map view vs) xs
-read_whole R vs xs i past h = subst (λ ws. AllZip R (map view ws) xs) (take_all i vs past) h.each
 
 misfit_at : (M : Data → Type 0) (vs : List Value) (i : ℕ) (v : Value) → i < length vs → M (view (get_or vs i v)) → SomeMisfits M (map view vs)
 misfit_at M [] i v lt m = absurd (omega arith)

@@ -1,7 +1,7 @@
 -- The values of a list, made in turn.
-use Rattle.std.proofs.Common.{◌≡◌, ℕ, ◌+◌, ◌<◌, ◌≤◌, List, [], ◌∷◌, ◌++◌, length, take, get_or, map, All, refl, sym, ap, ap₂, ◌∙◌, subst}
-use Rattle.std.proofs.lemmas.List.{take_more, map-append, take_all}
-use Rattle.std.proofs.lemmas.List.Elements.{All-nil, All-more}
+use Rattle.std.proofs.Common.{◌≡◌, ℕ, ◌+◌, ◌<◌, ◌≤◌, List, [], ◌∷◌, ◌++◌, length, take, get_or, map, All, sym, ap, ap₂, ◌∙◌, subst}
+use Rattle.std.proofs.lemmas.List.{take_more, map-append}
+use Rattle.std.proofs.lemmas.List.Elements.{All-more}
 use Rattle.serde_json.specs.Data.{Data}
 use Rattle.serde_json.specs.View.{view}
 use Rattle.serde_json.specs.declared.value.Value.{Value}
@@ -13,9 +13,6 @@ pub record WrittenTo {X : Type 0} (put : X → Data) (levels : ℕ) (R : Data �
   pub back : All (ReadsBack put levels R) (take i xs)
 
 module _ {X : Type 0} (put : X → Data) (levels : ℕ) (R : Data → X → Type 0) (xs : List X) where
-  pub write_none : WrittenTo put levels R xs [] 0
-  write_none = record { values = refl; back = All-nil (ReadsBack put levels R) }
-
   pub write_push : (old new : List Value) (i : ℕ) (x : X) (v : Value) → i < length xs → x ≡ get_or xs i x → view v ≡ put x → ReadsBack put levels R x → new ≡ old ++ v ∷ []
       → WrittenTo put levels R xs old i → WrittenTo put levels R xs new (i + 1)
   write_push old new i x v lt item value back added h = record {
@@ -24,8 +21,3 @@ module _ {X : Type 0} (put : X → Data) (levels : ℕ) (R : Data → X → Type
         ∙ sym (ap (map put) (take_more xs i x lt) ∙ map-append put (take i xs) (get_or xs i x ∷ []));
     back = All-more (ReadsBack put levels R) xs i x lt h.back (subst (ReadsBack put levels R) item back);
   }
-
-  pub write_whole : (vs : List Value) (i : ℕ) → length xs ≤ i → WrittenTo put levels R xs vs i → (map view vs ≡ map put xs) × All (ReadsBack put levels R) xs
-  write_whole vs i past h =
-      let all = take_all i xs past in
-      (h.values ∙ ap (map put) all, subst (All (ReadsBack put levels R)) all h.back)

@@ -1,5 +1,5 @@
 -- What is written is plain, shape by shape.
-use Rattle.std.proofs.Common.{◌≡◌, ℕ, ◌+◌, ◌<◌, ◌≤◌, ◌-◌, ◌^◌, ℤ, pos, negsuc, Bool, false, ◌||◌, List, [], ◌∷◌, map, All, max, refl, arith}
+use Rattle.std.proofs.Common.{◌≡◌, ℕ, ◌+◌, ◌<◌, ◌≤◌, ◌-◌, ◌^◌, ℤ, pos, negsuc, Bool, false, ◌||◌, List, [], ◌∷◌, map, All, refl, arith}
 use Rattle.std.specs.Prelude.{neg_ℤ, ◌≤ℤ◌}
 use Rattle.std.proofs.lemmas.Int.{ints}
 use Rattle.std.proofs.lemmas.List.Elements.{All-head, All-tail}
@@ -9,7 +9,7 @@ use Rattle.serde_json.specs.Data.{Data, array, object, Items, no_items, item, Me
 use Rattle.serde_json.specs.View.{items_of}
 use Rattle.serde_json.specs.Written.{items_outline, members_outline, has_float, items_have_float, members_have_float}
 use Rattle.document_shapes.specs.ReadsBack.{IsPlain}
-use Rattle.document_shapes.specs.Written.{whole_data, change_data, pair_data, list_data}
+use Rattle.document_shapes.specs.Written.{whole_data, change_data, list_data}
 
 pub plain-whole : (n : ℕ) → n < 2 ^ 32 → IsPlain 0 (whole_data n)
 plain-whole n small = record { numbers = IsNumber-decimal n (omega arith); whole = refl; deep = omega arith }
@@ -75,9 +75,3 @@ items-plain k put (x ∷ xs) h =
 
 pub plain-list : {A : Type 0} (k : ℕ) (put : A → Data) (xs : List A) → All (λ x. IsPlain k (put x)) xs → IsPlain (k + 1) (list_data put xs)
 plain-list k put xs h = plain-array k (items_of (map put xs)) (items-plain k put xs h)
-
-pub plain-pair : {A B : Type 0} (j k : ℕ) (a : A → Data) (b : B → Data) (p : A × B) → IsPlain j (a p.0) → IsPlain k (b p.1) → IsPlain (max j k + 1) (pair_data a b p)
-plain-pair j k a b p first second =
-    plain-array (max j k) _
-    (plain-item (max j k) (a p.0) _ (plain-within j (max j k) (a p.0) (omega arith) first)
-    (plain-item (max j k) (b p.1) _ (plain-within k (max j k) (b p.1) (omega arith) second) (plain-no_items (max j k))))

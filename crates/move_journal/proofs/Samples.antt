@@ -1,10 +1,8 @@
 -- The first path, on which the worked rows and the tests stand: T0 goes from A over B to C.
 use Rattle.std.proofs.Common.{◌≡◌, ℕ, zero, suc, ◌+◌, ◌<◌, ◌≤◌, [], ◌∷◌, get_or, false, refl, ap, codes, lit<, lit≤, arith, inl, inr}
 use Rattle.std.proofs.lemmas.List.Elements.{All-nil, All-cons}
-use Rattle.rail_model.specs.Table.{Table, IsTable, IsMission, mission, trains}
+use Rattle.rail_model.specs.Table.{Table, trains}
 use Rattle.rail_model.specs.Names.{Names, IsNames, IsName, IsNameByte, AreNames}
-use Rattle.rail_model.specs.Yard.{Offer, offer}
-use Rattle.table_exchange.specs.Tables.{AreTables}
 
 abbrev pub names : Names
 names = record { points = codes "A" ∷ codes "B" ∷ codes "C" ∷ []; trains = codes "T0" ∷ [] }
@@ -47,25 +45,3 @@ trains_are_names = record { each = each; apart = λ i j a b e. omega arith }
 
 pub are_names : IsNames names
 are_names = record { few_points = lit≤ tt; few_trains = lit≤ tt; points = points_are_names; trains = trains_are_names }
-
-pub is_table : IsTable path
-is_table = record {
-  few_trains = lit≤ tt;
-  missions = missions;
-  few_sections = lit≤ tt;
-  sections = λ s h. absurd (omega (arith, h));
-  few_connections = lit≤ tt;
-  connections = λ c k e. absurd cc;
-}
-  where
-    missions : (i : ℕ) → i < 1 → IsMission (mission path i)
-    missions zero h = record { some_point = lit≤ tt; few_places = lit≤ tt }
-    missions (suc i) h = absurd (omega arith)
-
-pub two_tables : (a b : Offer) → trains a.table ≡ 1 → trains b.table ≡ 1 → AreTables (a ∷ b ∷ [])
-two_tables a b one also = record { some = lit< tt; few = lit≤ tt; same = same }
-  where
-    same : (t : ℕ) → t < 2 → trains (offer (a ∷ b ∷ []) t).table ≡ trains a.table
-    same zero h = refl
-    same (suc zero) h = omega arith
-    same (suc (suc t)) h = absurd (omega arith)

@@ -37,17 +37,6 @@ pub record Turn (tables : List Offer) (y0 : Yard) (b0 : ℕ) (ls0 : List Line) (
 pub same_trains : (tables : List Offer) (y z : Yard) → AreTables tables → Stands tables y → Stands tables z → trains (in_force tables y) ≡ trains (in_force tables z)
 same_trains tables y z are s t = are.same y.table s.in_range ∙ sym (are.same z.table t.in_range)
 
-pub begins : (tables : List Offer) (y0 y : Yard) (b : ℕ) (ls0 ls : List Line) → IsTable (in_force tables y) → (IsNextDue tables y → ⊥) → Reaches tables y0 b ls0 y b ls
-    → b ≡ trains (in_force tables y) - 1 → Turn tables y0 b ls0 y b 0 ls
-begins tables y0 y b ls0 ls formed not_due reaches is = record {
-  formed = formed;
-  reaches = reaches;
-  not_due = not_due;
-  in_round = λ some. omega arith;
-  few = omega arith;
-  skipped = λ k lt. absurd (omega arith);
-}
-
 pub declines : (tables : List Offer) (y0 y : Yard) (b0 before asked : ℕ) (ls0 ls : List Line) → asked < trains (in_force tables y) → Skips tables y before asked
     → Turn tables y0 b0 ls0 y before asked ls → Turn tables y0 b0 ls0 y before (asked + 1) ls
 declines tables y0 y b0 before asked ls0 ls more none t = record {
