@@ -14,6 +14,7 @@ pub mod Found
 pub mod Judged
 pub mod Live
 pub mod MoveTests
+pub mod MissionTests
 pub mod Moves
 pub mod NameTests
 pub mod Obstacles
@@ -23,6 +24,7 @@ pub mod RowsOfJournals
 pub mod RowsOfMoves
 pub mod RowsOfRefusals
 pub mod RowsOfTables
+pub mod RowsOfWays
 pub mod RowsOfYards
 pub mod Samples
 pub mod Shares
@@ -33,3 +35,4 @@ pub mod Told
 pub mod Tables
 pub mod TreeTests
 pub mod Visits
+pub mod Ways

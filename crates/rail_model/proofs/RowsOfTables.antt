@@ -6,13 +6,13 @@ use Rattle.std.proofs.lemmas.Bool.Decides.{Decides-not, Decides-and}
 use Rattle.rail_model.specs.Table.{Table, section as section_of, share, IsSection, IsConnection, last}
 use Rattle.rail_model.specs.Times.{AreTimes}
 use Rattle.rail_model.specs.Names.{AreNames}
-use Rattle.rail_model.specs.Layout.{Layout, Link, AreLinked, IsLayout, zone}
+use Rattle.rail_model.specs.Layout.{Link, AreLinked, IsLayout, zone}
 use Rattle.rail_model.specs.Naming.{IsFirstDouble}
 use Rattle.rail_model.specs.Checks.{below}
 use Rattle.rail_model.proofs.Agree.{Decides-all_below, Decides-int_lt}
 use Rattle.rail_model.proofs.Decide.{cases_≤ℤ}
 use Rattle.rail_model.proofs.NameTests.{are_names, first_double-some}
-use Rattle.rail_model.proofs.Samples.{beside, waiting, one_train}
+use Rattle.rail_model.proofs.Samples.{beside, waiting, one_train, two_points}
 
 -- whether numbers are 0 to 4
 abbrev are_low : (ℕ → ℤ) → ℕ → Bool
@@ -84,14 +84,6 @@ timed = record { one_each = refl; per_step = per_step; not_below = not_below; no
 -- a step in no time
 not_timed : AreTimes from_A_to_C ((7 ∷ 0 ∷ []) ∷ []) → ⊥
 not_timed h = omega (arith, h.not_below 0 1 (lit< tt) (lit< tt))
-
--- A in the second zone, linked to B in the first
-abbrev two_points : Layout
-two_points = record {
-  points = record { name = codes "A"; zone = 1 } ∷ record { name = codes "B"; zone = 0 } ∷ [];
-  links = record { first = 0; second = 1 } ∷ [];
-  zones = 2;
-}
 
 linked_back : AreLinked two_points 1 0
 linked_back = inr (0, lit< tt, refl)

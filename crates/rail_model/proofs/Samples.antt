@@ -5,6 +5,7 @@ use Rattle.rail_model.specs.declared.types.Ask.TheVariants.{Yes, Full}
 use Rattle.rail_model.specs.declared.types.Tried.TheVariants.{Over}
 use Rattle.rail_model.specs.declared.types.Reply.TheVariants.{Driver, Control}
 use Rattle.rail_model.specs.declared.types.Entry.{Entry}
+use Rattle.rail_model.specs.Layout.{Layout}
 use Rattle.rail_model.specs.Table.{Table}
 use Rattle.rail_model.specs.Certificate.{Tree, split, move, arrived, clash}
 use Rattle.rail_model.specs.Yard.{Offer}
@@ -91,3 +92,11 @@ three_tables =
     record { table = two_trains (0 ∷ 1 ∷ []) (2 ∷ 3 ∷ []); after = 0 }
     ∷ record { table = two_trains (0 ∷ 4 ∷ []) (2 ∷ 3 ∷ []); after = 1 }
     ∷ record { table = two_trains (0 ∷ 1 ∷ []) (2 ∷ 3 ∷ 5 ∷ []); after = 9 } ∷ []
+
+-- A in the second zone, linked to B in the first
+abbrev pub two_points : Layout
+two_points = record {
+  points = record { name = codes "A"; zone = 1 } ∷ record { name = codes "B"; zone = 0 } ∷ [];
+  links = record { first = 0; second = 1 } ∷ [];
+  zones = 2;
+}

@@ -13,4 +13,5 @@ pub mod Sums
 pub mod Table
 pub mod Times
 pub mod Turns
+pub mod Ways
 pub mod Yard

@@ -64,10 +64,12 @@ place p i = slice_index p i
 abbrev pub count : Table → ℕ → List ℕ → ℤ
 count T s p = total_below (λ i. share T i s (place p i)) (trains T)
 
--- At least one point, and places up to 127.
+-- At least one point, places up to 127, points below 512, and each step leads to another point.
 pub record IsMission (m : Mission) : Type 0 where
   pub some_point : 1 ≤ length m.points
   pub few_places : last_of m ≤ 127
+  pub low_points : (k q : ℕ) → slice_get m.points k ≡ Some q → q < 512
+  pub steps : (k p q : ℕ) → slice_get m.points k ≡ Some p → slice_get m.points (k + 1) ≡ Some q → p ≢ q
 
 -- Missions of at most 32 trains.
 pub record AreMissions (missions : List Mission) : Type 0 where

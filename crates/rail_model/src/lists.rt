@@ -66,7 +66,7 @@ impl Mission {
     }
 }
 
-/// One mission per train: at most 32, each with some point and at most 128 places.
+/// One mission per train: at most 32, each with some point and at most 128 places, whose points are below 512 and differ from step to step.
 #[derive(Drop)]
 pub struct Missions {
     items: Vec<Mission>,
