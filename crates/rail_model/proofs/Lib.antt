@@ -3,6 +3,7 @@ pub mod Agree
 pub mod Answered
 pub mod Asked
 pub mod Asks
+pub mod BlockAnswers
 pub mod Boxes
 pub mod BoxTests
 pub mod Decide
@@ -11,15 +12,18 @@ pub mod FirstBads
 pub mod FirstPassing
 pub mod Firsts
 pub mod Found
+pub mod Histories
 pub mod Judged
+pub mod LinesOfMoves
 pub mod Live
-pub mod MoveTests
 pub mod MissionTests
 pub mod Moves
+pub mod MoveTests
 pub mod NameTests
 pub mod Obstacles
 pub mod Places
 pub mod Rows
+pub mod RowsOfBlocks
 pub mod RowsOfJournals
 pub mod RowsOfMoves
 pub mod RowsOfRefusals
@@ -31,8 +35,8 @@ pub mod Shares
 pub mod Sound
 pub mod StateTests
 pub mod Sums
-pub mod Told
 pub mod Tables
+pub mod Told
 pub mod TreeTests
 pub mod Visits
 pub mod Ways

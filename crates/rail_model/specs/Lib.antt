@@ -1,3 +1,4 @@
+pub mod Blocks
 pub mod Certificate
 pub mod Checks
 pub mod Exchange

@@ -192,6 +192,14 @@ impl State {
         self.positions[train as usize] += 1;
     }
 
+    /// Puts a train at a place.
+    pub fn set(&mut self, train: u32, place: u32)
+        requires { train < length self.old }
+        ensures { self.new ≡ slice_set self.old train place }
+    {
+        self.positions[train as usize] = place;
+    }
+
     /// The positions in order, by value.
     pub fn into_vec(self) -> Vec<u32>
         ensures { result.items ≡ self }

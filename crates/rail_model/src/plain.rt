@@ -1,5 +1,5 @@
 // States of the yard, and the lines that led to them.
-ghost use Rattle.std.specs.Prelude.{◌≡◌, ℕ, ◌<◌, ◌^◌, length, slice_index};
+ghost use Rattle.std.specs.Prelude.{◌≡◌, ℕ, ◌<◌, ◌^◌, length, slice_index, slice_set};
 ghost use Rattle.rail_model.specs.Yard.{opening, moved, exchanged, kept_out};
 
 use crate::{Line, State};
@@ -71,6 +71,23 @@ impl Standing {
     {
         self.positions.advance(train);
         self.moves += 1;
+    }
+
+    /// Puts a train at a place. No move is counted.
+    pub fn set(&mut self, train: u32, place: u32)
+        requires { train < length self.old.positions }
+        ensures { self.new ≡ record self.old { positions = slice_set self.old.positions train place } }
+    {
+        self.positions.set(train, place);
+    }
+
+    /// Puts a table in force, and sets which table has its answer last, and how many moves were made. No train moves.
+    pub fn set_counts(&mut self, table: u32, tried: u32, moves: u32)
+        ensures { self.new ≡ record self.old { table = table; tried = tried; moves = moves } }
+    {
+        self.table = table;
+        self.tried = tried;
+        self.moves = moves;
     }
 
     /// The next table takes over.
