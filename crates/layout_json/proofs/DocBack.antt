@@ -8,7 +8,9 @@ use Rattle.rail_model.specs.Names.{Names, IsNames}
 use Rattle.rail_model.specs.State.{Legal}
 use Rattle.rail_model.specs.Table.{IsTable, trains}
 use Rattle.rail_model.specs.Turns.{in_turn, unless}
+use Rattle.rail_model.specs.Ways.{IsOn}
 use Rattle.rail_model.proofs.Firsts.{then_some-none}
+use Rattle.rail_model.proofs.Ways.{missions_on}
 use Rattle.rail_model.specs.Yard.{Offer, offer}
 use Rattle.table_exchange.specs.Tables.{AreTables}
 use Rattle.track_layout.specs.Making.{layout_from}
@@ -17,7 +19,7 @@ use Rattle.mission_table.proofs.Taken.{trains_taken}
 use Rattle.document_shapes.specs.Each.{each_from}
 use Rattle.document_shapes.specs.Raw.{DocMembers, TableMembers, IsRead, IsOfVersion}
 use Rattle.document_shapes.proofs.EachLemmas.{each-length, each-good, each-again}
-use Rattle.layout_json.specs.Doc.{Doc, DocTable, IsDoc, doc_table, table_at, offers_of, names_of, PointsWithin}
+use Rattle.layout_json.specs.Doc.{Doc, DocTable, IsDoc, doc_table, table_at, offers_of, names_of}
 use Rattle.layout_json.specs.Keeps.{Keeps, IsTaken, Untimed, timed, doc_of_parts}
 use Rattle.layout_json.specs.Members.{members_in, table_members_in}
 use Rattle.layout_json.specs.Reading.{tables_refusal, first_table}
@@ -83,11 +85,11 @@ module _ (m : DocMembers) (L : Layout) (N : Names) (ts : List Untimed) (xs : Lis
       let from = (made t lt) in
       (missions-made_of L (length N.trains) from.0.missions (exits_or_none (length N.trains) from.0.exits) (table_at D t).missions from.1.table.missions).counted
 
-  points_within : (t : ℕ) → t < length D.tables → PointsWithin (length L.points) (table_at D t)
-  points_within t lt i k q train at =
+  on_layout : (t : ℕ) → t < length D.tables → IsOn L (table_at D t)
+  on_layout t lt =
       let from = (made t lt) in
-      (missions-made_of L (length N.trains) from.0.missions (exits_or_none (length N.trains) from.0.exits) (table_at D t).missions from.1.table.missions).within
-      i k q (record { points = []; exits = false }) train at
+      missions_on L (table_at D t)
+      (missions-made_of L (length N.trains) from.0.missions (exits_or_none (length N.trains) from.0.exits) (table_at D t).missions from.1.table.missions).of_layout
 
   offer_at : (t : ℕ) → offer (offers_of D) t ≡ record { table = table_at D t; after = (doc_table D t).after }
   offer_at t = get_or-map offered D.tables t no_table
@@ -117,7 +119,7 @@ module _ (m : DocMembers) (L : Layout) (N : Names) (ts : List Untimed) (xs : Lis
     tables = tables_are;
     formed = table_formed;
     trains = same_trains;
-    points = points_within;
+    points = on_layout;
     times = λ t lt. are_times t (table_at D t) (doc_table D t).times (made t lt).1.times;
     start = c.legal;
   }

@@ -7,18 +7,16 @@ use Rattle.std.proofs.lemmas.Bool.Decides.{nat_tests}
 use Rattle.std.proofs.lemmas.Int.{ints}
 use Rattle.std.proofs.lemmas.List.{length-map}
 use Rattle.std.proofs.lemmas.List.Elements.{All-map}
-use Rattle.std.proofs.lemmas.Option.{slice_get-get_or}
 use Rattle.rail_model.specs.Layout.{Layout, IsLayout, point_names}
 use Rattle.rail_model.specs.Move.{IsOver}
 use Rattle.rail_model.specs.Names.{Names}
 use Rattle.rail_model.specs.State.{Legal}
-use Rattle.rail_model.specs.Table.{Table, Mission, IsTable, AreMissions, trains, last, place}
+use Rattle.rail_model.specs.Table.{Table, IsTable, trains, last, place}
 use Rattle.rail_model.specs.Turns.{first_below}
 use Rattle.rail_model.proofs.Firsts.{option_or-none, first_below-none, then_some-none, option_map-none}
 use Rattle.track_layout.proofs.Taken.{taken as layouts_taken}
 use Rattle.mission_table.specs.Roster.{AreTrains, trains_from}
-use Rattle.mission_table.specs.Ways.{missions_from}
-use Rattle.mission_table.proofs.Taken.{trains_taken, missions_taken}
+use Rattle.mission_table.proofs.Taken.{trains_taken, missions_formed}
 use Rattle.section_marks.proofs.ConnectionsTaken.{connections_taken}
 use Rattle.section_marks.proofs.Made.{table_of}
 use Rattle.section_marks.proofs.SectionsTaken.{sections_taken}
@@ -38,7 +36,6 @@ use Rattle.layout_json.proofs.DocMade.{names-are}
 use Rattle.layout_json.proofs.StartLemmas.{together}
 use Rattle.layout_json.proofs.TableBack.{IsTableOf, doc_table-made, refused_as-ok}
 use Rattle.layout_json.proofs.Taken.{makes}
-use Rattle.layout_json.proofs.WaysBack.{missions-made_of}
 
 -- ---- a start that is not refused is legal
 
@@ -74,17 +71,9 @@ module _ (T : Table) (p : List ℕ) where
 trains-formed : (names found : List (List ℕ)) → trains_from names ≡ Ok found → AreTrains found
 trains-formed names found h = let made = (trains_taken names found).0 h in subst AreTrains (sym made.0) made.1
 
-missions-formed : (L : Layout) (n : ℕ) (lists : List (List (List ℕ))) (exits : List Bool) (missions : List Mission) → n ≤ 32 → missions_from L n lists exits ≡ Ok missions → AreMissions missions
-missions-formed L n lists exits missions few h =
-    let are = ((missions_taken L n lists exits missions).0 h).3 in
-    record {
-      few = omega (arith, (missions-made_of L n lists exits missions h).counted, few);
-      each = λ i lt. (are i _ (slice_get-get_or missions i (record { points = []; exits = false }) lt)).formed;
-    }
-
-table-formed : (version : ℕ) (L : Layout) (n t : ℕ) (m : TableMembers) (T : Table) → n ≤ 32 → IsTableOf version L n t m T → IsTable T
-table-formed version L n t m T few h =
-    let missions = missions-formed L n m.missions (exits_or_none n m.exits) T.missions few h.missions in
+table-formed : (version : ℕ) (L : Layout) (n t : ℕ) (m : TableMembers) (T : Table) → IsLayout L → n ≤ 32 → IsTableOf version L n t m T → IsTable T
+table-formed version L n t m T layout few h =
+    let missions = missions_formed L n m.missions (exits_or_none n m.exits) T.missions layout few h.missions in
     let plain = table_of T.missions T.sections in
     let sections = (sections_taken (marks_of version) T.missions T.sections plain missions).0 h.sections in
     ((connections_taken plain T T.connections sections.1).0 h.connections).1
@@ -113,7 +102,7 @@ read-keeps m D read h =
     let start : start_refusal (first_table D.tables).table m.start ≡ None = ap (start_refusal (first_table D.tables).table) made.start_is ∙ made.start in
     let tables : All (λ t. IsTable t.table) D.tables =
     each-good (doc_table_of m.version L (length D.trains)) (λ _. Unit {0}) (λ _ y. IsTable y.table)
-    (λ t x y _ of. table-formed m.version L (length D.trains) t x y.table trains.few (doc_table-made m.version L (length D.trains) t x y of).table)
+    (λ t x y _ of. table-formed m.version L (length D.trains) t x y.table layout trains.few (doc_table-made m.version L (length D.trains) t x y of).table)
     0 m.tables D.tables (λ _ _ _. tt) made.tabled.made in
     let checked : IsChecked m L N ts xs =
     record {

@@ -6,18 +6,20 @@ use Rattle.std.proofs.lemmas.List.{length-map, get_or_default}
 use Rattle.std.proofs.lemmas.Option.{slice_get-get_or}
 use Rattle.std.proofs.lemmas.List.Elements.{All-map}
 use Rattle.rail_model.specs.Names.{Names}
+use Rattle.rail_model.specs.Layout.{Layout}
 use Rattle.rail_model.specs.Table.{Table, Mission}
+use Rattle.rail_model.specs.Ways.{IsOn}
 use Rattle.document_shapes.specs.Raw.{IsRead, IsOfVersion}
-use Rattle.layout_json.specs.Doc.{Doc, DocTable, PointsWithin, names_of}
+use Rattle.layout_json.specs.Doc.{Doc, DocTable, names_of}
 use Rattle.layout_json.specs.Members.{from_version, members_in, table_members_in}
 use Rattle.layout_json.specs.Written.{AreNamed}
 
-pub ways-named : (N : Names) (n : ℕ) (T : Table) → length N.points ≡ n → PointsWithin n T → All (AreNamed N) T.missions
-ways-named N n T same within i d lt k e at =
+pub ways-named : (N : Names) (L : Layout) (T : Table) → length N.points ≡ length L.points → IsOn L T → All (AreNamed N) T.missions
+ways-named N L T same on i d lt k e at =
     let m = get_or T.missions i d in
     let q = get_or m.points k e in
     let point = ap (λ (w : Mission). slice_get w.points k) (get_or_default T.missions i (record { points = []; exits = false }) d lt) ∙ slice_get-get_or m.points k e at in
-    let below = within i k q lt point in
+    let below = on i k q point in
     omega (arith, below, same)
 
 pub points-counted : (D : Doc) → length (names_of D).points ≡ length D.layout.points

@@ -7,6 +7,7 @@ use Rattle.std.specs.List.{AllZip}
 use Rattle.std.proofs.lemmas.List.{length-map, take_more, map-append}
 use Rattle.rail_model.specs.Certificate.{Tree, preorder, arrived}
 use Rattle.rail_model.specs.Table.{Table, IsTable}
+use Rattle.rail_model.specs.Ways.{IsOn}
 use Rattle.rail_model.proofs.Firsts.{then_some-none}
 use Rattle.section_marks.specs.Keeping.{KeepsTo}
 use Rattle.section_marks.specs.declared.marks.Marks.TheVariants.{One, Four}
@@ -15,7 +16,7 @@ use Rattle.document_shapes.specs.Raw.{DocMembers, TableMembers as RawTable}
 use Rattle.document_shapes.specs.Seen.{seen_table}
 use Rattle.document_shapes.specs.declared.table.TableMembers.{TableMembers}
 use Rattle.document_shapes.proofs.EachLemmas.{each-changed}
-use Rattle.layout_json.specs.Doc.{Doc, DocTable, PointsWithin, names_of}
+use Rattle.layout_json.specs.Doc.{Doc, DocTable, names_of}
 use Rattle.layout_json.specs.Keeps.{IsTaken, AreMembersOf}
 use Rattle.layout_json.specs.Members.{members_in, table_members_in, with_tables}
 use Rattle.layout_json.specs.Reading.{tables_refusal, first_table}
@@ -134,7 +135,7 @@ parts-named D parts same taken k p lt =
     let size = length-each_with exchanged D.tables parts same in
     let at = ap (λ (t : DocTable). t.table) (each_with-at exchanged D.tables parts k no_table no_table p same within) in
     let points = taken-within (replaced D parts) taken k no_table (omega (arith, size, within)) in
-    ways-named (names_of D) (length D.layout.points) (get_or parts k p).0 (points-counted D) (subst (λ T. PointsWithin (length D.layout.points) T) at points)
+    ways-named (names_of D) D.layout (get_or parts k p).0 (points-counted D) (subst (IsOn D.layout) at points)
 
 -- ---- other sections
 

@@ -1,15 +1,17 @@
 -- What it is that a document is taken, part by part.
-use Rattle.std.proofs.Common.{◌≡◌, ◌∙◌, false, [], ℕ, ◌<◌, List, length, get_or, None, Result, Ok, refl, ap, subst}
+use Rattle.std.proofs.Common.{◌≡◌, ◌∙◌, ℕ, ◌<◌, List, length, get_or, None, Result, Ok, refl, ap, subst}
 use Rattle.std.specs.Prelude.{⊤}
 use Rattle.rail_model.specs.Layout.{Layout}
 use Rattle.rail_model.specs.Turns.{in_turn, unless}
+use Rattle.rail_model.specs.Ways.{IsOn}
 use Rattle.rail_model.proofs.Firsts.{unless-ok}
+use Rattle.rail_model.proofs.Ways.{missions_on}
 use Rattle.track_layout.specs.Making.{layout_from}
 use Rattle.mission_table.specs.Roster.{trains_from}
 use Rattle.document_shapes.specs.Each.{each_from}
 use Rattle.document_shapes.specs.Raw.{DocMembers}
 use Rattle.document_shapes.proofs.EachLemmas.{in_turn-ok, each-good}
-use Rattle.layout_json.specs.Doc.{Doc, DocTable, PointsWithin}
+use Rattle.layout_json.specs.Doc.{Doc, DocTable}
 use Rattle.layout_json.specs.Keeps.{IsTaken}
 use Rattle.layout_json.specs.Members.{members_in}
 use Rattle.layout_json.specs.Reading.{doc_from, tables_refusal, first_table}
@@ -65,12 +67,12 @@ module _ (m : DocMembers) (D : Doc) where
       ∙ ap (λ v. Ok (record { version = v; layout = D.layout; trains = D.trains; tables = D.tables; start = D.start })) h.version_is
 
 -- the points of a taken document's ways are points of its layout
-pub taken-within : (D : Doc) → IsTaken D → (k : ℕ) (d : DocTable) → k < length D.tables → PointsWithin (length D.layout.points) (get_or D.tables k d).table
+pub taken-within : (D : Doc) → IsTaken D → (k : ℕ) (d : DocTable) → k < length D.tables → IsOn D.layout (get_or D.tables k d).table
 taken-within D taken k d lt =
     let n = length D.trains in
     let step = doc_table_of D.version D.layout n in
-    each-good step (λ _. ⊤) (λ _ y. PointsWithin (length D.layout.points) y.table)
-    (λ t x y _ h i j q train at.
+    each-good step (λ _. ⊤) (λ _ y. IsOn D.layout y.table)
+    (λ t x y _ h.
     let made = doc_table-made D.version D.layout n t x y h in
-    (missions-made_of D.layout n x.missions (exits_or_none n x.exits) y.table.missions made.table.missions).within i j q (record { points = []; exits = false }) train at)
+    missions_on D.layout y.table (missions-made_of D.layout n x.missions (exits_or_none n x.exits) y.table.missions made.table.missions).of_layout)
     0 (members_in D).tables D.tables (λ _ _ _. tt) (makes (members_in D) D taken).tabled.made k d lt

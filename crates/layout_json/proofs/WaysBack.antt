@@ -4,9 +4,9 @@ use Rattle.std.proofs.lemmas.List.{length-map}
 use Rattle.std.proofs.lemmas.Option.{slice_get-map, slice_get-get_or}
 use Rattle.rail_model.specs.Layout.{Layout, point_names}
 use Rattle.rail_model.specs.Table.{Mission}
+use Rattle.rail_model.specs.Ways.{IsMissionOf, AreMissionsOf}
 use Rattle.track_layout.specs.Making.{number_in, is_known}
 use Rattle.track_layout.proofs.Taken.{known}
-use Rattle.mission_table.specs.Missions.{IsMissionOf}
 use Rattle.mission_table.specs.Ways.{way_value, missions_value, missions_from}
 use Rattle.mission_table.proofs.Taken.{missions_taken}
 use Rattle.layout_json.proofs.LayoutBack.{name-at_number}
@@ -71,7 +71,7 @@ module _ (L : Layout) where
     pub counted : length missions ≡ n
     pub ways_are : map names_of_way missions ≡ lists
     pub exits_are : map (λ m. m.exits) missions ≡ exits
-    pub within : (i k q : ℕ) (d : Mission) → i < length missions → slice_get (get_or missions i d).points k ≡ Some q → q < length L.points
+    pub of_layout : AreMissionsOf L missions
 
   pub missions-made_of : (n : ℕ) (lists : List (List (List ℕ))) (exits : List Bool) (missions : List Mission) → missions_from L n lists exits ≡ Ok missions → AreMadeOf missions n lists exits
   missions-made_of n lists exits missions h =
@@ -86,5 +86,5 @@ module _ (L : Layout) where
         counted = counted ∙ taken.0;
         ways_are = ap (map names_of_way) taken.2 ∙ ways_back lists exits same (record { each = known });
         exits_are = ap (map (λ (m : Mission). m.exits)) taken.2 ∙ exits_back lists exits same;
-        within = λ i k q d lt at. (there i d lt).points k q at;
+        of_layout = taken.3;
       }

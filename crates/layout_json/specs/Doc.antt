@@ -1,11 +1,12 @@
 -- A document: a layout, trains, tables with their times and certificates, and a start.
-use Rattle.std.specs.Prelude.{◌≡◌, ℕ, ◌<◌, List, [], length, map, Some, slice_index_or}
+use Rattle.std.specs.Prelude.{◌≡◌, ℕ, ◌<◌, List, [], length, map, slice_index_or}
 use Rattle.rail_model.specs.declared.types.Node.{Node}
 use Rattle.rail_model.specs.Layout.{Layout, IsLayout, point_names}
 use Rattle.rail_model.specs.Names.{Names, IsNames}
-use Rattle.rail_model.specs.Table.{Table, IsTable, trains, point}
+use Rattle.rail_model.specs.Table.{Table, IsTable, trains}
 use Rattle.rail_model.specs.State.{Legal}
 use Rattle.rail_model.specs.Times.{AreTimes}
+use Rattle.rail_model.specs.Ways.{IsOn}
 use Rattle.rail_model.specs.Yard.{Offer}
 use Rattle.table_exchange.specs.Tables.{AreTables}
 
@@ -48,10 +49,6 @@ offers_of D = map (λ t. record { table = t.table; after = t.after }) D.tables
 abbrev pub times_of : Doc → List (List (List ℕ))
 times_of D = map (λ t. t.times) D.tables
 
--- Every point of the table is one of so many.
-abbrev pub PointsWithin : ℕ → Table → Type 0
-PointsWithin n T = (i k q : ℕ) → i < trains T → point T i k ≡ Some q → q < n
-
 -- What every document keeps: all its parts fit together, and the start is legal under table 0.
 pub record IsDoc (D : Doc) : Type 0 where
   pub layout : IsLayout D.layout
@@ -59,6 +56,6 @@ pub record IsDoc (D : Doc) : Type 0 where
   pub tables : AreTables (offers_of D)
   pub formed : (t : ℕ) → t < length D.tables → IsTable (table_at D t)
   pub trains : (t : ℕ) → t < length D.tables → trains (table_at D t) ≡ length D.trains
-  pub points : (t : ℕ) → t < length D.tables → PointsWithin (length D.layout.points) (table_at D t)
+  pub points : (t : ℕ) → t < length D.tables → IsOn D.layout (table_at D t)
   pub times : (t : ℕ) → t < length D.tables → AreTimes (table_at D t) (doc_table D t).times
   pub start : Legal (table_at D 0) D.start

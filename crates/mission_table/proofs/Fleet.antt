@@ -5,7 +5,7 @@ use Rattle.std.proofs.lemmas.Bool.Decides.{nat_tests}
 use Rattle.std.proofs.lemmas.List.{length-map, get_or-map}
 use Rattle.rail_model.specs.Layout.{Layout, point_names}
 use Rattle.track_layout.specs.Making.{number_in}
-use Rattle.rail_model.specs.Table.{Mission, IsMission, AreMissions}
+use Rattle.rail_model.specs.Table.{Mission, last_of}
 use Rattle.rail_model.specs.Turns.{first_of, unless}
 use Rattle.rail_model.proofs.Firsts.{unless-ok, unless-err, first_below-found, first_below-next, first_below-none, first_of-before, first_of-after, option_or-none, then_some-none}
 use Rattle.std.specs.Bool.{then_some}
@@ -103,19 +103,22 @@ refused_counts L trains lists exits e h =
 few_points : (most n : ℕ) → (n == 0 || nat_lt most n) ≡ false → (1 ≤ n) × (n ≤ most)
 few_points most n test = (grind (arith, nat_tests), grind (arith, nat_tests))
 
-pub is_mission : (L : Layout) (i : ℕ) (names : List (List ℕ)) (exits : Bool) → mission_refusal L i names exits ≡ None → IsMission (mission_value L names exits)
-is_mission L i names exits h =
+-- A mission that isn't refused has a point, and no place above 127.
+pub few_places : (L : Layout) (i : ℕ) (names : List (List ℕ)) (exits : Bool) → mission_refusal L i names exits ≡ None
+    → (1 ≤ length (way_value L names)) × (last_of (mission_value L names exits) ≤ 127)
+few_places L i names exits h =
     by L names exits (then_some-none _ _ (option_or-none (bad_length i (length names) exits) _ h).0)
   where
-    by : (L : Layout) (names : List (List ℕ)) (exits : Bool) → (length names == 0 || nat_lt (most_points exits) (length names)) ≡ false → IsMission (mission_value L names exits)
+    by : (L : Layout) (names : List (List ℕ)) (exits : Bool) → (length names == 0 || nat_lt (most_points exits) (length names)) ≡ false
+        → (1 ≤ length (way_value L names)) × (last_of (mission_value L names exits) ≤ 127)
     by L names true test =
         let size : length (way_value L names) ≡ length names = length-map names (number_in (point_names L)) in
         let few = few_points 127 (length names) test in
-        record { some_point = omega arith; few_places = omega arith }
+        (omega arith, omega arith)
     by L names false test =
         let size : length (way_value L names) ≡ length names = length-map names (number_in (point_names L)) in
         let few = few_points 128 (length names) test in
-        record { some_point = omega arith; few_places = omega arith }
+        (omega arith, omega arith)
 
 pub length-zip : {X Y Z : Type 0} (g : X × Y → Z) (xs : List X) (ys : List Y) → length ys ≡ length xs → length (map g (zip xs ys)) ≡ length xs
 length-zip g [] ys h = refl
@@ -128,18 +131,6 @@ zip_at g [] ys i d e z h lt = absurd (omega arith)
 zip_at g (x ∷ xs) [] i d e z h lt = absurd (omega arith)
 zip_at g (x ∷ xs) (y ∷ ys) zero d e z h lt = refl
 zip_at g (x ∷ xs) (y ∷ ys) (suc i) d e z h lt = zip_at g xs ys i d e z (omega arith) (omega arith)
-
--- lists with nothing wrong make missions
-pub are_missions : (L : Layout) (lists : List (List (List ℕ))) (exits : List Bool) → length lists ≤ 32 → length exits ≡ length lists
-    → ways_refusal L (length lists) lists exits ≡ None → AreMissions (missions_value L lists exits)
-are_missions L lists exits few size h =
-    let made = λ (p : List (List ℕ) × Bool). mission_value L p.0 p.1 in
-    let count : length (missions_value L lists exits) ≡ length lists = length-zip made lists exits size in
-    record {
-      few = omega arith;
-      each = λ i lt. subst IsMission (sym (zip_at made lists exits i [] false (record { points = []; exits = false }) size (omega arith)))
-          (is_mission L i (slice_index_or lists i []) (slice_index_or exits i false) (first_below-none (length lists) (at_train L lists exits) h i (omega arith)));
-    }
 
 -- ---- the answer, by the missions one after another
 
@@ -172,10 +163,3 @@ module _ (L : Layout) (trains : ℕ) (lists : List (Vec (String Global) Global))
   missions_made M h =
       let made = unless-ok _ (missions_value L (ways_seen lists) exits) M h in
       ap (λ r. unless r (missions_value L (ways_seen lists) exits)) (by_ways ∙ ap (λ r. option_or r None) made.0) ∙ ap Ok made.1
-
-  pub missions_formed : (M : List Mission) → trains ≤ 32 → each_of L lists exits ≡ Ok M → AreMissions M
-  missions_formed M few h =
-      let made = unless-ok _ (missions_value L (ways_seen lists) exits) M h in
-      let size = ways_size lists in
-      let none = ap (λ n. ways_refusal L n (ways_seen lists) exits) size ∙ made.0 in
-      subst AreMissions made.1 (are_missions L (ways_seen lists) exits (omega (arith, sizes.0)) (omega (arith, sizes.0, sizes.1)) none)

@@ -3,9 +3,9 @@ use Rattle.std.proofs.Common.{◌≡◌, ℕ, true, false, List, [], ◌∷◌, 
 use Rattle.std.specs.Prelude.{codes}
 use Rattle.rail_model.specs.Layout.{Layout}
 use Rattle.rail_model.specs.Table.{Mission}
+use Rattle.rail_model.specs.Ways.{AreMissionsOf}
 use Rattle.mission_table.specs.declared.refused.TrainRefused.TheVariants.{TooMany, Name, DoubleName}
 use Rattle.mission_table.specs.declared.refused.MissionRefused.TheVariants.{Lists, Exits, Length, UnknownPoint, NotLinked}
-use Rattle.mission_table.specs.Missions.{AreMissionsOf}
 use Rattle.mission_table.specs.Roster.{too_many, trains_from}
 use Rattle.mission_table.specs.Ways.{bad_length, missions_from}
 use Rattle.mission_table.proofs.Enrolled.{refused_count}

@@ -1,25 +1,26 @@
 -- Trains and missions have nothing wrong.
-use Rattle.std.proofs.Common.{◌≡◌, ◌∙◌, ◌↔◌, ℕ, zero, suc, ◌<◌, ◌≤◌, Bool, true, false, not, ◌==◌, ◌||◌, List, [], length, slice_get, slice_index_or, option_map, Some, None, Ok, bytes_eq, refl, sym, ap, subst, arith}
+use Rattle.std.proofs.Common.{◌≡◌, ◌∙◌, ◌↔◌, ℕ, zero, suc, ◌+◌, ◌<◌, ◌≤◌, Bool, true, false, not, ◌==◌, ◌||◌, List, [], length, slice_get, slice_index_or, option_map, Some, None, Ok, bytes_eq, refl, sym, ap, subst, arith}
 use Rattle.std.specs.Prelude.{nat_lt}
 use Rattle.std.specs.Bool.{then_some}
 use Rattle.std.proofs.lemmas.Bool.Decides.{nat_tests}
 use Rattle.std.proofs.lemmas.List.{length-map}
 use Rattle.std.proofs.lemmas.Option.{slice_get-map, slice_get-get_or, slice_get_within, get_or_from_slice_get}
-use Rattle.rail_model.specs.Layout.{Layout, AreLinked, point_names}
-use Rattle.rail_model.specs.Table.{Mission, IsMission}
+use Rattle.rail_model.specs.Layout.{Layout, AreLinked, IsLayout, point_names}
+use Rattle.rail_model.specs.Table.{Mission, AreMissions}
 use Rattle.rail_model.specs.Turns.{unless}
+use Rattle.rail_model.specs.Ways.{IsMissionOf, AreMissionsOf}
 use Rattle.rail_model.proofs.Firsts.{unless-ok, option_or-none, option_or-both, option_map-some, option_map-none, then_some-none, first_below-none, first_below-all, passing}
 use Rattle.rail_model.proofs.Places.{found_within}
+use Rattle.rail_model.proofs.Ways.{are_missions_of}
 use Rattle.track_layout.specs.Making.{is_known, number_in}
 use Rattle.track_layout.proofs.NamesPass.{no_bad_name, no_double}
 use Rattle.track_layout.proofs.Taken.{known}
 use Rattle.mission_table.specs.declared.refused.MissionRefused.TheVariants.{Lists, Exits, Length, UnknownPoint, NotLinked}
 use Rattle.mission_table.specs.declared.refused.TrainRefused.TheVariants.{TooMany, Name, DoubleName}
-use Rattle.mission_table.specs.Missions.{IsMissionOf, AreMissionsOf}
 use Rattle.mission_table.specs.Roster.{AreTrains, too_many, bad_name, double_name, trains_refusal, trains_from}
 use Rattle.mission_table.specs.Ways.{name_at, point_before, is_cut, most_points, bad_length, unknown_point, not_linked, step_refusal, way_refusal, way_value, mission_refusal, mission_value, other_lists, other_exits, ways_refusal, missions_refusal, missions_value, missions_from}
 use Rattle.mission_table.proofs.Enrolled.{are_trains}
-use Rattle.mission_table.proofs.Fleet.{is_mission, length-zip, zip_at, same_counts}
+use Rattle.mission_table.proofs.Fleet.{few_places, length-zip, zip_at, same_counts}
 use Rattle.mission_table.proofs.Linked.{Decides-linked}
 
 -- ---- trains
@@ -77,8 +78,10 @@ mission_formed : (L : Layout) (i : ℕ) (names : List (List ℕ)) (exits : Bool)
 mission_formed L i names exits h =
     let way = (option_or-none (way_refusal L i names) None (option_or-none (bad_length i (length names) exits) _ h).1).0 in
     let size : length (point_names L) ≡ length L.points = length-map L.points (λ p. p.name) in
+    let sized = few_places L i names exits h in
     record {
-      formed = is_mission L i names exits h;
+      some_point = sized.0;
+      few_places = sized.1;
       points = λ k q at.
           let here = named_point L names k q at in
           let there = found_within (bytes_eq (name_at names k)) (point_names L) (place_known L i names k way here.0).0 in
@@ -86,7 +89,8 @@ mission_formed L i names exits h =
           omega arith;
       linked = λ k p q at next.
           let here = named_point L names k p at in
-          let after = named_point L names (suc k) q next in
+          let one : k + 1 ≡ suc k = omega arith in
+          let after = named_point L names (suc k) q (ap (slice_get (way_value L names)) (sym one) ∙ next) in
           let joined = (Decides-linked L (number_in (point_names L) (name_at names k)) (number_in (point_names L) (name_at names (suc k)))).0
           (passing _ (place_known L i names (suc k) way after.0).1) in
           subst (λ a. AreLinked L a q) here.1 (subst (AreLinked L (number_in (point_names L) (name_at names k))) after.1 joined);
@@ -98,7 +102,7 @@ length_passes i n exits some few = by (most_points exits) few
     by : (most : ℕ) → n ≤ most → then_some (n == 0 || nat_lt most n) (Length i n) ≡ None
     by most few = let test : (n == 0 || nat_lt most n) ≡ false = grind (arith, nat_tests) in ap (λ b. then_some b (Length i n)) test
 
-few_points : (L : Layout) (names : List (List ℕ)) (exits : Bool) → IsMission (mission_value L names exits) → (1 ≤ length names) × (length names ≤ most_points exits)
+few_points : (L : Layout) (names : List (List ℕ)) (exits : Bool) → IsMissionOf L (mission_value L names exits) → (1 ≤ length names) × (length names ≤ most_points exits)
 few_points L names true is =
     let size : length (way_value L names) ≡ length names = length-map names (number_in (point_names L)) in
     let some = is.some_point in
@@ -122,32 +126,33 @@ place_passes L i names exits k is lt =
     whole : (k : ℕ) → k < length names → is_cut L (point_before L names k) (number_in (point_names L) (name_at names k)) ≡ false
     whole zero lt = refl
     whole (suc k) lt =
+        let one : k + 1 ≡ suc k = omega arith in
         ap not ((Decides-linked L (number_in (point_names L) (name_at names k)) (number_in (point_names L) (name_at names (suc k)))).1
-        (is.linked k _ _ (point_named L names k (omega arith)) (point_named L names (suc k) lt)))
+        (is.linked k _ _ (point_named L names k (omega arith)) (ap (slice_get (way_value L names)) one ∙ point_named L names (suc k) lt)))
 
 mission_passes : (L : Layout) (i : ℕ) (names : List (List ℕ)) (exits : Bool) → IsMissionOf L (mission_value L names exits) → mission_refusal L i names exits ≡ None
 mission_passes L i names exits is =
-    let few = few_points L names exits is.formed in
+    let few = few_points L names exits is in
     option_or-both (bad_length i (length names) exits) _ (length_passes i (length names) exits few.0 few.1)
     (option_or-both (way_refusal L i names) None (first_below-all (length names) _ (λ k lt. place_passes L i names exits k is lt)) refl)
 
 -- ---- the missions of all trains
 
-abbrev made : Layout → List (List ℕ) × Bool → Mission
-made L p = mission_value L p.0 p.1
+abbrev made_of : Layout → List (List ℕ) × Bool → Mission
+made_of L p = mission_value L p.0 p.1
 
 -- the mission of a train, by its list and its exit
 mission_there : (L : Layout) (lists : List (List (List ℕ))) (exits : List Bool) (i : ℕ) → length exits ≡ length lists → i < length lists
     → slice_get (missions_value L lists exits) i ≡ Some (mission_value L (slice_index_or lists i []) (slice_index_or exits i false))
 mission_there L lists exits i size lt =
     let none : Mission = record { points = []; exits = false } in
-    let count : length (missions_value L lists exits) ≡ length lists = length-zip (made L) lists exits size in
-    slice_get-get_or (missions_value L lists exits) i none (omega arith) ∙ ap Some (zip_at (made L) lists exits i [] false none size lt)
+    let count : length (missions_value L lists exits) ≡ length lists = length-zip (made_of L) lists exits size in
+    slice_get-get_or (missions_value L lists exits) i none (omega arith) ∙ ap Some (zip_at (made_of L) lists exits i [] false none size lt)
 
-missions_formed : (L : Layout) (lists : List (List (List ℕ))) (exits : List Bool) → length exits ≡ length lists → ways_refusal L (length lists) lists exits ≡ None
+ways_formed : (L : Layout) (lists : List (List (List ℕ))) (exits : List Bool) → length exits ≡ length lists → ways_refusal L (length lists) lists exits ≡ None
     → AreMissionsOf L (missions_value L lists exits)
-missions_formed L lists exits size h i m at =
-    let count : length (missions_value L lists exits) ≡ length lists = length-zip (made L) lists exits size in
+ways_formed L lists exits size h i m at =
+    let count : length (missions_value L lists exits) ≡ length lists = length-zip (made_of L) lists exits size in
     let inside = slice_get_within (missions_value L lists exits) i m at in
     let lt : i < length lists = omega arith in
     let names = slice_index_or lists i [] in
@@ -193,9 +198,18 @@ missions_taken L trains lists exits M = (
       let answer = unless-ok (missions_refusal L trains lists exits) value M h in
       let parts = counts_and_ways L trains lists exits answer.0 in
       let ways = subst (λ n. ways_refusal L n lists exits ≡ None) (sym parts.0) parts.2 in
-      (parts.0, parts.1, sym answer.1, subst (AreMissionsOf L) answer.1 (missions_formed L lists exits (parts.1 ∙ sym parts.0) ways)),
+      (parts.0, parts.1, sym answer.1, subst (AreMissionsOf L) answer.1 (ways_formed L lists exits (parts.1 ∙ sym parts.0) ways)),
   λ h.
       let are = subst (AreMissionsOf L) h.2 h.3 in
       let ways = subst (λ n. ways_refusal L n lists exits ≡ None) h.0 (missions_pass L lists exits (h.1 ∙ sym h.0) are) in
       ap (λ r. unless r (missions_value L lists exits)) (nothing_wrong L trains lists exits h.0 h.1 ways) ∙ ap Ok (sym h.2),
 )
+
+-- Lists that are taken of a layout make missions.
+pub missions_formed : (L : Layout) (trains : ℕ) (lists : List (List (List ℕ))) (exits : List Bool) (M : List Mission)
+    → IsLayout L → trains ≤ 32 → missions_from L trains lists exits ≡ Ok M → AreMissions M
+missions_formed L trains lists exits M layout few h =
+    let taken = (missions_taken L trains lists exits M).0 h in
+    let made = ap length taken.2 in
+    let count : length (missions_value L lists exits) ≡ length lists = length-zip (made_of L) lists exits (taken.1 ∙ sym taken.0) in
+    are_missions_of L M layout (omega (arith, made, count, taken.0)) taken.3

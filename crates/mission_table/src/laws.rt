@@ -2,7 +2,7 @@
 ghost use Rattle.std.specs.Prelude.{◌≡◌, ◌↔◌, ℕ, Bool, List, length, Ok};
 ghost use Rattle.rail_model.specs.Layout.{Layout};
 ghost use Rattle.rail_model.specs.Table.{Mission};
-ghost use Rattle.mission_table.specs.Missions.{AreMissionsOf};
+ghost use Rattle.rail_model.specs.Ways.{AreMissionsOf};
 ghost use Rattle.mission_table.specs.Roster.{AreTrains, trains_from};
 ghost use Rattle.mission_table.specs.Ways.{missions_from, missions_value};
 

@@ -8,7 +8,7 @@ ghost use Rattle.track_layout.specs.Making.{number_in};
 ghost use Rattle.mission_table.specs.Seen.{names_seen, ways_seen};
 
 use crate::{MissionRefused, Trains};
-use rail_model::{Layout, Mission, Missions, are_linked};
+use rail_model::{Layout, Mission, Missions, are_linked, points_of};
 use std::alloc::Global;
 use track_layout::number_of;
 
@@ -30,6 +30,8 @@ pub fn missions(
 ) -> Result<Missions, MissionRefused>
     ensures { Answers MissionRefused.Memory (λ missions. missions) result (missions_from layout.now (length trains.now) (ways_seen lists.items) exits.items) }
 {
+    // The read brings in what a layout keeps.
+    let _points = points_of(layout);
     check_counts(trains.len(), lists.len(), exits.len())?;
     let missions = each_mission(alloc, layout, &lists, &exits)?;
     Ok(Missions::new(missions))

@@ -25,7 +25,7 @@ use Rattle.plain_yard.proofs.Moving.{move_line_right}
 use Rattle.plain_yard.proofs.Reaching.{after_append}
 
 stands_opening : (tables : List Offer) (start : List ℕ) → AreTables tables → Legal (offer tables 0).table start → Stands tables (opening start)
-stands_opening tables start are legal = record { in_range = are.some; tried = are.some; legal = legal; moves = omega arith }
+stands_opening tables start are legal = record { in_range = are.some; tried = are.some; answered = omega arith; legal = legal; moves = omega arith }
 
 -- right lines lead from a yard that stands to one that stands
 stands_lines : (tables : List Offer) (y : Yard) (lines : List Line) → AreTables tables → Stands tables y → IsRight tables y lines → Stands tables (after_lines y lines)

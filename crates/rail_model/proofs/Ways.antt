@@ -37,6 +37,13 @@ is_mission_of L m layout is = record {
   steps = λ k p q at next. linked_apart L p q layout (is.linked k p q at next);
 }
 
+-- Missions of a layout are missions, where they are of few trains.
+pub are_missions_of : (L : Layout) (missions : List Mission) → IsLayout L → length missions ≤ 32 → AreMissionsOf L missions → AreMissions missions
+are_missions_of L missions layout few are = record {
+  few = few;
+  each = λ i lt. let none : Mission = record { points = []; exits = false } in is_mission_of L (get_or missions i none) layout (are i (get_or missions i none) (slice_get-get_or missions i none lt));
+}
+
 -- A table whose missions are a layout's has the layout's points.
 pub missions_on : (L : Layout) (T : Table) → AreMissionsOf L T.missions → IsOn L T
 missions_on L T are i k q at =

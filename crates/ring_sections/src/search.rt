@@ -126,7 +126,7 @@ fn add_from(
 ///
 /// # Errors
 ///
-/// `Many` exactly where there are more than 64; want of memory, of which it takes in proportion to the greatest number of a point.
+/// `Many` exactly where there are more than 64; out of memory.
 pub fn rings(alloc: Global, missions: &Missions, most: u32) -> Result<Vec<Ring>, Rings>
     requires least { 2 ≤ most }
     requires greatest { most ≤ 8 }

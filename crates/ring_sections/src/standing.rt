@@ -164,7 +164,7 @@ pub(crate) fn standing_of(
     most: u32,
 ) -> Result<Standing, AllocError>
     requires pairs { pairs.now ≡ all_pairs missions.now }
-    requires size { size ≤ 2 ^ 32 }
+    requires size { size ≤ 512 }
     ensures { IfOk result (λ standing. standing ≡ standing_at_all missions.now size) }
 {
     let mut points = Vec::new(alloc);
@@ -176,10 +176,11 @@ pub(crate) fn standing_of(
 
 // A number above all these points, and not below `least`.
 fn above_points(points: &[u32], least: usize) -> usize
-    requires { least ≤ 2 ^ 32 }
+    requires least { least ≤ 512 }
+    requires points { All (λ q. q < 512) points.now }
     ensures least { least ≤ result }
     ensures points { All (λ q. q < result) points.now }
-    ensures most { result ≤ 2 ^ 32 }
+    ensures most { result ≤ 512 }
 {
     let mut bound = least;
     for &point in points {
@@ -191,11 +192,11 @@ fn above_points(points: &[u32], least: usize) -> usize
 // A number above all points of the missions.
 pub(crate) fn size_of(missions: &Missions) -> usize
     ensures points { ArePointsBelow missions.now result }
-    ensures most { result ≤ 2 ^ 32 }
+    ensures most { result ≤ 512 }
 {
     let mut bound = 0;
-    for mission in missions.as_slice() {
-        bound = above_points(mission.as_slice(), bound);
+    for train in 0..missions.len() as u32 {
+        bound = above_points(missions.mission(train).as_slice(), bound);
     }
     bound
 }

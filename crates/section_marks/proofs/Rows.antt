@@ -1,8 +1,8 @@
 -- Worked rows: the corridor, long trains, a waiting train, and each refusal once.
-use Rattle.std.proofs.Common.{◌≡◌, ◌<◌, ℕ, zero, suc, length, ℤ, pos, negsuc, false, List, [], ◌∷◌, Some, Ok, Err, refl, arith}
-use Rattle.std.specs.Prelude.{slice_index_or}
+use Rattle.std.proofs.Common.{◌≡◌, ℕ, ℤ, pos, negsuc, false, List, [], ◌∷◌, Some, Ok, Err, refl, arith}
 use Rattle.std.proofs.lemmas.Int.{ints}
-use Rattle.rail_model.specs.Table.{Mission, Section, Table, AreMissions, IsMission}
+use Rattle.rail_model.specs.Table.{Mission, Section, Table, AreMissions}
+use Rattle.rail_model.proofs.MissionTests.{missions_pass}
 use Rattle.section_marks.specs.declared.marks.Marks.TheVariants.{One, Four}
 use Rattle.section_marks.specs.declared.refused.MarkRefused.TheVariants.{TooMany, Limit, Count, Step, Share, Connections, ConnectionTrain, ConnectionPlace}
 use Rattle.section_marks.specs.Keeping.{KeepsTo}
@@ -46,11 +46,7 @@ unfolding table_from
 too_long = refl
 
 path_formed : AreMissions path
-path_formed = record { few = omega arith; each = at }
-  where
-    at : (i : ℕ) → i < length path → IsMission (slice_index_or path i (record { points = []; exits = false }))
-    at zero lt = record { some_point = omega arith; few_places = omega arith }
-    at (suc i) lt = absurd (omega arith)
+path_formed = missions_pass path refl refl
 
 -- so its table keeps to 4, and it doesn't keep to 1
 long_keeps : KeepsTo Four long_table

@@ -1,10 +1,13 @@
 -- Worked rows: when tables are due and what they are told, on small tables.
-use Rattle.std.proofs.Common.{◌≡◌, List, ◌∷◌, [], ℕ, zero, suc, ◌<◌, pos, negsuc, false, true, refl, lit<, lit≤, arith, inl, inr}
+use Rattle.std.proofs.Common.{◌≡◌, ◌≢◌, List, ◌∷◌, [], ℕ, zero, suc, ◌<◌, ◌≤◌, pos, negsuc, false, true, refl, lit<, lit≤, arith, inl, inr}
 use Rattle.std.proofs.lemmas.Int.{ints}
-use Rattle.rail_model.specs.Table.{Table}
+use Rattle.rail_model.specs.Table.{Table, last, place}
+use Rattle.rail_model.specs.State.{Legal, StandsAt}
 use Rattle.rail_model.specs.Exchange.{DiffersAt, Agrees, Admits}
 use Rattle.rail_model.specs.Checks.{admitted, is_due}
+use Rattle.rail_model.specs.Yard.{Offer, opening}
 use Rattle.rail_model.specs.declared.types.Tried.TheVariants.{Exchanged, Differs, Over}
+use Rattle.table_exchange.specs.Tables.{Stands}
 
 -- one train with these points and no sections
 abbrev alone : List ℕ → Table
@@ -72,3 +75,26 @@ due_when_arrived = refl
 
 told_exchanged : admitted (alone (0 ∷ 1 ∷ 2 ∷ [])) longer (2 ∷ []) ≡ Exchanged
 told_exchanged = refl
+
+-- T0 at A, under the first of two tables, of which the second has no answer yet
+abbrev two_offers : List Offer
+two_offers = record { table = alone (0 ∷ 1 ∷ 2 ∷ []); after = 0 } ∷ record { table = longer; after = 1 } ∷ []
+
+legal_at : (points : List ℕ) (k : ℕ) → k ≤ last (alone points) 0 → Legal (alone points) (k ∷ [])
+legal_at points k within = record { one_each = refl; in_range = in_range; apart = apart; within = λ s lt. absurd (omega (arith, lt)) }
+  where
+    in_range : (i : ℕ) → i < 1 → place (k ∷ []) i ≤ last (alone points) i
+    in_range zero lt = within
+    in_range (suc i) lt = absurd (omega (arith, lt))
+
+    apart : (i j q : ℕ) → i < 1 → j < 1 → i ≢ j → StandsAt (alone points) (k ∷ []) i q → StandsAt (alone points) (k ∷ []) j q → ⊥
+    apart zero zero q lt lt_j ne here there = ne refl
+    apart zero (suc j) q lt lt_j ne here there = omega (arith, lt_j)
+    apart (suc i) j q lt lt_j ne here there = omega (arith, lt)
+
+begins : Stands two_offers (opening (0 ∷ []))
+begins = record { in_range = lit< tt; tried = lit< tt; answered = lit≤ tt; legal = legal_at (0 ∷ 1 ∷ 2 ∷ []) 0 (lit≤ tt); moves = lit≤ tt }
+
+-- no table is in force before it has its answer
+no_table_ahead : Stands two_offers (record { positions = 0 ∷ []; table = 1; tried = 0; moves = 0 }) → ⊥
+no_table_ahead h = omega (arith, h.answered)

@@ -41,6 +41,7 @@ stands_moved tables y i s m =
     record {
       in_range = s.in_range;
       tried = s.tried;
+      answered = s.answered;
       legal = m.after;
       moves = subst (λ n. y.moves + 1 ≤ sum_below (place (advance p i)) n) (sym size) (omega (arith, s.moves));
     }
@@ -50,6 +51,7 @@ pub stands_exchanged : (tables : List Offer) (y : Yard) → AreTables tables →
 stands_exchanged tables y are s still a = record {
   in_range = still;
   tried = still;
+  answered = omega arith;
   legal = legal_exchange (in_force tables y) (next_offer tables y).table y.positions (are.same (y.tried + 1) still ∙ sym (are.same y.table s.in_range)) s.legal a.0 a.1;
   moves = s.moves;
 }
@@ -58,8 +60,8 @@ stands_exchanged tables y are s still a = record {
 pub stands_line : (tables : List Offer) (y : Yard) (l : Line) → AreTables tables → Stands tables y → IsLine tables y l → Stands tables (after_line y l)
 stands_line tables y (MoveLine i from to) are s line = stands_moved tables y i s line.0
 stands_line tables y (TableLine t) are s line = stands_exchanged tables y are s line.1.0.0 line.1.1
-stands_line tables y (KeptDiffers t i k) are s line = record { in_range = s.in_range; tried = line.1.0.0; legal = s.legal; moves = s.moves }
-stands_line tables y (KeptOver t c n) are s line = record { in_range = s.in_range; tried = line.1.0.0; legal = s.legal; moves = s.moves }
+stands_line tables y (KeptDiffers t i k) are s line = record { in_range = s.in_range; tried = line.1.0.0; answered = omega (arith, s.answered); legal = s.legal; moves = s.moves }
+stands_line tables y (KeptOver t c n) are s line = record { in_range = s.in_range; tried = line.1.0.0; answered = omega (arith, s.answered); legal = s.legal; moves = s.moves }
 
 -- the answer of equal tables at equal positions
 pub admits_same : (T U new given : Table) (p q : List ℕ) (r : Tried) → T ≡ U → new ≡ given → p ≡ q → Admits T new p r → Admits U given q r

@@ -11,9 +11,10 @@ pub record AreTables (tables : List Offer) : Type 0 where
   pub few : length tables ≤ 16
   pub same : (t : ℕ) → t < length tables → trains (offer tables t).table ≡ trains (offer tables 0).table
 
--- A legal state of the yard, in which no more moves were made than the trains' places say.
+-- A legal state of the yard: the table in force has its answer, and no more moves were made than the trains' places say.
 pub record Stands (tables : List Offer) (y : Yard) : Type 0 where
   pub in_range : y.table < length tables
   pub tried : y.tried < length tables
+  pub answered : y.table ≤ y.tried
   pub legal : Legal (in_force tables y) y.positions
   pub moves : y.moves ≤ sum_below (place y.positions) (length y.positions)

@@ -4,7 +4,8 @@ use Rattle.rail_model.proofs.Firsts.{Answers-err}
 use Rattle.mission_table.specs.declared.refused.MissionRefused.TheVariants.{Memory}
 use Rattle.mission_table.specs.Seen.{ways_seen}
 use Rattle.mission_table.specs.Ways.{missions_from}
-use Rattle.mission_table.proofs.Fleet.{count_rows, counts_seen, each_of, refused_counts, refused_way, missions_made, missions_formed}
+use Rattle.mission_table.proofs.Fleet.{count_rows, counts_seen, each_of, refused_counts, refused_way, missions_made}
+use Rattle.mission_table.proofs.Taken.{missions_formed}
 use Rattle.mission_table.proofs.making.missions.Goals.{After-check_counts, After-each_mission}
 use Rattle.mission_table.proofs.making.missions.Goals as goal
 
@@ -47,9 +48,12 @@ returns-in_err-missions c =
 pub new-requires : goal.new-requires
 new-requires c =
     let at = goal.at.new-requires c in
-    missions_formed c.args.layout.now (length c.args.trains.now) c.args.lists.items c.args.exits.items
+    let lists = c.args.lists.items in
+    let made = missions_made c.args.layout.now (length c.args.trains.now) lists c.args.exits.items
     (c.in_ok-check_counts.ensures ∙ counts at.After-check_counts) c.in_ok-missions.missions.items
-    c.len.ensures.formed.few (sym (given at.After-each_mission) ∙ c.in_ok-missions.ensures)
+    (sym (given at.After-each_mission) ∙ c.in_ok-missions.ensures) in
+    missions_formed c.args.layout.now (length c.args.trains.now) (ways_seen lists) c.args.exits.items c.in_ok-missions.missions.items
+    c.points_of-points.ensures.formed c.len.ensures.formed.few made
 
 pub returns : goal.returns
 returns c =

@@ -9,7 +9,7 @@ loop-point-preserved c = record {
   least = omega arith;
   points = All-more (λ q. q < c.max-bound.result) c.args.points.now c.loop-point.point-index 0 (omega arith)
       (λ k d l. omega (arith, c.loop-point.invariant.points k d l)) (omega arith);
-  most = let fits = c.type_inv.points c.loop-point.point-index in omega (arith, fits);
+  most = let low = c.requires.points c.loop-point.point-index 0 (omega arith) in omega (arith, low);
 }
 
 pub returns-clause-points : goal.returns-clause-points
