@@ -9,8 +9,9 @@ ghost use Rattle.command_words.specs.declared.orders.Order.{Order as OrderValue}
 ghost use Rattle.command_words.specs.declared.orders.Order.TheVariants.{Run};
 ghost use Rattle.ats_run.specs.Command.{Comes, IsDocWith};
 ghost use Rattle.ats_run.specs.Complete.{IsAcceptedInput, IsGoodInput, IsDoneOrMemory};
+ghost use Rattle.rail_model.specs.Yard.{opening};
 ghost use Rattle.ats_run.specs.Headline.{IsRun, IsRoundRobin};
-ghost use Rattle.ats_run.specs.Causes.{Call, IsReadWhole, IsCause, IsUnread, IsUnwritten, Tells, most_bytes};
+ghost use Rattle.ats_run.specs.Causes.{Call, IsReadWhole, IsServed, IsCause, IsUnread, IsUnwritten, Tells, most_bytes};
 ghost use Rattle.ats_run.specs.Ending.{status_of};
 ghost use Rattle.ats_run.specs.Report.{line_of as line_of_failure, IsLineMade};
 
@@ -110,8 +111,7 @@ fn serve_words<S: Source, K: Sink>(
     source: &mut S,
     out: &mut K,
 ) -> Result<(), Failure>
-    ensures done { OnOk result ((order : OrderValue) × (order_of (map string_bytes line.now) ≡ Some order) × IsReadWhole order (S.left source.old) (IsAtEnd (S.left source.new))
-        × OnInput order (S.left source.old) (λ input. (written : List ℕ) × Comes order input (Ok written) × Adds (K.taken out.old) (K.taken out.new) written)) }
+    ensures done { OnOk result (IsServed (order_of (map string_bytes line.now)) (S.left source.old) (S.left source.new) (Adds (K.taken out.old) (K.taken out.new))) }
 
     ensures cause { IfErr result (IsCause (record {
       order = order_of (map string_bytes line.now);
@@ -121,8 +121,8 @@ fn serve_words<S: Source, K: Sink>(
       sink_failed = Rose (K.faults out.old) (K.faults out.new);
     })) }
     ensures nothing { IfErr result (λ e. e ≢ Failure.WriteFault → Adds (K.taken out.old) (K.taken out.new) []) }
-    ensures prefix { result ≡ Err Failure.WriteFault → (order : OrderValue) × (order_of (map string_bytes line.now) ≡ Some order) × IsReadWhole order (S.left source.old) (IsAtEnd (S.left source.new))
-        × OnInput order (S.left source.old) (λ input. (written : List ℕ) × Comes order input (Ok written) × AddsPrefix (K.taken out.old) (K.taken out.new) written) }
+    ensures prefix { result ≡ Err Failure.WriteFault
+        → IsServed (order_of (map string_bytes line.now)) (S.left source.old) (S.left source.new) (AddsPrefix (K.taken out.old) (K.taken out.new)) }
 
     ensures untouched { IfSome (order_of (map string_bytes line.now)) (λ order. Reads order → ⊥) → source.new ≡ source.old }
     ensures at_most { ConsumesAtMost (most_bytes + 1) (S.left source.old) (S.left source.new) }
@@ -182,12 +182,16 @@ pub fn ats<S: Source, K: Sink, E: Sink>(
 ) -> Status
     // A run that ends well: the text of one whole journal of checked tables, from every state of which each way of going on ends well.
     ensures headline { (workers rounds : ℕ) → result ≡ Status.Done → order_of (map string_bytes line.now) ≡ Some (Run workers rounds)
-        → IfSome (S.left source.old) (λ input. (written : List ℕ) × IsDocWith input (λ D. (run : IsRun D written) × IsRoundRobin D run.journal)
-        × Adds (K.taken out.old) (K.taken out.new) written) }
+        → IfSome (S.left source.old) (λ input. (written : List ℕ) × IsDocWith input (λ D. IsRun D written) × Adds (K.taken out.old) (K.taken out.new) written) }
+
+    // Without workers its lines are those of the round robin from the start.
+    ensures round_robin { (rounds : ℕ) → result ≡ Status.Done → order_of (map string_bytes line.now) ≡ Some (Run 0 rounds)
+        → IfSome (S.left source.old) (λ input. (written : List ℕ)
+        × IsDocWith input (λ D. (run : IsRun D written) × IsRoundRobin D (opening D.start) run.journal.lines) × Adds (K.taken out.old) (K.taken out.new) written) }
 
     // Every command that ends well has read all that it reads, has written what it comes to on these bytes, and told nothing.
-    ensures done { result ≡ Status.Done → (order : OrderValue) × (order_of (map string_bytes line.now) ≡ Some order) × IsReadWhole order (S.left source.old) (IsAtEnd (S.left source.new))
-        × OnInput order (S.left source.old) (λ input. (written : List ℕ) × Comes order input (Ok written) × Adds (K.taken out.old) (K.taken out.new) written) }
+    ensures done { result ≡ Status.Done
+        → IsServed (order_of (map string_bytes line.now)) (S.left source.old) (S.left source.new) (Adds (K.taken out.old) (K.taken out.new)) }
     ensures quiet { result ≡ Status.Done → Adds (E.taken err.old) (E.taken err.new) [] }
 
     // What make, derive, repair and gen write is a document whose every table accepts its certificate.
@@ -203,8 +207,8 @@ pub fn ats<S: Source, K: Sink, E: Sink>(
       sink_failed = Rose (K.faults out.old) (K.faults out.new);
     }) result (Rose (E.faults err.old) (E.faults err.new)) (E.taken err.old) (E.taken err.new) }
     ensures nothing { result ≢ Status.Done → result ≢ Status.WriteFault → Adds (K.taken out.old) (K.taken out.new) [] }
-    ensures prefix { result ≡ Status.WriteFault → (order : OrderValue) × (order_of (map string_bytes line.now) ≡ Some order) × IsReadWhole order (S.left source.old) (IsAtEnd (S.left source.new))
-        × OnInput order (S.left source.old) (λ input. (written : List ℕ) × Comes order input (Ok written) × AddsPrefix (K.taken out.old) (K.taken out.new) written) }
+    ensures prefix { result ≡ Status.WriteFault
+        → IsServed (order_of (map string_bytes line.now)) (S.left source.old) (S.left source.new) (AddsPrefix (K.taken out.old) (K.taken out.new)) }
 
     // Where no device fails, a good input ends well, or there was no memory.
     ensures complete { (order : OrderValue) (input : List ℕ) → order_of (map string_bytes line.now) ≡ Some order → Holds order (S.left source.old) input
