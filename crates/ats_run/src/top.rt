@@ -34,6 +34,7 @@ fn read_input<S: Source>(alloc: Global, source: &mut S) -> Result<Vec<u8>, Failu
     ensures unread { IfErr result (IsUnread (S.left source.old) (Rose (S.faults source.old) (S.faults source.new))) }
 
     ensures at_most { ConsumesAtMost (most_bytes + 1) (S.left source.old) (S.left source.new) }
+    ensures same_plan { S.planned source.new ≡ S.planned source.old }
 {
     match read_all(alloc, source, MOST_BYTES) {
         Ok(bytes) => Ok(bytes),
@@ -57,6 +58,8 @@ fn write_answer<K: Sink>(
     ensures failed { IfErr result (IsUnwritten order input.now (Rose (K.faults out.old) (K.faults out.new))) }
     ensures nothing { IfErr result (λ e. e ≢ Failure.WriteFault → Adds (K.taken out.old) (K.taken out.new) []) }
     ensures prefix { result ≡ Err Failure.WriteFault → (written : List ℕ) × Comes order input.now (Ok written) × AddsPrefix (K.taken out.old) (K.taken out.new) written }
+
+    ensures same_plan { K.planned out.new ≡ K.planned out.old }
 {
     let text = answer(rt, alloc, order, input)?;
     match write_all(out, &text) {
@@ -91,6 +94,7 @@ fn serve<S: Source, K: Sink>(
         (λ input. (written : List ℕ) × Comes order input (Ok written) × AddsPrefix (K.taken out.old) (K.taken out.new) written) }
 
     ensures at_most { ConsumesAtMost (most_bytes + 1) (S.left source.old) (S.left source.new) }
+    ensures same_plans { (S.planned source.new ≡ S.planned source.old) × (K.planned out.new ≡ K.planned out.old) }
 {
     let bytes = read_input(alloc, source)?;
     write_answer(rt, alloc, order, &bytes, out)
@@ -126,6 +130,7 @@ fn serve_words<S: Source, K: Sink>(
 
     ensures untouched { IfSome (order_of (map string_bytes line.now)) (λ order. Reads order → ⊥) → source.new ≡ source.old }
     ensures at_most { ConsumesAtMost (most_bytes + 1) (S.left source.old) (S.left source.new) }
+    ensures same_plans { (S.planned source.new ≡ S.planned source.old) × (K.planned out.new ≡ K.planned out.old) }
 {
     match words(alloc, line) {
         Ok(order) if is_reading(order) => serve(rt, alloc, order, source, out),
@@ -218,6 +223,9 @@ pub fn ats<S: Source, K: Sink, E: Sink>(
     // The source isn't touched where the words are refused or what they ask for reads nothing.
     ensures untouched { IfSome (order_of (map string_bytes line.now)) (λ order. Reads order → ⊥) → source.new ≡ source.old }
     ensures at_most { ConsumesAtMost (most_bytes + 1) (S.left source.old) (S.left source.new) }
+
+    // Which calls of the devices are to fail stays, where they tell it.
+    ensures same_plans { (S.planned source.new ≡ S.planned source.old) × (K.planned out.new ≡ K.planned out.old) }
 {
     match serve_words(rt, alloc, line, source, out) {
         Ok(()) => Status::Done,
