@@ -1,4 +1,5 @@
 pub mod Adding
+mod Failing
 pub mod Giving
 mod Rows
 pub mod Taking

@@ -1,10 +1,11 @@
 -- Small cases of each definition.
-use Rattle.std.proofs.Common.{◌≡◌, ℕ, ◌-◌, ◌^◌, List, [], ◌∷◌, length, Some, None, refl, inl, inr, arith, lit≤, lit<}
+use Rattle.std.proofs.Common.{◌≡◌, ℕ, zero, suc, ◌<◌, ◌-◌, ◌^◌, List, [], ◌∷◌, length, Some, None, refl, sym, inl, inr, arith, lit≤, lit<}
+use Rattle.std.specs.Prelude.{slice_index_or}
 use Rattle.std.proofs.Math.Nat.{le_refl}
 use Rattle.ats_io.specs.Bytes.{Adds, AddsPrefix, ConsumesAtMost}
 use Rattle.ats_io.specs.Faults.{Rose, next_count}
 use Rattle.ats_io.specs.declared.memory.room.TheConstants.{SINK_ROOM}
-use Rattle.ats_io.specs.Memory.{MustFail, starting, after_pass, after_fault, told_after}
+use Rattle.ats_io.specs.Memory.{MustFail, HasMade, starting, after_pass, after_fault, told_after}
 
 -- a fourth fault
 pub fourth_fault : next_count 3 ≡ 4
@@ -53,6 +54,19 @@ second_call_fails = inl (0, lit< tt, refl)
 -- after it there were two calls and one fault
 pub one_fault : after_fault (after_pass (starting (1 ∷ []))) ≡ record { fails = 1 ∷ []; call = 2; faults = 1 }
 one_fault = refl
+
+-- of two calls the second, whose number is 1, was made
+pub second_made : HasMade (1 ∷ []) 2
+second_made = (1, (0, lit< tt, refl), lit≤ tt)
+
+-- the third wasn't
+pub third_not_made : HasMade (2 ∷ []) 2 → ⊥
+third_not_made h = omega (arith, h.2, only 2 h.1.0 h.0 h.1.1 h.1.2)
+  where
+    -- a list of one number contains that one alone
+    only : (x i n : ℕ) → i < length (x ∷ []) → slice_index_or (x ∷ []) i n ≡ n → n ≡ x
+    only x zero n below is = sym is
+    only x (suc i) n below is = absurd (omega (arith, below))
 
 -- two bytes, and a third
 pub goes_on_telling : told_after (Some (1 ∷ 2 ∷ [])) (3 ∷ []) ≡ Some (1 ∷ 2 ∷ 3 ∷ [])

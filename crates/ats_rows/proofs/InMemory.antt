@@ -1,74 +1,102 @@
 -- What the clauses of the top call come to where its devices are in memory.
-use Rattle.std.proofs.Common.{◌≡◌, ℕ, List, [], ◌++◌, take, Option, Some, Ok, sym, ap, ◌∙◌, subst, arith}
+use Rattle.std.proofs.Common.{◌≡◌, ◌⊎◌, ℕ, ◌<◌, List, [], ◌++◌, take, Option, Some, Ok, sym, ap, ◌∙◌, subst, arith, inl, inr}
+use Rattle.std.specs.Prelude.{Result, IfOk}
+use Rattle.clap.specs.Words.{Text}
 use Rattle.ats_io.specs.Bytes.{Adds, AddsPrefix}
 use Rattle.ats_io.specs.Faults.{Rose}
+use Rattle.ats_io.specs.Memory.{Supply, Store, HasMade, IsFull}
 use Rattle.command_words.specs.declared.orders.Order.{Order}
 use Rattle.ats_run.specs.declared.failure.Failure.{Failure}
 use Rattle.ats_run.specs.declared.failure.Failure.TheVariants as failure
 use Rattle.ats_run.specs.declared.status.Status.{Status}
-use Rattle.ats_run.specs.Causes.{IsCause, Tells}
+use Rattle.ats_run.specs.Causes.{IsServed, IsCause, Tells}
 use Rattle.ats_run.specs.Command.{Comes}
-use Rattle.ats_run.specs.Orders.{OnInput}
 use Rattle.ats_run.specs.Report.{line_of}
 use Rattle.ats_run.proofs.Reading.{on_weaker}
-use Rattle.ats_rows.specs.Calls.{call_on}
+use Rattle.ats_rows.specs.declared.calls.Played.{Played}
+use Rattle.ats_rows.specs.Calls.{IsPlayed}
+
+-- of devices that had not failed before
+risen : (before now : ℕ) → before ≡ 0 → Rose before now → 0 < now
+risen before now new rose = omega (arith, new, rose)
+
+same_plan : (fails planned : List ℕ) → Some planned ≡ Some fails → planned ≡ fails
+same_plan fails planned same = cc
+
+-- a source whose count rose has made a read that was to fail
+pub source_failed : (before now calls told : ℕ) (fails planned : List ℕ) → before ≡ 0 → Some planned ≡ Some fails → told ≡ calls
+    → (0 < now → HasMade planned calls) → Rose before now → HasMade fails told
+source_failed before now calls told fails planned new same counted made rose =
+    subst (λ n. HasMade fails n) (sym counted) (subst (λ (xs : List ℕ). HasMade xs calls) (same_plan fails planned same) (made (risen before now new rose)))
+
+-- so has a sink, or it is full
+pub sink_failed : (before now calls told : ℕ) (fails planned taken written : List ℕ) → before ≡ 0 → Some planned ≡ Some fails → told ≡ calls → written ≡ taken
+    → (0 < now → HasMade planned calls ⊎ IsFull taken) → Rose before now → HasMade fails told ⊎ IsFull written
+sink_failed before now calls told fails planned taken written new same counted copied made rose = elim (made (risen before now new rose)) [
+  | inl one ↦ inl (source_failed before now calls told fails planned new same counted (λ _. one) rose)
+  | inr full ↦ inr (subst IsFull (sym copied) full)
+]
 
 -- what a sink took, from one state to another, where both are equal to others
 same_adds : (old before now after : Option (List ℕ)) (bytes : List ℕ) → old ≡ before → after ≡ now → Adds old now bytes → Adds before after bytes
 same_adds old before now after bytes first then h = subst (λ (o : Option (List ℕ)). Adds before o bytes) (sym then) (subst (λ (o : Option (List ℕ)). Adds o now bytes) first h)
 
+-- what was served, where something else is said of what was taken
+pub served_weaker : (asked : Option Order) (held : Option (List ℕ)) (left rest : List ℕ) (Taken Other : List ℕ → Type 0) → rest ≡ left
+    → ((written : List ℕ) → Taken written → Other written) → IsServed asked held (Some left) Taken → IsServed asked held (Some rest) Other
+served_weaker asked held left rest Taken Other same f d = (
+  d.0,
+  d.1,
+  (λ reads. (same ∙ (d.2 reads).0, (d.2 reads).1)),
+  on_weaker d.0 held (λ input. (written : List ℕ) × Comes d.0 input (Ok written) × Taken written)
+  (λ input. (written : List ℕ) × Comes d.0 input (Ok written) × Other written) (λ input k. (k.0, k.1, f k.0 k.2)) d.3,
+)
+
 -- what an empty sink has taken was written
-pub wrote : (order : Order) (left input before taken copy : List ℕ) → left ≡ input → before ≡ [] → copy ≡ taken
-    → OnInput order (Some left) (λ bytes. (written : List ℕ) × Comes order bytes (Ok written) × Adds (Some before) (Some taken) written)
-    → OnInput order (Some input) (λ bytes. Comes order bytes (Ok copy))
-wrote order left input before taken copy all empty same h =
-    subst (λ (held : List ℕ). OnInput order (Some held) (λ bytes. Comes order bytes (Ok copy))) all
-    (on_weaker order (Some left) (λ bytes. (written : List ℕ) × Comes order bytes (Ok written) × Adds (Some before) (Some taken) written) (λ bytes. Comes order bytes (Ok copy))
-    (λ bytes k. subst (λ (w : List ℕ). Comes order bytes (Ok w)) (sym (same ∙ k.2 ∙ ap (λ (b : List ℕ). b ++ k.0) empty)) k.1) h)
+pub wrote : (before taken copy written : List ℕ) → before ≡ [] → copy ≡ taken → Adds (Some before) (Some taken) written → copy ≡ written
+wrote before taken copy written empty same h = same ∙ h ∙ ap (λ (b : List ℕ). b ++ written) empty
 
 -- or a first part of it
-pub wrote_part : (order : Order) (left input before taken copy : List ℕ) → left ≡ input → before ≡ [] → copy ≡ taken
-    → OnInput order (Some left) (λ bytes. (written : List ℕ) × Comes order bytes (Ok written) × AddsPrefix (Some before) (Some taken) written)
-    → OnInput order (Some input) (λ bytes. (whole : List ℕ) × Comes order bytes (Ok whole) × AddsPrefix (Some []) (Some copy) whole)
-wrote_part order left input before taken copy all empty same h =
-    subst (λ (held : List ℕ). OnInput order (Some held) (λ bytes. (whole : List ℕ) × Comes order bytes (Ok whole) × AddsPrefix (Some []) (Some copy) whole)) all
-    (on_weaker order (Some left) (λ bytes. (written : List ℕ) × Comes order bytes (Ok written) × AddsPrefix (Some before) (Some taken) written)
-    (λ bytes. (whole : List ℕ) × Comes order bytes (Ok whole) × AddsPrefix (Some []) (Some copy) whole)
-    (λ bytes k. (k.0, k.1, (k.2.0, same_adds (Some before) (Some []) (Some taken) (Some copy) (take k.2.0 k.0) (ap Some empty) (ap Some same) k.2.1))) h)
+pub wrote_part : (before taken copy written : List ℕ) → before ≡ [] → copy ≡ taken → AddsPrefix (Some before) (Some taken) written → AddsPrefix (Some []) (Some copy) written
+wrote_part before taken copy written empty same h =
+    (h.0, same_adds (Some before) (Some []) (Some taken) (Some copy) (take h.0 written) (ap Some empty) (ap Some same) h.1)
 
--- an empty sink that took nothing is empty
-pub wrote_nothing : (before taken copy : List ℕ) → before ≡ [] → copy ≡ taken → Adds (Some before) (Some taken) [] → copy ≡ []
-wrote_nothing before taken copy empty same h = same ∙ h ∙ ap (λ (b : List ℕ). b ++ []) empty
+module _ (asked : Option Order) (held : Option (List ℕ)) (E S K E' S' K' : Type 0) (at_end : E → E') (source : S → S') (sink : K → K') where
+  -- a cause is one also where the devices are spoken of in other words
+  said_otherwise : (e : Failure) → IsCause (record { order = asked; held = held; at_end = E; source_failed = S; sink_failed = K }) e
+      → IsCause (record { order = asked; held = held; at_end = E'; source_failed = S'; sink_failed = K' }) e
+  said_otherwise failure.Words h = h
+  said_otherwise failure.Memory h = tt
+  said_otherwise failure.ReadFault h = (h.0, h.1, (h.2.0, source h.2.1))
+  said_otherwise failure.WriteFault h = (h.0, h.1, ((λ reads. (at_end (h.2.0 reads).0, (h.2.0 reads).1)), sink h.2.1))
+  said_otherwise failure.TooLong h = h
+  said_otherwise e h = (h.0, h.1, ((λ reads. (at_end (h.2.0 reads).0, (h.2.0 reads).1)), h.2.1))
 
--- a cause is one also where it is left open what the devices did
-pub left_open : (order : Option Order) (input : List ℕ) (at_end source_failed sink_failed : Type 0) (e : Failure)
-    → IsCause (record { order = order; held = Some input; at_end = at_end; source_failed = source_failed; sink_failed = sink_failed }) e
-    → IsCause (call_on order input) e
-left_open order input E S K failure.Words h = h
-left_open order input E S K failure.Memory h = tt
-left_open order input E S K failure.ReadFault h = (h.0, h.1, (h.2.0, tt))
-left_open order input E S K failure.WriteFault h = (h.0, h.1, ((λ reads. (tt, (h.2.0 reads).1)), tt))
-left_open order input E S K failure.TooLong h = h
-left_open order input E S K e h = (h.0, h.1, ((λ reads. (tt, (h.2.0 reads).1)), h.2.1))
-
--- a sink that told nothing before has told the line
-pub told_line : (order : Option Order) (left input : List ℕ) (at_end source_failed sink_failed err_failed : Type 0) (status : Status) (old now told : Option (List ℕ))
-    → left ≡ input → old ≡ Some [] → told ≡ now → (err_failed → ⊥)
-    → Tells (record { order = order; held = Some left; at_end = at_end; source_failed = source_failed; sink_failed = sink_failed }) status err_failed old now
-    → Tells (call_on order input) status ⊥ (Some []) told
-told_line order left input E S K F status old now told all none same works t = record {
-  failure = t.failure;
-  ends = t.ends;
-  cause = left_open order input E S K t.failure
-      (subst (λ (l : List ℕ). IsCause (record { order = order; held = Some l; at_end = E; source_failed = S; sink_failed = K }) t.failure) all t.cause);
-  prefix = (t.prefix.0, same_adds old (Some []) now told (take t.prefix.0 (line_of t.failure)) none same t.prefix.1);
-  whole = λ _. same_adds old (Some []) now told (line_of t.failure) none same (t.whole works);
-}
+  -- a sink that told nothing before has told the line
+  pub told_line : (err_failed : Type 0) (status : Status) (old now told : Option (List ℕ)) → old ≡ Some [] → told ≡ now → (err_failed → ⊥)
+      → Tells (record { order = asked; held = held; at_end = E; source_failed = S; sink_failed = K }) status err_failed old now
+      → Tells (record { order = asked; held = held; at_end = E'; source_failed = S'; sink_failed = K' }) status ⊥ (Some []) told
+  told_line err_failed status old now told none same works t = record {
+    failure = t.failure;
+    ends = t.ends;
+    cause = said_otherwise t.failure t.cause;
+    prefix = (t.prefix.0, same_adds old (Some []) now told (take t.prefix.0 (line_of t.failure)) none same t.prefix.1);
+    whole = λ _. same_adds old (Some []) now told (line_of t.failure) none same (t.whole works);
+  }
 
 -- or nothing
 pub told_nothing : (old now told : Option (List ℕ)) → old ≡ Some [] → told ≡ now → Adds old now [] → Adds (Some []) told []
 told_nothing old now told none same h = same_adds old (Some []) now told [] none same h
 
--- a count that stands at 0 hasn't risen
+-- devices that are made of an input and of two lists of calls
+pub played_by : {E : Type 0} (result : Result Played E) (line : List Text) (source : Supply) (out : Store) (input reads writes : List ℕ)
+    → source.left ≡ input → source.plan.fails ≡ reads → out.plan.fails ≡ writes
+    → IfOk result (IsPlayed line source.left source.plan.fails out.plan.fails) → IfOk result (IsPlayed line input reads writes)
+played_by result line source out input reads writes all read written h =
+    subst (λ (w : List ℕ). IfOk result (IsPlayed line input reads w)) written
+    (subst (λ (r : List ℕ). IfOk result (IsPlayed line input r out.plan.fails)) read
+    (subst (λ (i : List ℕ). IfOk result (IsPlayed line i source.plan.fails out.plan.fails)) all h))
+
+-- a count of 0 that is still 0 hasn't risen
 pub never_rises : Rose 0 0 → ⊥
 never_rises rose = omega (arith, rose)

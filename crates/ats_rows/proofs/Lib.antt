@@ -1,1 +1,2 @@
 mod InMemory
+mod Rows

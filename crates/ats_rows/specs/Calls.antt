@@ -1,30 +1,48 @@
 -- What a call of the program comes to over devices in memory.
-use Rattle.std.specs.Prelude.{◌≡◌, ◌≢◌, ℕ, List, [], Option, Some, Ok}
+use Rattle.std.specs.Prelude.{◌≡◌, ◌≢◌, ◌⊎◌, ℕ, ◌+◌, List, [], Option, Some, IfSome, option_map}
 use Rattle.clap.specs.Words.{Text}
-use Rattle.ats_io.specs.Bytes.{Adds, AddsPrefix}
+use Rattle.ats_io.specs.Bytes.{Adds, AddsPrefix, ConsumesAtMost}
+use Rattle.ats_io.specs.Memory.{HasMade, IsFull}
 use Rattle.command_words.specs.declared.orders.Order.{Order}
-use Rattle.ats_run.specs.declared.status.Status.{Status}
 use Rattle.ats_run.specs.declared.status.Status.TheVariants.{Done, WriteFault}
-use Rattle.ats_run.specs.Orders.{order_of, OnInput}
-use Rattle.ats_run.specs.Command.{Comes}
-use Rattle.ats_run.specs.Causes.{Call, Tells}
+use Rattle.ats_run.specs.Orders.{order_of, Reads, Holds}
+use Rattle.ats_run.specs.Causes.{Call, IsServed, Tells, most_bytes}
+use Rattle.ats_run.specs.Complete.{IsGoodInput, IsDoneOrMemory}
+use Rattle.ats_rows.specs.declared.calls.Played.{Played}
 
--- A call that has this input. What its devices did is left open.
-abbrev pub call_on : Option Order → List ℕ → Call
-call_on order input = record {
-  order = order;
+-- the bytes that were told, where they are known
+abbrev pub told_by : Played → Option (List ℕ)
+told_by played = option_map (λ told. told.items) played.told
+
+-- One of the reads with these numbers was made.
+abbrev pub HasSourceFailed : List ℕ → Played → Type 0
+HasSourceFailed reads played = HasMade reads played.reads
+
+-- One of the writes with these numbers was made, or there was no room for a further byte.
+abbrev pub HasSinkFailed : List ℕ → Played → Type 0
+HasSinkFailed writes played = HasMade writes played.writes ⊎ IsFull played.written.items
+
+-- the call of the program with these words on this input, by devices whose reads and writes with these numbers fail
+abbrev pub call_of : List Text → List ℕ → List ℕ → List ℕ → Played → Call
+call_of line input reads writes played = record {
+  order = order_of line;
   held = Some input;
-  at_end = Unit {0};
-  source_failed = Unit {0};
-  sink_failed = Unit {0};
+  at_end = played.left.items ≡ [];
+  source_failed = HasSourceFailed reads played;
+  sink_failed = HasSinkFailed writes played;
 }
 
 -- A call that ends well wrote what its order comes to on the input, and told nothing. Any other told the line of a refusal that has
--- its cause; it wrote nothing, or a first part where its sink failed.
-pub record IsPlayed (line : List Text) (input : List ℕ) (status : Status) (written : List ℕ) (told : Option (List ℕ)) : Type 0 where
-  pub done : status ≡ Done → (order : Order) × (order_of line ≡ Some order) × OnInput order (Some input) (λ bytes. Comes order bytes (Ok written))
-  pub quiet : status ≡ Done → Adds (Some []) told []
-  pub refused : status ≢ Done → Tells (call_on (order_of line) input) status ⊥ (Some []) told
-  pub nothing : status ≢ Done → status ≢ WriteFault → written ≡ []
-  pub prefix : status ≡ WriteFault → (order : Order) × (order_of line ≡ Some order)
-      × OnInput order (Some input) (λ bytes. (whole : List ℕ) × Comes order bytes (Ok whole) × AddsPrefix (Some []) (Some written) whole)
+-- its cause; it wrote nothing, or a first part where its sink failed. Where no device failed, a good input ends well, or there was no
+-- memory. What is left of the input is its rest, or all of it where nothing is to be read.
+pub record IsPlayed (line : List Text) (input reads writes : List ℕ) (played : Played) : Type 0 where
+  pub done : played.status ≡ Done → IsServed (order_of line) (Some input) (Some played.left.items) (λ whole. played.written.items ≡ whole)
+  pub quiet : played.status ≡ Done → Adds (Some []) (told_by played) []
+  pub refused : played.status ≢ Done → Tells (call_of line input reads writes played) played.status ⊥ (Some []) (told_by played)
+  pub nothing : played.status ≢ Done → played.status ≢ WriteFault → played.written.items ≡ []
+  pub prefix : played.status ≡ WriteFault
+      → IsServed (order_of line) (Some input) (Some played.left.items) (AddsPrefix (Some []) (Some played.written.items))
+  pub complete : (order : Order) (bytes : List ℕ) → order_of line ≡ Some order → Holds order (Some input) bytes → IsGoodInput order bytes
+      → (HasSourceFailed reads played → ⊥) → (HasSinkFailed writes played → ⊥) → IsDoneOrMemory played.status
+  pub untouched : IfSome (order_of line) (λ order. Reads order → ⊥) → played.left.items ≡ input
+  pub at_most : ConsumesAtMost (most_bytes + 1) (Some input) (Some played.left.items)

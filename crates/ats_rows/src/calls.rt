@@ -1,5 +1,5 @@
 // One call of the program in memory.
-ghost use Rattle.std.specs.Prelude.{◌≡◌, ◌<◌, [], Some, ℕ, List, IfOk, map, option_map, string_bytes};
+ghost use Rattle.std.specs.Prelude.{◌≡◌, ◌<◌, [], Some, IfOk, map, option_map, string_bytes};
 ghost use Rattle.ats_rows.specs.Calls.{IsPlayed};
 
 use ats_io::{MemSink, MemSource, SureSink};
@@ -15,12 +15,16 @@ pub struct Faults<'a> {
     pub writes: &'a [u64],
 }
 
-/// How a call ended, what it wrote, and what it told: `None` where that passed the room of its sink.
+/// How a call ended, what it wrote, and what it told: `None` where that passed the room of its sink. What it left of its input, and how
+/// many reads and writes it made.
 #[derive(Drop)]
 pub struct Played {
     pub status: Status,
     pub written: Vec<u8>,
     pub told: Option<Vec<u8>>,
+    pub left: Vec<u8>,
+    pub reads: u64,
+    pub writes: u64,
 }
 
 // A copy of some bytes.
@@ -40,7 +44,7 @@ fn copied_of(alloc: Global, sink: &SureSink) -> Result<Option<Vec<u8>>, AllocErr
     }
 }
 
-// The program called over these devices.
+// The program called over these devices, which are new.
 fn play_on(
     rt: &(impl Threads + Sync),
     alloc: Global,
@@ -49,14 +53,20 @@ fn play_on(
     out: &mut MemSink,
     err: &mut SureSink,
 ) -> Result<Played, AllocError>
-    ensures played { (input : List ℕ) → source.old.left ≡ input → out.old.taken ≡ [] → err.old ≡ Some []
-        → IfOk result (λ played. IsPlayed (map string_bytes line.now) input played.status played.written.items (option_map (λ told. told.items) played.told)) }
+    requires source { source.old.plan.faults ≡ 0 }
+    requires sink { out.old.plan.faults ≡ 0 }
+    requires written { out.old.taken ≡ [] }
+    requires told { err.old ≡ Some [] }
+    ensures { IfOk result (IsPlayed (map string_bytes line.now) source.old.left source.old.plan.fails out.old.plan.fails) }
 {
     let status = ats(rt, alloc, line, source, out, err);
     Ok(Played {
         status,
         written: copied(alloc, out.bytes())?,
         told: copied_of(alloc, err)?,
+        left: copied(alloc, source.left())?,
+        reads: source.calls(),
+        writes: out.calls(),
     })
 }
 
@@ -73,7 +83,7 @@ pub fn play(
     faults: Faults<'_>,
 ) -> Result<Played, AllocError>
     requires { 0 < faults.most }
-    ensures { IfOk result (λ played. IsPlayed (map string_bytes line.now) input.items played.status played.written.items (option_map (λ told. told.items) played.told)) }
+    ensures { IfOk result (IsPlayed (map string_bytes line.now) input.items faults.entry.reads.now faults.entry.writes.now) }
 {
     let mut source = MemSource::new(input, faults.most, faults.reads.to_vec(alloc)?);
     let mut out = MemSink::new(alloc, faults.most, faults.writes.to_vec(alloc)?)?;

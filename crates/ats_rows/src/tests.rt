@@ -211,13 +211,14 @@ fn what_is_stuck_is_told(rt: HostRuntime) -> Result<(), Fail> {
 #[test]
 fn a_device_that_fails_ends_the_call(rt: HostRuntime) -> Result<(), Fail> {
     let alloc = rt.alloc();
-    for (reads, writes, status, taken) in [
-        (&[0u64] as &[u64], &[] as &[u64], Status::ReadFault, 0),
-        (&[11], &[], Status::ReadFault, 0),
-        (&[], &[0], Status::WriteFault, 0),
-        (&[], &[1], Status::WriteFault, 16),
-        (&[], &[3], Status::WriteFault, 48),
-        (&[], &[4], Status::Done, 49),
+    let all = FIRST_PATH.len();
+    for (reads, writes, status, given, taken) in [
+        (&[0u64] as &[u64], &[] as &[u64], Status::ReadFault, 0, 0),
+        (&[11], &[], Status::ReadFault, 176, 0),
+        (&[], &[0], Status::WriteFault, all, 0),
+        (&[], &[1], Status::WriteFault, all, 16),
+        (&[], &[3], Status::WriteFault, all, 48),
+        (&[], &[4], Status::Done, all, 49),
     ] {
         let faults = Faults {
             most: 16,
@@ -228,6 +229,7 @@ fn a_device_that_fails_ends_the_call(rt: HostRuntime) -> Result<(), Fail> {
         let played = play(&rt, alloc, &line(alloc, "run")?, input, faults)?;
         assert!(rt; played.status == status);
         assert!(rt; Some(played.written.as_slice()) == FIRST_PATH_RUN.as_bytes().get(..taken));
+        assert!(rt; Some(played.left.as_slice()) == FIRST_PATH.as_bytes().get(given..));
     }
     Ok(())
 }

@@ -19,7 +19,7 @@ use Rattle.ats_run.proofs.Runs.{runs}
 pub drilled : (D : Doc) (trees : List Tree) (z : Yard) (lines : List Line) (K : Journal) (count nodes : ℕ) (bytes : List ℕ) → IsDoc D → length D.tables ≡ 1
     → AreAccepted D trees → IsDone (offers_of D) z → Keeps (offers_of D) z lines → Finishes (offers_of D) (opening D.start) (trains (offer (offers_of D) 0).table - 1) [] z lines
     → K ≡ journal_of lines → count ≡ length D.trains → nodes ≡ nodes_below trees (length trees)
-    → bytes ≡ drill_text count K.moves K.tables nodes → IsDrilled D bytes
+    → bytes ≡ drill_text count K.moves K.tables nodes → IsDrilled D 0 bytes
 unfolding runs
 drilled D trees z lines K count nodes bytes doc one accepted done keeps finishes is counted summed printed =
     let run = runs D trees z lines (text (names_of D) (journal_of lines)) doc accepted done finishes refl in
@@ -27,7 +27,7 @@ drilled D trees z lines K count nodes bytes doc one accepted done keeps finishes
       one_table = one;
       text = text (names_of D) (journal_of lines);
       run = run.0;
-      round = run.1;
+      by = run.1;
       moves = all_moves D z lines one done keeps finishes;
       printed = printed ∙ (λ i. drill_text (counted i) (is i).moves (is i).tables (summed i));
     }

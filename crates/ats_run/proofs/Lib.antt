@@ -1,5 +1,6 @@
 mod AcceptedInput
 mod AcceptedText
+mod Alone
 pub mod Answered
 mod CauseRows
 mod Completing

@@ -11,7 +11,7 @@ on_input (Generate s n) held P reads h = absurd reads
 on_input (Drill s n w) held P reads h = absurd reads
 on_input order held P reads h = h
 
-if_weaker : (held : Option (List ℕ)) (P Q : List ℕ → Type 0) → ((input : List ℕ) → P input → Q input) → IfSome held P → IfSome held Q
+pub if_weaker : (held : Option (List ℕ)) (P Q : List ℕ → Type 0) → ((input : List ℕ) → P input → Q input) → IfSome held P → IfSome held Q
 if_weaker None P Q f h = tt
 if_weaker (Some input) P Q f h = f input h
 

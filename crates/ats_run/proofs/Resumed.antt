@@ -30,6 +30,7 @@ use Rattle.ats_run.proofs.Runs.{goes_on_well, legal_start}
 run_of_whole : (D : Doc) (trees : List Tree) (J : Journal) (written : List ℕ) → IsDoc D → AreAccepted D trees → IsWhole (offers_of D) (opening D.start) J
     → written ≡ text (names_of D) J → IsRun D written
 run_of_whole D trees J written doc accepted whole printed = record {
+  legal_start = legal_start D doc;
   journal = J;
   trees = trees;
   accepted = accepted;
@@ -39,7 +40,7 @@ run_of_whole D trees J written doc accepted whole printed = record {
 }
 
 pub resumed_whole : (D : Doc) (trees : List Tree) (J : Journal) (given written : List ℕ) → IsDoc D → AreAccepted D trees
-    → IsWhole (offers_of D) (opening D.start) J → IsTextOf (names_of D) given J → written ≡ given → IsResumed D given written
+    → IsWhole (offers_of D) (opening D.start) J → IsTextOf (names_of D) given J → written ≡ given → IsResumed D 0 given written
 resumed_whole D trees J given written doc accepted whole text same = record {
   run = run_of_whole D trees J written doc accepted whole (same ∙ text.text);
   rest = [];
@@ -51,7 +52,7 @@ resumed_whole D trees J given written doc accepted whole text same = record {
 pub resumed_front : (D : Doc) (trees : List Tree) (front : Journal) (given written : List ℕ) (y z : Yard) (lines longer : List Line) → IsDoc D → AreAccepted D trees
     → IsFrontOf (names_of D) given front → IsRight (offers_of D) (opening D.start) front.lines → y ≡ after_lines (opening D.start) front.lines → lines ≡ front.lines
     → IsDone (offers_of D) z → Finishes (offers_of D) y (trains (offer (offers_of D) 0).table - 1) lines z longer → written ≡ text (names_of D) (journal_of longer)
-    → IsResumed D given written
+    → IsResumed D 0 given written
 resumed_front D trees front given written y z lines longer doc accepted is_front right reached same done finishes printed =
     let longer_is : longer ≡ front.lines ++ finishes.added = finishes.adds ∙ ap (λ (ls : List Line). ls ++ finishes.added) same in
     let added_right = subst (λ (w : Yard). IsRight (offers_of D) w finishes.added) reached (round_right (offers_of D) y _ finishes.added finishes.round) in
@@ -73,7 +74,7 @@ resumed_front D trees front given written y z lines longer doc accepted is_front
         is_front,
         record {
           added = finishes.added;
-          round = subst (λ (w : Yard). IsRound (offers_of D) w (trains (offer (offers_of D) 0).table - 1) finishes.added) reached finishes.round;
+          by = subst (λ (w : Yard). IsRound (offers_of D) w (trains (offer (offers_of D) 0).table - 1) finishes.added) reached finishes.round;
           printed = printed ∙ ap (λ (ls : List Line). text (names_of D) (journal_of ls)) longer_is;
         },
       );

@@ -15,7 +15,7 @@ use Rattle.layout_json.specs.Doc.{IsDoc, offers_of, names_of}
 use Rattle.layout_json.specs.Reading.{doc_of}
 use Rattle.layout_json.proofs.FormedDoc.{read-is-formed}
 use Rattle.ats_run.specs.Command.{Comes}
-use Rattle.ats_run.specs.Headline.{IsRun, IsRoundRobin}
+use Rattle.ats_run.specs.Headline.{IsRun, IsRoundRobin, IsRunBy}
 use Rattle.ats_run.specs.Journals.{IsCut, document_part, journal_part}
 use Rattle.ats_run.proofs.Runs.{goes_on_well}
 use Rattle.ats_run.proofs.Samples.{table, good, the_only, trees, accepted}
@@ -71,6 +71,7 @@ run_text = codes "1 move T0 A B\nend moves=1 tables=0\n"
 is_run : IsDoc good → IsRun good run_text
 unfolding digits
 is_run formed = record {
+  legal_start = legal_at 0 (lit≤ tt);
   journal = journal;
   trees = trees;
   accepted = accepted;
@@ -79,8 +80,12 @@ is_run formed = record {
   printed = refl;
 }
 
-is_round_robin : IsRoundRobin good journal
+is_round_robin : IsRoundRobin good (opening (0 ∷ [])) lines
 is_round_robin = round
+
+-- of what a worker does nothing more is said
+by_a_worker : IsRunBy good 1 (opening (0 ∷ [])) []
+by_a_worker = tt
 
 run : (input : List ℕ) → doc_of input ≡ Ok good → Comes (Run 0 5) input (Ok run_text)
 unfolding is_run
@@ -123,7 +128,7 @@ resumed input k cut read none = (
       run = is_run (read-is-formed (document_part input k) good read).is;
       rest = run_text;
       begins = sym (ap (λ (xs : List ℕ). xs ++ run_text) none);
-      continued = inr (nothing, is_front (journal_part input k) none, record { added = lines; round = round; printed = refl });
+      continued = inr (nothing, is_front (journal_part input k) none, record { added = lines; by = round; printed = refl });
     },
   ),
 )

@@ -56,7 +56,7 @@ goes_on_well D trees lines doc accepted right front later split =
 -- what the finish of a document's run gives
 unfoldable pub runs : (D : Doc) (trees : List Tree) (z : Yard) (lines : List Line) (written : List ℕ) → IsDoc D → AreAccepted D trees → IsDone (offers_of D) z
     → Finishes (offers_of D) (opening D.start) (trains (offer (offers_of D) 0).table - 1) [] z lines → written ≡ text (names_of D) (journal_of lines)
-    → (run : IsRun D written) × IsRoundRobin D run.journal
+    → (run : IsRun D written) × IsRoundRobin D (opening D.start) run.journal.lines
 runs D trees z lines written doc accepted done finishes printed =
     let run : Keeps (offers_of D) z lines = record {
       are = doc.tables;
@@ -66,6 +66,7 @@ runs D trees z lines written doc accepted done finishes printed =
       reached = finishes.after ∙ ap (after_lines (opening D.start)) (sym finishes.adds);
     } in (
       record {
+        legal_start = legal_start D doc;
         journal = journal_of lines;
         trees = trees;
         accepted = accepted;

@@ -1,16 +1,19 @@
 -- What an order writes that writes a document.
 use Rattle.std.proofs.Common.{◌≡◌, ℕ, List, Option, Some, sym, ◌∙◌, subst}
-use Rattle.std.specs.Prelude.{Ok}
+use Rattle.std.specs.Prelude.{Ok, IfSome}
 use Rattle.command_words.specs.declared.orders.Order.{Order}
-use Rattle.command_words.specs.declared.orders.Order.TheVariants.{Make, Derive, Repair, Generate}
+use Rattle.command_words.specs.declared.orders.Order.TheVariants.{Run, Make, Derive, Repair, Generate}
 use Rattle.layout_json.specs.Replaced.{replaced}
-use Rattle.ats_run.specs.Command.{Comes}
+use Rattle.rail_model.specs.Yard.{opening}
+use Rattle.ats_run.specs.Causes.{IsServed}
+use Rattle.ats_run.specs.Command.{Comes, IsDocWith}
 use Rattle.ats_run.specs.Complete.{IsAcceptedInput}
 use Rattle.ats_run.specs.Generating.{full_budget}
+use Rattle.ats_run.specs.Headline.{IsRun, IsRoundRobin}
 use Rattle.ats_run.specs.Making.{trees_in}
 use Rattle.ats_run.specs.Orders.{OnInput, MakesCertificates}
 use Rattle.ats_run.proofs.AcceptedText.{accepted_input, made_input}
-use Rattle.ats_run.proofs.Reading.{on_weaker}
+use Rattle.ats_run.proofs.Reading.{if_weaker, on_weaker}
 
 -- a document whose tables accept their certificates
 pub writes_accepted : (order : Order) (input written : List ℕ) → MakesCertificates order → Comes order input (Ok written) → IsAcceptedInput written
@@ -29,12 +32,25 @@ written_of order held Taken w h =
     (λ input. (written : List ℕ) × IsAcceptedInput written × Taken written)
     (λ input k. (k.0, writes_accepted order input k.0 w k.1, k.2)) h
 
--- of the order that was asked for
-pub documents : (asked : Option Order) (held : Option (List ℕ)) (Read : Order → Type 0) (Taken : List ℕ → Type 0) (order : Order) → asked ≡ Some order → MakesCertificates order
-    → (o : Order) × (asked ≡ Some o) × Read o × OnInput o held (λ input. (written : List ℕ) × Comes o input (Ok written) × Taken written)
-    → OnInput order held (λ input. (written : List ℕ) × IsAcceptedInput written × Taken written)
-documents asked held Read Taken order is w done =
-    let both = sym done.1 ∙ is in
-    let same : done.0 ≡ order = cc in
-    written_of order held Taken w
-    (subst (λ (o : Order). OnInput o held (λ input. (written : List ℕ) × Comes o input (Ok written) × Taken written)) same done.3)
+module _ (asked : Option Order) (held left : Option (List ℕ)) (Taken : List ℕ → Type 0) where
+  -- what the order comes to that was asked for was taken
+  served : (order : Order) → asked ≡ Some order → IsServed asked held left Taken
+      → OnInput order held (λ input. (written : List ℕ) × Comes order input (Ok written) × Taken written)
+  served order is done =
+      let both = sym done.1 ∙ is in
+      let same : done.0 ≡ order = cc in
+      subst (λ (o : Order). OnInput o held (λ input. (written : List ℕ) × Comes o input (Ok written) × Taken written)) same done.3
+
+  pub documents : (order : Order) → asked ≡ Some order → MakesCertificates order → IsServed asked held left Taken
+      → OnInput order held (λ input. (written : List ℕ) × IsAcceptedInput written × Taken written)
+  documents order is w done = written_of order held Taken w (served order is done)
+
+  -- a run, whatever made its lines
+  pub runs : (workers rounds : ℕ) → asked ≡ Some (Run workers rounds) → IsServed asked held left Taken
+      → IfSome held (λ input. (written : List ℕ) × IsDocWith input (λ D. IsRun D written) × Taken written)
+  runs workers rounds is done = if_weaker held _ _ (λ input k. (k.0, (k.1.0, k.1.1, k.1.2.0), k.2)) (served (Run workers rounds) is done)
+
+  -- a run on one thread
+  pub runs_alone : (rounds : ℕ) → asked ≡ Some (Run 0 rounds) → IsServed asked held left Taken
+      → IfSome held (λ input. (written : List ℕ) × IsDocWith input (λ D. (run : IsRun D written) × IsRoundRobin D (opening D.start) run.journal.lines) × Taken written)
+  runs_alone rounds is done = served (Run 0 rounds) is done

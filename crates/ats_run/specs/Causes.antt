@@ -1,5 +1,6 @@
 -- Why a call may end with a refusal, and what it then tells.
-use Rattle.std.specs.Prelude.{◌≡◌, ◌⊎◌, ℕ, ◌<◌, ◌≤◌, List, length, Option, Some, None, Err, IfSome}
+use Rattle.std.specs.Prelude.{◌≡◌, ◌⊎◌, ℕ, ◌<◌, ◌≤◌, List, length, Option, Some, None, Ok, Err, IfSome}
+use Rattle.std.specs.Io.KnownBytes.{IsAtEnd}
 use Rattle.ats_io.specs.Bytes.{Adds, AddsPrefix}
 use Rattle.command_words.specs.declared.orders.Order.{Order}
 use Rattle.ats_run.specs.declared.status.Status.{Status}
@@ -33,6 +34,13 @@ IsReadWhole order held at_end = Reads order → at_end × IfSome held (λ input.
 
 abbrev pub IsRead : Call → Order → Type 0
 IsRead call order = IsReadWhole order call.held call.at_end
+
+-- The words ask for an order, what it reads was read whole, and it comes to bytes of which the fact holds. The source held these bytes,
+-- and has these left.
+abbrev pub IsServed : Option Order → Option (List ℕ) → Option (List ℕ) → (List ℕ → Type 0) → Type 0
+IsServed asked held left Taken =
+    (order : Order) × (asked ≡ Some order) × IsReadWhole order held (IsAtEnd left)
+    × OnInput order held (λ input. (written : List ℕ) × Comes order input (Ok written) × Taken written)
 
 -- The cause of a refusal. Want of memory alone is free. What isn't of the words or of the source comes only after the input was read
 -- whole.

@@ -6,6 +6,7 @@ use Rattle.move_journal.specs.declared.faults.BadText.{BadText}
 use Rattle.move_journal.specs.declared.faults.BadText.TheVariants.{NoEnd}
 use Rattle.move_journal.specs.declared.faults.BadLine.{BadLine}
 use Rattle.document_generator.specs.Generated.{generated}
+use Rattle.rail_model.specs.Yard.{opening}
 use Rattle.layout_json.specs.Doc.{Doc}
 use Rattle.layout_json.specs.Trees.{IsNoTree}
 use Rattle.layout_json.specs.Reading.{doc_of}
@@ -16,7 +17,7 @@ use Rattle.ats_run.specs.Certificates.{IsBadTable}
 use Rattle.ats_run.specs.Checking.{IsChecked}
 use Rattle.ats_run.specs.Journals.{IsCut, HasNoCut, document_part, journal_part, IsVerified, IsUnreadable, IsUnverified, IsResumed, IsUnresumed}
 use Rattle.ats_run.specs.Generating.{full_budget, IsDrilled}
-use Rattle.ats_run.specs.Headline.{IsRun, IsRoundRobin}
+use Rattle.ats_run.specs.Headline.{IsRun, IsRunBy}
 use Rattle.ats_run.specs.Deriving.{IsDerived, IsUnderived}
 use Rattle.ats_run.specs.Making.{tables_in, IsMade, IsUnmade}
 use Rattle.ats_run.specs.Migrating.{IsMigratedText}
@@ -58,9 +59,9 @@ IsVerifiedInput input written = IsPairWith input (λ D given. IsVerified D given
 abbrev pub IsUnverifiedInput : List ℕ → Failure → Type 0
 IsUnverifiedInput input e = IsRefusedPair IsUnreadable IsUnverified input e
 
--- The input is a document and a journal or its front, from which its run goes on.
-abbrev pub IsResumedInput : List ℕ → List ℕ → Type 0
-IsResumedInput input written = IsPairWith input (λ D given. IsResumed D given written)
+-- The input is a document and a journal or its front, from which its run goes on by so many workers.
+abbrev pub IsResumedInput : ℕ → List ℕ → List ℕ → Type 0
+IsResumedInput workers input written = IsPairWith input (λ D given. IsResumed D workers given written)
 
 -- Why it isn't.
 abbrev pub IsUnresumedInput : List ℕ → Failure → Type 0
@@ -78,20 +79,20 @@ IsUnderivedInput input most budget e = IsNoDoc input e ⊎ IsDocWith input (λ D
 abbrev pub IsUnrepairedInput : List ℕ → ℕ → ℕ → Failure → Type 0
 IsUnrepairedInput input budget rounds e = IsNoDoc input e ⊎ IsDocWith input (λ D. IsUnrepaired D budget rounds e)
 
--- The certificates of the document are made, and the run of the document so made is counted.
-abbrev pub IsDrilledInput : List ℕ → List ℕ → Type 0
-IsDrilledInput input written =
-    (made : List ℕ) × IsDocWith input (λ D. IsMade D full_budget made) × IsDocWith made (λ D. IsDrilled D written)
+-- The certificates of the document are made, and the run of the document so made, by so many workers, is counted.
+abbrev pub IsDrilledInput : ℕ → List ℕ → List ℕ → Type 0
+IsDrilledInput workers input written =
+    (made : List ℕ) × IsDocWith input (λ D. IsMade D full_budget made) × IsDocWith made (λ D. IsDrilled D workers written)
 
 -- What a command comes to.
 abbrev pub Comes : Order → List ℕ → Result (List ℕ) Failure → Type 0
-Comes (Run workers rounds) input (Ok written) = IsDocWith input (λ D. (run : IsRun D written) × IsRoundRobin D run.journal)
+Comes (Run workers rounds) input (Ok written) = IsDocWith input (λ D. (run : IsRun D written) × IsRunBy D workers (opening D.start) run.journal.lines)
 Comes (Run workers rounds) input (Err e) = IsUnchecked input e
 Comes Check input (Ok written) = IsDocWith input (λ D. IsChecked D written)
 Comes Check input (Err e) = IsUnchecked input e
 Comes Verify input (Ok written) = IsVerifiedInput input written
 Comes Verify input (Err e) = IsUnverifiedInput input e
-Comes (Resume workers rounds) input (Ok written) = IsResumedInput input written
+Comes (Resume workers rounds) input (Ok written) = IsResumedInput workers input written
 Comes (Resume workers rounds) input (Err e) = IsUnresumedInput input e
 Comes Migrate input (Ok written) = IsDocWith input (λ D. IsMigratedText D written)
 Comes Migrate input (Err e) = IsNoDoc input e
@@ -105,5 +106,5 @@ Comes Simulate input (Ok written) = IsDocWith input (λ D. IsSimulated D written
 Comes Simulate input (Err e) = IsUnchecked input e
 Comes (Generate seed trains) input (Ok written) = IsDocWith (generated seed trains) (λ D. IsMade D full_budget written)
 Comes (Generate seed trains) input (Err e) = IsUnmadeInput (generated seed trains) full_budget e
-Comes (Drill seed trains workers) input (Ok written) = IsDrilledInput (generated seed trains) written
+Comes (Drill seed trains workers) input (Ok written) = IsDrilledInput workers (generated seed trains) written
 Comes (Drill seed trains workers) input (Err e) = IsUnmadeInput (generated seed trains) full_budget e

@@ -1,7 +1,8 @@
 -- What a run that ends well has written.
-use Rattle.std.specs.Prelude.{◌≡◌, ◌-◌, ℕ, List, ◌++◌}
+use Rattle.std.specs.Prelude.{◌≡◌, ◌-◌, ℕ, zero, suc, List, ◌++◌}
 use Rattle.rail_model.specs.declared.types.Line.{Line}
 use Rattle.rail_model.specs.Table.{trains}
+use Rattle.rail_model.specs.State.{Legal}
 use Rattle.rail_model.specs.Move.{Completes}
 use Rattle.rail_model.specs.Certificate.{Tree}
 use Rattle.rail_model.specs.Yard.{Offer, Yard, opening, offer, in_force}
@@ -9,14 +10,15 @@ use Rattle.rail_model.specs.Journal.{Journal, IsWhole, IsRound, after_lines, tex
 use Rattle.layout_json.specs.Doc.{Doc, offers_of, names_of}
 use Rattle.ats_run.specs.Certificates.{AreAccepted}
 
--- From the state after any first lines on, each legal way of going on ends with all trains arrived after just the remaining moves.
+-- From the state after any first lines on, each legal way of going on ends with all trains arrived after exactly the remaining moves.
 abbrev pub GoesOnWell : List Offer → Yard → List Line → Type 0
 GoesOnWell tables y lines = (front later : List Line) → lines ≡ front ++ later
     → Completes (in_force tables (after_lines y front)) (after_lines y front).positions
 
--- The bytes are the text of one whole journal of the document: from its start until all trains have arrived and each table was
--- tried, each table with a certificate that it accepts; and from every state on it every way of going on ends well.
+-- The bytes are the text of one whole journal of the document: from its start, which is legal, until all trains have arrived and each
+-- table was tried, each table with a certificate that it accepts; and from every state on it every way of going on ends well.
 pub record IsRun (D : Doc) (written : List ℕ) : Type 0 where
+  pub legal_start : Legal (in_force (offers_of D) (opening D.start)) D.start
   pub journal : Journal
   pub trees : List Tree
   pub accepted : AreAccepted D trees
@@ -24,6 +26,11 @@ pub record IsRun (D : Doc) (written : List ℕ) : Type 0 where
   pub goes_on_well : GoesOnWell (offers_of D) (opening D.start) journal.lines
   pub printed : written ≡ text (names_of D) journal
 
--- The lines of the journal are those of the round robin from the start.
-abbrev pub IsRoundRobin : Doc → Journal → Type 0
-IsRoundRobin D journal = IsRound (offers_of D) (opening D.start) (trains (offer (offers_of D) 0).table - 1) journal.lines
+-- The lines are those of the round robin from a state on, in which train 0 is the first to be asked.
+abbrev pub IsRoundRobin : Doc → Yard → List Line → Type 0
+IsRoundRobin D y lines = IsRound (offers_of D) y (trains (offer (offers_of D) 0).table - 1) lines
+
+-- The lines go on from a state by so many workers: without any by the round robin. Of lines that workers make nothing more is said.
+abbrev pub IsRunBy : Doc → ℕ → Yard → List Line → Type 0
+IsRunBy D zero y lines = IsRoundRobin D y lines
+IsRunBy D (suc more) y lines = Unit {0}

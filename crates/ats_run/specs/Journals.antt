@@ -2,12 +2,11 @@
 use Rattle.std.specs.Prelude.{◌≡◌, ◌≢◌, ◌⊎◌, ℕ, ◌+◌, ◌-◌, List, ◌++◌, length, take, drop, codes, decimal}
 use Rattle.memchr.specs.Find.{OccursAt}
 use Rattle.rail_model.specs.declared.types.Line.{Line as Step}
-use Rattle.rail_model.specs.Table.{trains}
 use Rattle.rail_model.specs.Move.{IsFirst}
 use Rattle.rail_model.specs.Certificate.{Tree}
-use Rattle.rail_model.specs.Yard.{Offer, Yard, opening, offer}
+use Rattle.rail_model.specs.Yard.{Offer, Yard, opening}
 use Rattle.rail_model.specs.Names.{Names}
-use Rattle.rail_model.specs.Journal.{Journal, IsWhole, IsRound, after_lines, text}
+use Rattle.rail_model.specs.Journal.{Journal, IsWhole, after_lines, text}
 use Rattle.move_journal.specs.declared.faults.BadText.{BadText}
 use Rattle.move_journal.specs.declared.faults.BadText.TheVariants.{NoEnd}
 use Rattle.move_journal.specs.declared.faults.BadLine.{BadLine}
@@ -18,7 +17,7 @@ use Rattle.layout_json.specs.Doc.{Doc, IsDoc, offers_of, names_of}
 use Rattle.ats_run.specs.declared.failure.Failure.{Failure}
 use Rattle.ats_run.specs.declared.failure.Failure.TheVariants.{Line, Text}
 use Rattle.ats_run.specs.Certificates.{AreAccepted}
-use Rattle.ats_run.specs.Headline.{IsRun}
+use Rattle.ats_run.specs.Headline.{IsRun, IsRunBy}
 
 -- the line that parts a document from a journal, with the newline before it
 abbrev pub mark : List ℕ
@@ -87,24 +86,24 @@ pub record IsUnverified (D : Doc) (given : List ℕ) (cause : BadLine) : Type 0 
   pub text : IsTextOf (names_of D) given journal
   pub fault : IsNotWhole (offers_of D) (opening D.start) journal cause
 
--- The bytes are the text of lines that go on from a front with the round robin.
-pub record GoesOnFrom (D : Doc) (front : Journal) (written : List ℕ) : Type 0 where
+-- The bytes are the text of a front and of lines that go on from its state, by so many workers.
+pub record GoesOnFrom (D : Doc) (workers : ℕ) (front : Journal) (written : List ℕ) : Type 0 where
   pub added : List Step
-  pub round : IsRound (offers_of D) (after_lines (opening D.start) front.lines) (trains (offer (offers_of D) 0).table - 1) added
+  pub by : IsRunBy D workers (after_lines (opening D.start) front.lines) added
   pub printed : written ≡ text (names_of D) (journal_of (front.lines ++ added))
 
--- The given bytes are a journal's text and were written as they are, or they are a front, from whose state the round robin goes on.
-abbrev pub IsContinued : Doc → List ℕ → List ℕ → Type 0
-IsContinued D given written =
+-- The given bytes are a journal's text and were written as they are, or they are a front, from whose state the run goes on.
+abbrev pub IsContinued : Doc → ℕ → List ℕ → List ℕ → Type 0
+IsContinued D workers given written =
     (((journal : Journal) × IsTextOf (names_of D) given journal) × (written ≡ given))
-    ⊎ ((front : Journal) × IsFrontOf (names_of D) given front × GoesOnFrom D front written)
+    ⊎ ((front : Journal) × IsFrontOf (names_of D) given front × GoesOnFrom D workers front written)
 
 -- What `resume` writes: the text of one whole run of the document, that begins with the given text.
-pub record IsResumed (D : Doc) (given written : List ℕ) : Type 0 where
+pub record IsResumed (D : Doc) (workers : ℕ) (given written : List ℕ) : Type 0 where
   pub run : IsRun D written
   pub rest : List ℕ
   pub begins : written ≡ given ++ rest
-  pub continued : IsContinued D given written
+  pub continued : IsContinued D workers given written
 
 -- The bytes are the text of a journal that isn't whole, for the first cause, or a front with a first line that isn't right.
 pub record IsUnresumed (D : Doc) (given : List ℕ) (cause : BadLine) : Type 0 where

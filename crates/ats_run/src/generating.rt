@@ -34,7 +34,7 @@ pub fn generate(alloc: Global, seed: u32, trains: u32) -> Result<Vec<u8>, Failur
     make(alloc, &document, FULL_BUDGET)
 }
 
-/// The counts of the run of a generated document.
+/// The counts of the run of a generated document on one thread.
 pub fn drill(
     rt: &(impl Threads + Sync),
     alloc: Global,
@@ -42,7 +42,7 @@ pub fn drill(
     trains: u32,
 ) -> Result<Vec<u8>, Failure>
     requires { trains ≤ 32 }
-    ensures drilled { IfOk result (λ text. IsDrilledInput (generated seed trains) text.items) }
+    ensures drilled { IfOk result (λ text. IsDrilledInput 0 (generated seed trains) text.items) }
 
     ensures unmade { IfErr result (λ e. (e ≡ NoMemory) ⊎ IsUnmadeInput (generated seed trains) full_budget e) }
 {
@@ -58,7 +58,7 @@ fn drill_document(
 ) -> Result<Vec<u8>, Failure>
     requires one_table { IsDocWith input.now (λ D. length D.tables ≡ 1) }
     requires accepted { IsAcceptedInput input.now }
-    ensures drilled { IfOk result (λ text. IsDocWith input.now (λ D. IsDrilled D text.items)) }
+    ensures drilled { IfOk result (λ text. IsDocWith input.now (λ D. IsDrilled D 0 text.items)) }
 
     ensures memory { IfErr result (λ e. e ≡ NoMemory) }
 {
@@ -73,7 +73,7 @@ fn drill_checked(alloc: Global, checked: &Checked) -> Result<Vec<u8>, AllocError
     requires accepted { AreAccepted checked.now.doc checked.now.certs.items }
     requires few { length checked.now.certs.items ≤ 16 }
     requires one_table { length checked.now.doc.tables ≡ 1 }
-    ensures { IfOk result (λ text. IsDrilled checked.now.doc text.items) }
+    ensures { IfOk result (λ text. IsDrilled checked.now.doc 0 text.items) }
 {
     let state = finish(alloc, &checked.doc, &checked.tables)?;
     let (_, lines) = state.into_parts();

@@ -22,9 +22,9 @@ use rail_model::PlainState;
 use std::alloc::Global;
 use std::thread::Threads;
 
-/// The text of the run that goes on from a journal, or the journal as it is where it is whole.
+/// The text of the run that goes on from a journal on one thread, or the journal as it is where it is whole.
 pub fn resume(rt: &(impl Threads + Sync), alloc: Global, input: &[u8]) -> Result<Vec<u8>, Failure>
-    ensures resumed { IfOk result (λ text. IsResumedInput input.now text.items) }
+    ensures resumed { IfOk result (λ text. IsResumedInput 0 input.now text.items) }
 
     ensures refused { IfErr result (λ e. (e ≡ NoMemory) ⊎ IsUnresumedInput input.now e) }
 {
@@ -59,7 +59,7 @@ fn keep(
 ) -> Result<Vec<u8>, Failure>
     requires tables { tables.now ≡ offers_of doc.now }
     requires text { IsTextOf (names_of doc.now) given.now journal.now }
-    ensures resumed { IfOk result (λ text. (trees : List Tree) → AreAccepted doc.now trees → IsResumed doc.now given.now text.items) }
+    ensures resumed { IfOk result (λ text. (trees : List Tree) → AreAccepted doc.now trees → IsResumed doc.now 0 given.now text.items) }
 
     ensures refused { IfErr result (λ e. (e ≡ NoMemory) ⊎ IsLineFault (offers_of doc.now) (opening doc.now.start) journal.now e) }
 {
@@ -77,7 +77,7 @@ fn go_on(
 ) -> Result<Vec<u8>, Failure>
     requires tables { tables.now ≡ offers_of doc.now }
     requires text { IsFrontOf (names_of doc.now) given.now front.now }
-    ensures resumed { IfOk result (λ text. (trees : List Tree) → AreAccepted doc.now trees → IsResumed doc.now given.now text.items) }
+    ensures resumed { IfOk result (λ text. (trees : List Tree) → AreAccepted doc.now trees → IsResumed doc.now 0 given.now text.items) }
 
     ensures refused { IfErr result (λ e. (e ≡ NoMemory) ⊎ IsFrontFault (offers_of doc.now) (opening doc.now.start) front.now e) }
 {

@@ -25,7 +25,7 @@ use std::thread::Threads;
 
 /// The text of the journal of a document's run on one thread.
 pub fn run(rt: &(impl Threads + Sync), alloc: Global, input: &[u8]) -> Result<Vec<u8>, Failure>
-    ensures run { IfOk result (λ text. IsDocWith input.now (λ D. (run : IsRun D text.items) × IsRoundRobin D run.journal)) }
+    ensures run { IfOk result (λ text. IsDocWith input.now (λ D. (run : IsRun D text.items) × IsRoundRobin D (opening D.start) run.journal.lines)) }
 
     ensures unchecked { IfErr result (λ e. (e ≡ NoMemory) ⊎ IsUnchecked input.now e) }
 {
@@ -37,7 +37,7 @@ pub fn run(rt: &(impl Threads + Sync), alloc: Global, input: &[u8]) -> Result<Ve
 // The run of a document under its tables, each of which accepts its certificate.
 fn run_checked(alloc: Global, doc: &Doc, tables: &[Accepted]) -> Result<Vec<u8>, AllocError>
     requires { tables.now ≡ offers_of doc.now }
-    ensures run { IfOk result (λ text. (trees : List Tree) → AreAccepted doc.now trees → (run : IsRun doc.now text.items) × IsRoundRobin doc.now run.journal) }
+    ensures run { IfOk result (λ text. (trees : List Tree) → AreAccepted doc.now trees → (run : IsRun doc.now text.items) × IsRoundRobin doc.now (opening doc.now.start) run.journal.lines) }
 {
     let state = finish(alloc, doc, tables)?;
     text_of_run(alloc, doc, state)

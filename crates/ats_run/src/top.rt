@@ -9,8 +9,9 @@ ghost use Rattle.command_words.specs.declared.orders.Order.{Order as OrderValue}
 ghost use Rattle.command_words.specs.declared.orders.Order.TheVariants.{Run};
 ghost use Rattle.ats_run.specs.Command.{Comes, IsDocWith};
 ghost use Rattle.ats_run.specs.Complete.{IsAcceptedInput, IsGoodInput, IsDoneOrMemory};
+ghost use Rattle.rail_model.specs.Yard.{opening};
 ghost use Rattle.ats_run.specs.Headline.{IsRun, IsRoundRobin};
-ghost use Rattle.ats_run.specs.Causes.{Call, IsReadWhole, IsCause, IsUnread, IsUnwritten, Tells, most_bytes};
+ghost use Rattle.ats_run.specs.Causes.{Call, IsReadWhole, IsServed, IsCause, IsUnread, IsUnwritten, Tells, most_bytes};
 ghost use Rattle.ats_run.specs.Ending.{status_of};
 ghost use Rattle.ats_run.specs.Report.{line_of as line_of_failure, IsLineMade};
 
@@ -33,6 +34,7 @@ fn read_input<S: Source>(alloc: Global, source: &mut S) -> Result<Vec<u8>, Failu
     ensures unread { IfErr result (IsUnread (S.left source.old) (Rose (S.faults source.old) (S.faults source.new))) }
 
     ensures at_most { ConsumesAtMost (most_bytes + 1) (S.left source.old) (S.left source.new) }
+    ensures same_plan { S.planned source.new ≡ S.planned source.old }
 {
     match read_all(alloc, source, MOST_BYTES) {
         Ok(bytes) => Ok(bytes),
@@ -56,6 +58,8 @@ fn write_answer<K: Sink>(
     ensures failed { IfErr result (IsUnwritten order input.now (Rose (K.faults out.old) (K.faults out.new))) }
     ensures nothing { IfErr result (λ e. e ≢ Failure.WriteFault → Adds (K.taken out.old) (K.taken out.new) []) }
     ensures prefix { result ≡ Err Failure.WriteFault → (written : List ℕ) × Comes order input.now (Ok written) × AddsPrefix (K.taken out.old) (K.taken out.new) written }
+
+    ensures same_plan { K.planned out.new ≡ K.planned out.old }
 {
     let text = answer(rt, alloc, order, input)?;
     match write_all(out, &text) {
@@ -90,6 +94,7 @@ fn serve<S: Source, K: Sink>(
         (λ input. (written : List ℕ) × Comes order input (Ok written) × AddsPrefix (K.taken out.old) (K.taken out.new) written) }
 
     ensures at_most { ConsumesAtMost (most_bytes + 1) (S.left source.old) (S.left source.new) }
+    ensures same_plans { (S.planned source.new ≡ S.planned source.old) × (K.planned out.new ≡ K.planned out.old) }
 {
     let bytes = read_input(alloc, source)?;
     write_answer(rt, alloc, order, &bytes, out)
@@ -110,8 +115,7 @@ fn serve_words<S: Source, K: Sink>(
     source: &mut S,
     out: &mut K,
 ) -> Result<(), Failure>
-    ensures done { OnOk result ((order : OrderValue) × (order_of (map string_bytes line.now) ≡ Some order) × IsReadWhole order (S.left source.old) (IsAtEnd (S.left source.new))
-        × OnInput order (S.left source.old) (λ input. (written : List ℕ) × Comes order input (Ok written) × Adds (K.taken out.old) (K.taken out.new) written)) }
+    ensures done { OnOk result (IsServed (order_of (map string_bytes line.now)) (S.left source.old) (S.left source.new) (Adds (K.taken out.old) (K.taken out.new))) }
 
     ensures cause { IfErr result (IsCause (record {
       order = order_of (map string_bytes line.now);
@@ -121,11 +125,12 @@ fn serve_words<S: Source, K: Sink>(
       sink_failed = Rose (K.faults out.old) (K.faults out.new);
     })) }
     ensures nothing { IfErr result (λ e. e ≢ Failure.WriteFault → Adds (K.taken out.old) (K.taken out.new) []) }
-    ensures prefix { result ≡ Err Failure.WriteFault → (order : OrderValue) × (order_of (map string_bytes line.now) ≡ Some order) × IsReadWhole order (S.left source.old) (IsAtEnd (S.left source.new))
-        × OnInput order (S.left source.old) (λ input. (written : List ℕ) × Comes order input (Ok written) × AddsPrefix (K.taken out.old) (K.taken out.new) written) }
+    ensures prefix { result ≡ Err Failure.WriteFault
+        → IsServed (order_of (map string_bytes line.now)) (S.left source.old) (S.left source.new) (AddsPrefix (K.taken out.old) (K.taken out.new)) }
 
     ensures untouched { IfSome (order_of (map string_bytes line.now)) (λ order. Reads order → ⊥) → source.new ≡ source.old }
     ensures at_most { ConsumesAtMost (most_bytes + 1) (S.left source.old) (S.left source.new) }
+    ensures same_plans { (S.planned source.new ≡ S.planned source.old) × (K.planned out.new ≡ K.planned out.old) }
 {
     match words(alloc, line) {
         Ok(order) if is_reading(order) => serve(rt, alloc, order, source, out),
@@ -182,12 +187,16 @@ pub fn ats<S: Source, K: Sink, E: Sink>(
 ) -> Status
     // A run that ends well: the text of one whole journal of checked tables, from every state of which each way of going on ends well.
     ensures headline { (workers rounds : ℕ) → result ≡ Status.Done → order_of (map string_bytes line.now) ≡ Some (Run workers rounds)
-        → IfSome (S.left source.old) (λ input. (written : List ℕ) × IsDocWith input (λ D. (run : IsRun D written) × IsRoundRobin D run.journal)
-        × Adds (K.taken out.old) (K.taken out.new) written) }
+        → IfSome (S.left source.old) (λ input. (written : List ℕ) × IsDocWith input (λ D. IsRun D written) × Adds (K.taken out.old) (K.taken out.new) written) }
+
+    // Without workers its lines are those of the round robin from the start.
+    ensures round_robin { (rounds : ℕ) → result ≡ Status.Done → order_of (map string_bytes line.now) ≡ Some (Run 0 rounds)
+        → IfSome (S.left source.old) (λ input. (written : List ℕ)
+        × IsDocWith input (λ D. (run : IsRun D written) × IsRoundRobin D (opening D.start) run.journal.lines) × Adds (K.taken out.old) (K.taken out.new) written) }
 
     // Every command that ends well has read all that it reads, has written what it comes to on these bytes, and told nothing.
-    ensures done { result ≡ Status.Done → (order : OrderValue) × (order_of (map string_bytes line.now) ≡ Some order) × IsReadWhole order (S.left source.old) (IsAtEnd (S.left source.new))
-        × OnInput order (S.left source.old) (λ input. (written : List ℕ) × Comes order input (Ok written) × Adds (K.taken out.old) (K.taken out.new) written) }
+    ensures done { result ≡ Status.Done
+        → IsServed (order_of (map string_bytes line.now)) (S.left source.old) (S.left source.new) (Adds (K.taken out.old) (K.taken out.new)) }
     ensures quiet { result ≡ Status.Done → Adds (E.taken err.old) (E.taken err.new) [] }
 
     // What make, derive, repair and gen write is a document whose every table accepts its certificate.
@@ -203,8 +212,8 @@ pub fn ats<S: Source, K: Sink, E: Sink>(
       sink_failed = Rose (K.faults out.old) (K.faults out.new);
     }) result (Rose (E.faults err.old) (E.faults err.new)) (E.taken err.old) (E.taken err.new) }
     ensures nothing { result ≢ Status.Done → result ≢ Status.WriteFault → Adds (K.taken out.old) (K.taken out.new) [] }
-    ensures prefix { result ≡ Status.WriteFault → (order : OrderValue) × (order_of (map string_bytes line.now) ≡ Some order) × IsReadWhole order (S.left source.old) (IsAtEnd (S.left source.new))
-        × OnInput order (S.left source.old) (λ input. (written : List ℕ) × Comes order input (Ok written) × AddsPrefix (K.taken out.old) (K.taken out.new) written) }
+    ensures prefix { result ≡ Status.WriteFault
+        → IsServed (order_of (map string_bytes line.now)) (S.left source.old) (S.left source.new) (AddsPrefix (K.taken out.old) (K.taken out.new)) }
 
     // Where no device fails, a good input ends well, or there was no memory.
     ensures complete { (order : OrderValue) (input : List ℕ) → order_of (map string_bytes line.now) ≡ Some order → Holds order (S.left source.old) input
@@ -214,6 +223,9 @@ pub fn ats<S: Source, K: Sink, E: Sink>(
     // The source isn't touched where the words are refused or what they ask for reads nothing.
     ensures untouched { IfSome (order_of (map string_bytes line.now)) (λ order. Reads order → ⊥) → source.new ≡ source.old }
     ensures at_most { ConsumesAtMost (most_bytes + 1) (S.left source.old) (S.left source.new) }
+
+    // Which calls of the devices are to fail stays, where they tell it.
+    ensures same_plans { (S.planned source.new ≡ S.planned source.old) × (K.planned out.new ≡ K.planned out.old) }
 {
     match serve_words(rt, alloc, line, source, out) {
         Ok(()) => Status::Done,

@@ -1,6 +1,6 @@
 // Sinks in memory.
-ghost use Rattle.std.specs.Prelude.{◌≡◌, ◌≤◌, ◌<◌, ◌-◌, ◌++◌, ◌↔◌, [], ℕ, List, length, take, min, Option, Some, None, Ok, IfOk, OnErr, IsErr, MatchOption, if◌then◌else◌};
-ghost use Rattle.ats_io.specs.Memory.{Store, MustFail, starting, after_pass, after_fault, told_after};
+ghost use Rattle.std.specs.Prelude.{◌≡◌, ◌⊎◌, ◌≤◌, ◌<◌, ◌-◌, ◌++◌, ◌↔◌, [], ℕ, List, length, take, min, Option, Some, None, Ok, IfOk, OnErr, IsErr, MatchOption, if◌then◌else◌};
+ghost use Rattle.ats_io.specs.Memory.{Store, MustFail, HasMade, IsFull, starting, after_pass, after_fault, told_after};
 
 use super::plan::Plan;
 use super::room::{Room, SINK_ROOM};
@@ -22,7 +22,7 @@ impl Model for MemSink {
 
     ghost view = { λ s. record { taken = s.room; most = s.most; plan = s.plan } };
 
-    ghost invariant = { λ s. 0 < s.most };
+    ghost invariant = { λ s. (0 < s.most) × (0 < s.plan.faults → HasMade s.plan.fails s.plan.call ⊎ IsFull s.room) };
 }
 
 impl MemSink {
@@ -47,7 +47,8 @@ impl MemSink {
 
     /// How many calls there were.
     pub fn calls(&self) -> u64
-        ensures { result ≡ self.now.plan.call }
+        ensures count { result ≡ self.now.plan.call }
+        ensures failed { 0 < self.now.plan.faults → HasMade self.now.plan.fails self.now.plan.call ⊎ IsFull self.now.taken }
     {
         self.plan.call()
     }
@@ -57,6 +58,8 @@ impl Sink for MemSink {
     ghost taken = { λ s. Some s.taken };
 
     ghost faults = { λ s. s.plan.faults };
+
+    ghost planned = { λ s. Some s.plan.fails };
 
     fn write(&mut self, piece: &[u8]) -> Result<usize, Failed>
         ensures fails { IsErr result ↔ MustFail self.old piece.now }
@@ -68,6 +71,7 @@ impl Sink for MemSink {
         ensures err { OnErr result (self.new ≡ record self.old { plan = after_fault self.old.plan }) }
 
         ensures never_falls { self.old.plan.faults ≤ self.new.plan.faults }
+        ensures same_plan { self.new.plan.fails ≡ self.old.plan.fails }
     {
         let free = self.room.free();
         let is_full = free == 0 && !piece.is_empty();
@@ -123,6 +127,8 @@ impl Sink for SureSink {
     ghost taken = { λ s. s };
 
     ghost faults = { λ _. 0 };
+
+    ghost planned = { λ _. Some [] };
 
     fn write(&mut self, piece: &[u8]) -> Result<usize, Failed>
         ensures all { result ≡ Ok (length piece.now) }

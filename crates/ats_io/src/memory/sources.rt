@@ -1,6 +1,6 @@
 // Sources in memory.
 ghost use Rattle.std.specs.Prelude.{◌≡◌, ◌≤◌, ◌<◌, ◌++◌, ◌↔◌, [], ℕ, List, length, take, min, Some, Ok, Contains, IfOk, OnErr, IsErr};
-ghost use Rattle.ats_io.specs.Memory.{Supply, starting, after_pass, after_fault};
+ghost use Rattle.ats_io.specs.Memory.{Supply, HasMade, starting, after_pass, after_fault};
 
 use super::plan::Plan;
 use super::stock::Stock;
@@ -21,7 +21,7 @@ impl Model for MemSource {
 
     ghost view = { λ s. record { left = s.stock; most = s.most; plan = s.plan } };
 
-    ghost invariant = { λ s. 0 < s.most };
+    ghost invariant = { λ s. (0 < s.most) × (0 < s.plan.faults → HasMade s.plan.fails s.plan.call) };
 }
 
 impl MemSource {
@@ -46,7 +46,8 @@ impl MemSource {
 
     /// How many calls there were.
     pub fn calls(&self) -> u64
-        ensures { result ≡ self.now.plan.call }
+        ensures count { result ≡ self.now.plan.call }
+        ensures failed { 0 < self.now.plan.faults → HasMade self.now.plan.fails self.now.plan.call }
     {
         self.plan.call()
     }
@@ -56,6 +57,8 @@ impl Source for MemSource {
     ghost left = { λ s. Some s.left };
 
     ghost faults = { λ s. s.plan.faults };
+
+    ghost planned = { λ s. Some s.plan.fails };
 
     fn read(&mut self, buf: &mut [u8]) -> Result<usize, Failed>
         ensures fails { IsErr result ↔ Contains self.old.plan.fails self.old.plan.call }
@@ -67,6 +70,7 @@ impl Source for MemSource {
         ensures err { OnErr result (self.new ≡ record self.old { plan = after_fault self.old.plan }) }
 
         ensures never_falls { self.old.plan.faults ≤ self.new.plan.faults }
+        ensures same_plan { self.new.plan.fails ≡ self.old.plan.fails }
     {
         if self.plan.is_fault_next() {
             self.plan.fail();
@@ -111,6 +115,8 @@ impl Source for SureSource {
     ghost left = { λ s. Some s };
 
     ghost faults = { λ _. 0 };
+
+    ghost planned = { λ _. Some [] };
 
     fn read(&mut self, buf: &mut [u8]) -> Result<usize, Failed>
         ensures count { result ≡ Ok (min (length buf.new) (length self.old)) }

@@ -1,4 +1,4 @@
-use Rattle.std.proofs.Common.{◌≡◌, ◌-◌, length, take, drop, sym, subst, ap, arith, take_all, length-drop}
+use Rattle.std.proofs.Common.{◌≡◌, ◌∙◌, ◌-◌, length, take, drop, sym, subst, ap, arith, take_all, length-drop}
 use Rattle.std.proofs.Math.Seq.{take-add}
 use Rattle.ats_io.proofs.Adding.{adds_both}
 use Rattle.ats_io.specs.Bytes.{Adds}
@@ -14,4 +14,5 @@ loop-done-preserved g c =
       within = omega (arith, c.in-Ok.ensures.within, length-drop c.loop-done.done bytes, ap length rest);
       wrote = subst (Adds _ _) (sym (take-add c.loop-done.done c.in-Ok.count bytes)) (adds_both _ _ _ _ _ c.loop-done.invariant.wrote wrote);
       later = omega (arith, c.write.ensures.never_falls);
+      same = c.write.ensures.same_plan ∙ c.loop-done.invariant.same;
     }

@@ -1,6 +1,11 @@
-use Rattle.std.proofs.Common.{ap}
+use Rattle.std.proofs.Common.{◌∙◌, ap}
 use Rattle.ats_io.specs.Memory.{Supply, Store}
+use Rattle.ats_rows.proofs.InMemory.{played_by}
 use Rattle.ats_rows.proofs.calls.play.Goals as goal
 
 pub returns : goal.returns
-returns g c = c.play_on.ensures.played _ (ap (λ (s : Supply). s.left) c.new-source.ensures) (ap (λ (s : Store). s.taken) c.in_ok-out.ensures) c.in_ok-err.ensures
+returns g c =
+    let source = c.new-source.ensures in
+    let out = c.in_ok-out.ensures in
+    played_by _ _ _ _ _ _ _ (ap (λ (s : Supply). s.left) source) (ap (λ (s : Supply). s.plan.fails) source ∙ c.in_ok-to_vec.ensures.items)
+    (ap (λ (s : Store). s.plan.fails) out ∙ c.in_ok-to_vec-2.ensures.items) c.play_on.ensures

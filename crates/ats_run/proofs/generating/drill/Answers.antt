@@ -11,7 +11,7 @@ returns-clause-drilled g c =
     let made = c.in_ok-document.ensures.made in
     let same = c.deref.ensures.value in
     IfOk-weaker c.drill_document.result _ _
-    (λ text h. (c.in_ok-document.document.items, made, subst (λ (xs : List ℕ). IsDocWith xs (λ D. IsDrilled D text.items)) same h)) c.drill_document.ensures.drilled
+    (λ text h. (c.in_ok-document.document.items, made, subst (λ (xs : List ℕ). IsDocWith xs (λ D. IsDrilled D 0 text.items)) same h)) c.drill_document.ensures.drilled
 
 pub drill_document-requires-clause-one_table : goal.drill_document-requires-clause-one_table
 drill_document-requires-clause-one_table g c loans held =

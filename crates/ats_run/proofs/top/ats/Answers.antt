@@ -1,5 +1,5 @@
 use Rattle.ats_run.proofs.Completing.{ends}
-use Rattle.ats_run.proofs.Writing.{documents}
+use Rattle.ats_run.proofs.Writing.{documents, runs, runs_alone}
 use Rattle.ats_run.proofs.top.ats.Goals as goal
 
 pub returns-in-Err-clause-complete : goal.returns-in-Err-clause-complete
@@ -9,3 +9,9 @@ returns-in-Err-clause-complete g c = λ order input asked held good no_source no
 
 pub returns-in-Ok-clause-documents : goal.returns-in-Ok-clause-documents
 returns-in-Ok-clause-documents g c = λ order done asked writes. documents _ _ _ _ order asked writes c.in-Ok.ensures.done
+
+pub returns-in-Ok-clause-headline : goal.returns-in-Ok-clause-headline
+returns-in-Ok-clause-headline g c = λ workers rounds done asked. runs _ _ _ _ workers rounds asked c.in-Ok.ensures.done
+
+pub returns-in-Ok-clause-round_robin : goal.returns-in-Ok-clause-round_robin
+returns-in-Ok-clause-round_robin g c = λ rounds done asked. runs_alone _ _ _ _ rounds asked c.in-Ok.ensures.done
