@@ -1,18 +1,18 @@
 // The journals of worked examples.
 
-pub(super) const FIRST_PATH_RUN: &str = "\
+pub(crate) const FIRST_PATH_RUN: &str = "\
 1 move T0 A B
 2 move T0 B C
 end moves=2 tables=0
 ";
 
 // The first moves of the passing loop, without an end.
-pub(super) const LOOP_BEGUN: &str = "\
+pub(crate) const LOOP_BEGUN: &str = "\
 1 move T0 W L1
 2 move T1 E L2
 ";
 
-pub(super) const LOOP_RUN: &str = "\
+pub(crate) const LOOP_RUN: &str = "\
 1 move T0 W L1
 2 move T1 E L2
 3 move T0 L1 E
@@ -20,7 +20,7 @@ pub(super) const LOOP_RUN: &str = "\
 end moves=4 tables=0
 ";
 
-pub(super) const LOOP_TIMED: &str = "\
+pub(crate) const LOOP_TIMED: &str = "\
 0 move T0 W L1
 0 move T1 E L2
 1 move T0 L1 E
@@ -28,7 +28,7 @@ pub(super) const LOOP_TIMED: &str = "\
 end moves=4 tables=0 last=1
 ";
 
-pub(super) const CORRIDOR_RUN: &str = "\
+pub(crate) const CORRIDOR_RUN: &str = "\
 1 move T0 A M
 2 move T0 M N
 3 move T0 N B
@@ -38,7 +38,7 @@ pub(super) const CORRIDOR_RUN: &str = "\
 end moves=6 tables=0
 ";
 
-pub(super) const CORRIDOR_TIMED: &str = "\
+pub(crate) const CORRIDOR_TIMED: &str = "\
 0 move T0 A M
 1 move T0 M N
 2 move T0 N B
@@ -48,7 +48,7 @@ pub(super) const CORRIDOR_TIMED: &str = "\
 end moves=6 tables=0 last=4
 ";
 
-pub(super) const NEVER_LEGAL_RUN: &str = "\
+pub(crate) const NEVER_LEGAL_RUN: &str = "\
 1 move T0 A M
 2 kept 1 over 0 1
 3 move T0 M N
@@ -59,7 +59,7 @@ pub(super) const NEVER_LEGAL_RUN: &str = "\
 end moves=6 tables=0
 ";
 
-pub(super) const GOES_ON_RUN: &str = "\
+pub(crate) const GOES_ON_RUN: &str = "\
 1 move T0 A B
 2 move T0 B C
 3 table 1
@@ -67,7 +67,7 @@ pub(super) const GOES_ON_RUN: &str = "\
 end moves=3 tables=1
 ";
 
-pub(super) const EXITS_RUN: &str = "\
+pub(crate) const EXITS_RUN: &str = "\
 1 move T0 A B
 2 move T0 B -
 3 move T1 C B
@@ -75,7 +75,7 @@ pub(super) const EXITS_RUN: &str = "\
 end moves=4 tables=0
 ";
 
-pub(super) const SHARES_RUN: &str = "\
+pub(crate) const SHARES_RUN: &str = "\
 1 move T0 A M
 2 move T0 M B
 3 move T1 C N
@@ -83,8 +83,24 @@ pub(super) const SHARES_RUN: &str = "\
 end moves=4 tables=0
 ";
 
-pub(super) const CONNECTED_RUN: &str = "\
+pub(crate) const CONNECTED_RUN: &str = "\
 1 move T1 C D
 2 move T0 A B
 end moves=2 tables=0
+";
+
+pub(crate) const SAME_POINT_RUN: &str = "\
+1 move T0 A B
+2 move T0 B A
+3 kept 1 differs T0 1
+4 move T0 A C
+end moves=3 tables=0
+";
+
+pub(crate) const LOOP_OF_THREES_TIMED: &str = "\
+0 move T0 W L1
+0 move T1 E L2
+3 move T0 L1 E
+3 move T1 L2 W
+end moves=4 tables=0 last=3
 ";

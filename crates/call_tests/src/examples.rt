@@ -1,12 +1,12 @@
 // Worked examples, as a user meets them at the command line.
-use crate::{Faults, Played, play};
+use ats_rows::{Faults, Played, play};
 use ats_run::{Status, code};
 use std::alloc::{AllocError, Global};
 use std::test::Fail;
 use std::thread::Threads;
 
-mod documents;
-mod journals;
+pub(crate) mod documents;
+pub(crate) mod journals;
 
 use documents::{
     BAD_MOVE, BAD_WAIT, CONNECTED, CORRIDOR, CORRIDOR_MARKED, EXITS, FIRST_PATH, FIRST_PATH_LATER,
@@ -18,14 +18,14 @@ use journals::{
     LOOP_BEGUN, LOOP_RUN, LOOP_TIMED, NEVER_LEGAL_RUN, SHARES_RUN,
 };
 
-const SURE: Faults<'static> = Faults {
+pub(crate) const SURE: Faults<'static> = Faults {
     most: 4096,
     reads: &[],
     writes: &[],
 };
 
 // Several texts, one after the other.
-fn joined(alloc: Global, parts: &[&str]) -> Result<Vec<u8>, AllocError> {
+pub(crate) fn joined(alloc: Global, parts: &[&str]) -> Result<Vec<u8>, AllocError> {
     let mut bytes = Vec::new(alloc);
     for part in parts {
         bytes.extend_from_slice(part.as_bytes())?;
@@ -34,7 +34,7 @@ fn joined(alloc: Global, parts: &[&str]) -> Result<Vec<u8>, AllocError> {
 }
 
 // The words of a command line, parted by spaces.
-fn line(alloc: Global, words: &str) -> Result<Vec<String>, AllocError> {
+pub(crate) fn line(alloc: Global, words: &str) -> Result<Vec<String>, AllocError> {
     let mut line = Vec::new(alloc);
     for word in words.split_whitespace() {
         line.push(String::from_str(alloc, word)?)?;
@@ -43,12 +43,12 @@ fn line(alloc: Global, words: &str) -> Result<Vec<String>, AllocError> {
 }
 
 // Whether this was told, and nothing else.
-fn is_told(played: &Played, told: &str) -> bool {
+pub(crate) fn is_told(played: &Played, told: &str) -> bool {
     matches!(&played.told, Some(bytes) if bytes.as_slice() == told.as_bytes())
 }
 
 // Whether a call by devices that never fail ends with this exit code, has written this, and told that.
-fn is_answered(
+pub(crate) fn is_answered(
     rt: &(impl Threads + Sync),
     alloc: Global,
     words: &str,

@@ -1,7 +1,7 @@
-ghost use Rattle.std.specs.Prelude.{◌<◌};
-
-use super::*;
-use std::alloc::{AllocError, Global};
+// Devices: those in memory, and the adapters of the system's readers and writers.
+use ats_io::{
+    Gate, MemSink, Moment, NoGate, Reading, SureSink, SureSource, Writing, read_all, write_all,
+};
 use std::io;
 use std::io::{ErrorKind, Read, Write};
 use std::test::Fail;
@@ -9,83 +9,6 @@ use std::test::Fail;
 // The journal of the first path, 49 bytes.
 fn text() -> &'static [u8] {
     b"1 move T0 A B\n2 move T0 B C\nend moves=2 tables=0\n"
-}
-
-// What a source that gives `most` bytes a call and fails at the calls `fails` answers, and what is left.
-fn read(
-    alloc: Global,
-    most: usize,
-    fails: &[u64],
-    limit: usize,
-) -> Result<(Option<ReadAll>, usize), AllocError>
-    requires { 0 < most }
-{
-    let mut source = MemSource::new(text().to_vec(alloc)?, most, fails.to_vec(alloc)?);
-    let error = read_all(alloc, &mut source, limit).err();
-    Ok((error, source.left().len()))
-}
-
-#[test]
-fn a_source_is_read_to_its_end_or_past_its_limit(rt: HostRuntime) -> Result<(), Fail> {
-    let alloc = rt.alloc();
-    for (most, limit, left) in [
-        (1, 49, 0),
-        (7, 50, 0),
-        (16, 49, 0),
-        (7, 48, 0),
-        (1, 47, 1),
-        (16, 0, 48),
-    ] {
-        assert!(rt; most > 0);
-        let too_long = ReadAll::TooLong { limit };
-        let error = if limit < 49 { Some(too_long) } else { None };
-        assert_eq!(rt;
-            read(alloc, most, &[], limit)?,
-            (error, left),
-            "limit {limit}"
-        );
-    }
-    Ok(())
-}
-
-// Seven bytes a call: seven calls, and an eighth that meets the end.
-#[test]
-fn each_failing_read_is_a_fault(rt: HostRuntime) -> Result<(), Fail> {
-    let alloc = rt.alloc();
-    for (call, left) in [
-        (0, 49),
-        (1, 42),
-        (2, 35),
-        (3, 28),
-        (4, 21),
-        (5, 14),
-        (6, 7),
-        (7, 0),
-    ] {
-        assert_eq!(rt;
-            read(alloc, 7, &[call], 49)?,
-            (Some(ReadAll::ReadFault), left),
-            "call {call}"
-        );
-    }
-    assert_eq!(rt; read(alloc, 7, &[8], 49)?, (None, 0));
-    Ok(())
-}
-
-// Sixteen bytes a call: four calls.
-#[test]
-fn each_failing_write_leaves_a_first_part(rt: HostRuntime) -> Result<(), Fail> {
-    let alloc = rt.alloc();
-    for (call, taken) in [(0, 0), (1, 16), (2, 32), (3, 48), (4, 49)] {
-        let mut sink = MemSink::new(alloc, 16, [call].to_vec(alloc)?)?;
-        assert_eq!(rt;
-            write_all(&mut sink, text()).is_ok(),
-            taken == 49,
-            "call {call}"
-        );
-        assert_eq!(rt; Some(sink.bytes()), text().get(..taken));
-    }
-    Ok(())
 }
 
 // As many bytes as there is room for, and one more.
