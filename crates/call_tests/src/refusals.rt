@@ -2,6 +2,7 @@
 use crate::examples::documents::{FIRST_PATH, PASSING_LOOP};
 use crate::examples::{SURE, joined, line};
 use ats_rows::play;
+use refusal_lines::push_many;
 use std::alloc::{AllocError, Global};
 use std::test::Fail;
 use std::thread::Threads;
@@ -150,5 +151,14 @@ fn journals_are_refused(rt: HostRuntime) -> Result<(), Fail> {
         let input = [head, ",", TWO_TABLES, "\njournal\n", journal.as_str()];
         assert!(rt; is_refused(&rt, alloc, "verify", &input, told)?, "{row}");
     }
+    Ok(())
+}
+
+// No worked example has so many sections.
+#[test]
+fn too_many_sections_have_their_words(rt: HostRuntime) -> Result<(), Fail> {
+    let mut words = String::new(rt.alloc());
+    push_many(&mut words, 0, 65)?;
+    assert_eq!(rt; words.as_str(), "121 Many table=0 count=65");
     Ok(())
 }
