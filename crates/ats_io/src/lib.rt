@@ -5,8 +5,6 @@ mod ends;
 mod gate;
 mod memory;
 mod reading;
-#[cfg(test)]
-mod tests;
 mod whole;
 mod writing;
 

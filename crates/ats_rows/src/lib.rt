@@ -4,6 +4,3 @@
 mod calls;
 
 pub use calls::{Faults, Played, play};
-
-#[cfg(test)]
-mod tests;

@@ -1,7 +1,6 @@
 pub mod Cutting
 pub mod Ends
 pub mod Rows
-pub mod Stack
 pub mod Steps
 pub mod Visiting
 pub mod Whole

@@ -10,7 +10,6 @@ mod leaves;
 mod par;
 mod parts;
 mod places;
-mod plain;
 mod shares;
 mod walk;
 
@@ -18,7 +17,3 @@ pub use accepted::{Accepted, accept, accept_par};
 pub use checks::check;
 pub use faults::CheckFault;
 pub use par::check_par;
-pub use plain::check_plain;
-
-#[cfg(test)]
-mod tests;

@@ -11,6 +11,3 @@ mod path;
 pub use laws::each_budget_has_one_answer;
 pub use made::Made;
 pub use maker::make;
-
-#[cfg(test)]
-mod tests;

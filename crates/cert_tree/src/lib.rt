@@ -8,6 +8,3 @@ mod reading;
 pub use cert::{Cert, MOST_NODES, count, preorder};
 pub use laws::{each_list_has_one_verdict, each_list_spells_one_tree};
 pub use reading::{CertRefused, behind, tree};
-
-#[cfg(test)]
-mod tests;

@@ -8,6 +8,3 @@ mod table;
 
 pub use orders::{Order, WordsRefused};
 pub use reading::words;
-
-#[cfg(test)]
-mod tests;

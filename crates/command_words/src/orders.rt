@@ -1,7 +1,7 @@
 // What the program can be asked for.
 
 /// What the words ask for, with the numbers of its options.
-#[derive(Clone, Copy, Debug, PartialEq, Eq)]
+#[derive(Clone, Copy)]
 pub enum Order {
     /// Run the trains of a document on one thread: `workers` is 0, and `rounds` is read and has no effect.
     Run {

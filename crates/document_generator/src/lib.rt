@@ -7,8 +7,6 @@ mod layout;
 mod names;
 mod pairs;
 mod sections;
-#[cfg(test)]
-mod tests;
 mod ways;
 
 pub use generator::generate;

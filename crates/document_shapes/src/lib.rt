@@ -8,8 +8,6 @@ mod members;
 mod parts;
 mod refused;
 mod table;
-#[cfg(test)]
-mod tests;
 mod to_value;
 mod writing;
 

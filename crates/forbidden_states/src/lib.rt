@@ -4,8 +4,6 @@
 mod laws;
 mod marking;
 mod stays;
-#[cfg(test)]
-mod tests;
 
 pub use laws::over_where_all_stay;
 pub use marking::{last_of, marked};

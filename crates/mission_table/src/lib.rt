@@ -7,8 +7,6 @@ mod naming;
 mod refused;
 mod register;
 mod roster;
-#[cfg(test)]
-mod tests;
 
 pub use laws::{exactly_missions_of_the_layout_are_taken, exactly_trains_are_taken};
 pub use making::missions;

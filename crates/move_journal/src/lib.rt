@@ -21,6 +21,3 @@ pub use reading::{read, read_prefix};
 pub use replaying::replay;
 pub use verifying::verify;
 pub use writing::{push_line, text};
-
-#[cfg(test)]
-mod tests;

@@ -11,6 +11,3 @@ pub use checked::CheckedTable;
 pub use laws::{begun_keeps, finished_is_whole, replayed_keeps, run_is_whole};
 pub use plain::{MOST_LINES, PlainYard, begin};
 pub use rounds::has_answer;
-
-#[cfg(test)]
-mod tests;

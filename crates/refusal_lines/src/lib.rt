@@ -15,6 +15,3 @@ pub use certificates::{push_bad, push_tree};
 pub use documents::push_document;
 pub use journals::{push_line, push_text};
 pub use makers::{push_connected, push_many, push_rounds, push_spent, push_stuck};
-
-#[cfg(test)]
-mod tests;

@@ -11,8 +11,6 @@ mod refused;
 mod ring;
 mod search;
 mod standing;
-#[cfg(test)]
-mod tests;
 mod train_set;
 
 pub use laws::lists_just_the_rings;

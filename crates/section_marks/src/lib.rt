@@ -7,8 +7,6 @@ mod making;
 mod marks;
 mod refused;
 mod shares;
-#[cfg(test)]
-mod tests;
 
 pub use connecting::connections;
 pub use laws::{

@@ -7,8 +7,6 @@ mod joining;
 mod laws;
 mod repaired;
 mod rounds;
-#[cfg(test)]
-mod tests;
 
 pub use laws::{closures_are_least, each_repair_has_one_answer, each_round_loses_nothing};
 pub use repaired::Repair;

@@ -6,8 +6,6 @@ mod lookup;
 mod making;
 mod numbers;
 mod refused;
-#[cfg(test)]
-mod tests;
 
 pub use laws::exactly_layouts_are_taken;
 pub use lookup::number_of;

@@ -7,6 +7,3 @@ mod report;
 mod watch;
 
 pub use report::{SimReport, simulate};
-
-#[cfg(test)]
-mod tests;

@@ -1,0 +1,96 @@
+// Devices: those in memory, and the adapters of the system's readers and writers.
+use ats_io::{
+    Gate, MemSink, Moment, NoGate, Reading, SureSink, SureSource, Writing, read_all, write_all,
+};
+use std::io;
+use std::io::{ErrorKind, Read, Write};
+use std::test::Fail;
+
+// The journal of the first path, 49 bytes.
+fn text() -> &'static [u8] {
+    b"1 move T0 A B\n2 move T0 B C\nend moves=2 tables=0\n"
+}
+
+// As many bytes as there is room for, and one more.
+#[test]
+fn a_sink_in_memory_has_its_room(rt: HostRuntime) -> Result<(), Fail> {
+    let alloc = rt.alloc();
+    let mut source = SureSource::new(vec![in alloc; 7; 1_048_576]?);
+    let bytes = read_all(alloc, &mut source, 1_048_576)?;
+    let mut sink = MemSink::new(alloc, 1_000_000, Vec::new(alloc))?;
+    let mut sure = SureSink::new(alloc)?;
+    assert!(rt; write_all(&mut sink, &bytes).is_ok() && sink.bytes() == bytes.as_slice());
+    assert!(rt; write_all(&mut sure, &bytes).is_ok() && sure.bytes() == Some(bytes.as_slice()));
+    assert!(rt; write_all(&mut sink, b"8").is_err() && write_all(&mut sure, b"8").is_ok());
+    assert!(rt; sure.bytes().is_none());
+    Ok(())
+}
+
+// A device that fails at all, or at the flush, or takes nothing.
+#[derive(Drop)]
+struct Device {
+    taken: Option<usize>,
+    is_flushed: bool,
+}
+
+fn done(is_done: bool) -> io::Result<()> {
+    if is_done {
+        Ok(())
+    } else {
+        Err(io::Error::from(ErrorKind::Other))
+    }
+}
+
+impl Read for Device {
+    fn read(&mut self, _buf: &mut [u8]) -> io::Result<usize> {
+        Err(io::Error::from(ErrorKind::Other))
+    }
+}
+
+impl Write for Device {
+    fn write(&mut self, buf: &[u8]) -> io::Result<usize> {
+        done(self.taken.is_some())?;
+        Ok(self.taken.unwrap_or(0).min(buf.len()))
+    }
+
+    fn flush(&mut self) -> io::Result<()> {
+        done(self.is_flushed)
+    }
+}
+
+#[test]
+fn the_adapters_hand_bytes_on_and_count_faults(rt: HostRuntime) -> Result<(), Fail> {
+    let alloc = rt.alloc();
+    let bytes = read_all(alloc, &mut Reading::new(text()), 49)?;
+    let mut written = Vec::new(alloc);
+    write_all(&mut Writing::new(&mut written), &bytes)?;
+    assert!(rt; written.as_slice() == text());
+
+    for (taken, is_flushed, is_whole) in [
+        (None, true, false),
+        (Some(9), false, false),
+        (Some(0), true, false),
+        (Some(9), true, true),
+    ] {
+        let device = Device { taken, is_flushed };
+        assert_eq!(rt;
+            write_all(&mut Writing::new(device), text()).is_ok(),
+            is_whole
+        );
+    }
+    let broken = Device {
+        taken: None,
+        is_flushed: true,
+    };
+    assert!(rt; read_all(alloc, &mut Reading::new(broken), 49).is_err());
+    Ok(())
+}
+
+fn pass_by<G: Gate>(gate: &G) {
+    gate.at(0, Moment::Taken);
+}
+
+#[test]
+fn no_gate_holds_nobody(_rt: HostRuntime) {
+    pass_by(&NoGate);
+}

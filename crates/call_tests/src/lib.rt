@@ -1,0 +1,19 @@
+//! Tests of public calls: worked examples through the whole program, and on values from outside what the program doesn't reach.
+#![tactic(auto)]
+
+#[cfg(test)]
+mod devices;
+#[cfg(test)]
+mod examples;
+#[cfg(test)]
+mod orders;
+#[cfg(test)]
+mod refusals;
+#[cfg(test)]
+mod sections;
+#[cfg(test)]
+mod shapes;
+#[cfg(test)]
+mod trees;
+#[cfg(test)]
+mod yards;

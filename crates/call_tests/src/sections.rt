@@ -1,0 +1,89 @@
+// Circular waits of worked missions, and the sections that are made of missions.
+ghost use Rattle.std.specs.Prelude.{◌≡◌, ◌<◌, ◌≤◌, ◌∷◌, ◌×◌, IfOk, length, false};
+
+use crate::examples::documents::{LONG_CORRIDOR, LONG_CORRIDOR_REPAIRED};
+use crate::examples::is_answered;
+use rail_model::{Mission, Missions};
+use ring_sections::{Rings, mark_rings, rings};
+use std::alloc::{AllocError, Global};
+use std::test::Fail;
+
+fn mission(alloc: Global, points: &[u32]) -> Result<Mission, AllocError>
+    ensures { IfOk result (λ m. m ≡ record { points = points.now; exits = false }) }
+{
+    Ok(Mission::new(Vec::from_slice(alloc, points)?, false))
+}
+
+// Three trains, each of which wants the point of the next.
+fn round(alloc: Global) -> Result<Missions, AllocError> {
+    let mut missions = Vec::new(alloc);
+    missions.push(mission(alloc, &[0, 1])?)?;
+    missions.push(mission(alloc, &[1, 2])?)?;
+    missions.push(mission(alloc, &[2, 0])?)?;
+    Ok(Missions::new(missions))
+}
+
+// The points from 0 up to 66, or down from there.
+fn line(alloc: Global, upwards: bool) -> Result<Mission, AllocError>
+    ensures { IfOk result (λ m. (length m.points ≡ 67) × (m.exits ≡ false)) }
+{
+    let mut points = Vec::new(alloc);
+    for k in 0..67 {
+        points.push(if upwards { k } else { 66 - k })?;
+    }
+    Ok(Mission::new(points, false))
+}
+
+// Two trains against one another along a line, with a ring at each of its 66 links.
+fn ladder(alloc: Global) -> Result<Missions, AllocError> {
+    let mut missions = Vec::new(alloc);
+    missions.push(line(alloc, true)?)?;
+    missions.push(line(alloc, false)?)?;
+    Ok(Missions::new(missions))
+}
+
+#[test]
+fn circular_waits_are_listed_and_marked(rt: HostRuntime) -> Result<(), Fail> {
+    let alloc = rt.alloc();
+    let missions = round(alloc)?;
+    assert_eq!(rt; rings(alloc, &missions, 2)?.len(), 0);
+    let found = rings(alloc, &missions, 3)?;
+    for ring in &found {
+        assert_eq!(rt; ring.as_slice(), [(0, 0), (1, 0), (2, 0)].as_slice());
+    }
+    let table = mark_rings(alloc, missions, &found)?;
+    assert_eq!(rt; (found.len(), table.sections().len()), (1, 1));
+    for section in table.sections() {
+        assert_eq!(rt; section.limit(), 2);
+        for changes in section.all_changes() {
+            assert_eq!(rt; changes.as_slice(), [1, -1].as_slice());
+        }
+    }
+    Ok(())
+}
+
+#[test]
+fn circular_waits_are_counted(rt: HostRuntime) -> Result<(), Fail> {
+    let alloc = rt.alloc();
+    let many = Rings::Many { count: 65 };
+    assert_eq!(rt; rings(alloc, &ladder(alloc)?, 2).err(), Some(many));
+    Ok(())
+}
+
+#[test]
+fn a_long_corridor_takes_three_rounds(rt: HostRuntime) -> Result<(), Fail> {
+    let alloc = rt.alloc();
+    for (words, answer) in [
+        ("repair", (0, LONG_CORRIDOR_REPAIRED, "")),
+        (
+            "repair --rounds 2",
+            (5, "", "ats: 209 Rounds table=0 rounds=2 at=1,1\n"),
+        ),
+    ] {
+        assert!(rt;
+            is_answered(&rt, alloc, words, &[LONG_CORRIDOR], answer)?,
+            "{words}"
+        );
+    }
+    Ok(())
+}

@@ -1,0 +1,112 @@
+// Certificates of worked examples: read, checked by both checks, and made again.
+use crate::examples::documents::{
+    BAD_MOVE, BAD_WAIT, CONNECTED, CORRIDOR, EXITS, FIRST_PATH, PASSING_LOOP, SHARES,
+};
+use cert_checker::{accept, check, check_par};
+use cert_maker::{Made, make};
+use cert_tree::{Cert, CertRefused, count, preorder, tree};
+use layout_json::{Doc, document, nodes_of, table_of, tables_of};
+use rail_model::{Node, copy_table, trains_of};
+use std::alloc::Global;
+use std::process::Abort;
+use std::test::Fail;
+use std::thread::Threads;
+
+// A document with a table.
+fn read(alloc: Global, text: &str) -> Result<Doc, Fail> {
+    Ok(document(alloc, text.as_bytes()).ok().ok_or("a document")?)
+}
+
+// The tree of the first table of a document.
+fn cert_of(alloc: Global, doc: &Doc) -> Result<Cert, Fail> {
+    if tables_of(doc) == 0 {
+        return Err("a table".into());
+    }
+    Ok(tree(alloc, nodes_of(doc, 0)).ok().ok_or("a tree")?)
+}
+
+// Whether both checks take the certificate of a document's first table.
+fn is_good(rt: &(impl Abort + Threads + Sync), alloc: Global, text: &str) -> Result<bool, Fail> {
+    let doc = read(alloc, text)?;
+    let cert = cert_of(alloc, &doc)?;
+    if tables_of(&doc) == 0 {
+        return Err("a table".into());
+    }
+    let answer = check(alloc, table_of(&doc, 0), &cert);
+    assert_eq!(rt; check_par(rt, alloc, table_of(&doc, 0), &cert), answer);
+    Ok(answer.is_ok())
+}
+
+#[test]
+fn both_checks_take_good_certificates(rt: HostRuntime) -> Result<(), Fail> {
+    let alloc = rt.alloc();
+    for text in [FIRST_PATH, PASSING_LOOP, CORRIDOR, EXITS, SHARES, CONNECTED] {
+        assert!(rt; is_good(&rt, alloc, text)?, "{text}");
+    }
+    for text in [BAD_MOVE, BAD_WAIT] {
+        assert!(rt; !is_good(&rt, alloc, text)?, "{text}");
+    }
+    Ok(())
+}
+
+#[test]
+fn a_table_is_accepted_or_comes_back(rt: HostRuntime) -> Result<(), Fail> {
+    let alloc = rt.alloc();
+    let doc = read(alloc, PASSING_LOOP)?;
+    let cert = cert_of(alloc, &doc)?;
+    if tables_of(&doc) == 0 {
+        return Err("a table".into());
+    }
+    let accepted = accept(alloc, copy_table(alloc, table_of(&doc, 0))?, 3, &cert);
+    assert_eq!(rt;
+        accepted.map(|a| (trains_of(a.table()), a.after())).ok(),
+        Some((2, 3))
+    );
+    let leaf = tree(alloc, &[Node::Arrived]).ok().ok_or("a tree")?;
+    let refused = accept(alloc, copy_table(alloc, table_of(&doc, 0))?, 3, &leaf);
+    assert_eq!(rt; refused.err().map(|(table, _)| trains_of(&table)), Some(2));
+    Ok(())
+}
+
+// Whether the certificate that is made for a document's first table is its own.
+fn makes_its_own(alloc: Global, text: &str) -> Result<bool, Fail> {
+    let doc = read(alloc, text)?;
+    if tables_of(&doc) == 0 {
+        return Err("a table".into());
+    }
+    match make(alloc, table_of(&doc, 0), 17)? {
+        Made::Cert(cert) => Ok(cert.as_slice() == nodes_of(&doc, 0)),
+        _ => Ok(false),
+    }
+}
+
+// The certificates of these examples were made by hand, by the maker's rule.
+#[test]
+fn certificates_are_made_by_the_rule(rt: HostRuntime) -> Result<(), Fail> {
+    let alloc = rt.alloc();
+    for text in [FIRST_PATH, EXITS, SHARES, CONNECTED] {
+        assert!(rt; makes_its_own(alloc, text)?, "{text}");
+    }
+    assert!(rt; !makes_its_own(alloc, PASSING_LOOP)?);
+    Ok(())
+}
+
+#[test]
+fn a_tree_has_its_nodes(rt: HostRuntime) -> Result<(), Fail> {
+    let alloc = rt.alloc();
+    let cert = cert_of(alloc, &read(alloc, PASSING_LOOP)?)?;
+    assert_eq!(rt; count(&cert), 11);
+    assert_eq!(rt; preorder(alloc, &cert)?.as_slice(), cert.as_slice());
+    Ok(())
+}
+
+#[test]
+fn a_tree_has_a_greatest_length(rt: HostRuntime) -> Result<(), Fail> {
+    let alloc = rt.alloc();
+    let nodes = vec![in alloc; Node::Split { train: 0, place: 0 }; 1_000_001]?;
+    let many = CertRefused::TooMany { count: 1_000_001 };
+    assert_eq!(rt; tree(alloc, &nodes).err(), Some(many));
+    let short = CertRefused::Short { missing: 1_000_001 };
+    assert_eq!(rt; tree(alloc, &nodes[1..]).err(), Some(short));
+    Ok(())
+}
