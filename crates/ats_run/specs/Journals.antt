@@ -7,11 +7,10 @@ use Rattle.rail_model.specs.Move.{IsFirst}
 use Rattle.rail_model.specs.Certificate.{Tree}
 use Rattle.rail_model.specs.Yard.{Offer, Yard, opening, offer}
 use Rattle.rail_model.specs.Names.{Names}
-use Rattle.rail_model.specs.Journal.{Journal, IsWhole, IsRound, after_lines, text}
+use Rattle.rail_model.specs.Journal.{Journal, IsWhole, IsRound, after_lines, text, with_counts}
 use Rattle.move_journal.specs.declared.faults.BadText.{BadText}
 use Rattle.move_journal.specs.declared.faults.BadText.TheVariants.{NoEnd}
 use Rattle.move_journal.specs.declared.faults.BadLine.{BadLine}
-use Rattle.move_journal.specs.Counted.{journal_of}
 use Rattle.move_journal.specs.Answers.{IsTextOf, IsFrontOf, HasFault}
 use Rattle.move_journal.specs.Replays.{HasBadLine, IsNotWhole}
 use Rattle.layout_json.specs.Doc.{Doc, IsDoc, offers_of, names_of}
@@ -91,7 +90,7 @@ pub record IsUnverified (D : Doc) (given : List ℕ) (cause : BadLine) : Type 0 
 pub record GoesOnFrom (D : Doc) (front : Journal) (written : List ℕ) : Type 0 where
   pub added : List Step
   pub round : IsRound (offers_of D) (after_lines (opening D.start) front.lines) (trains (offer (offers_of D) 0).table - 1) added
-  pub printed : written ≡ text (names_of D) (journal_of (front.lines ++ added))
+  pub printed : written ≡ text (names_of D) (with_counts (front.lines ++ added))
 
 -- The given bytes are a journal's text and were written as they are, or they are a front, from whose state the round robin goes on.
 abbrev pub IsContinued : Doc → List ℕ → List ℕ → Type 0
