@@ -6,7 +6,7 @@ use Rattle.rail_model.specs.declared.types.Line.{Line}
 use Rattle.rail_model.specs.Table.{trains}
 use Rattle.rail_model.specs.Certificate.{Tree}
 use Rattle.rail_model.specs.Yard.{Offer, Yard, opening, offer}
-use Rattle.rail_model.specs.Journal.{Journal, IsWhole, IsRight, IsRound, IsDone, after_lines, text, lines_text, end_text}
+use Rattle.rail_model.specs.Journal.{Journal, IsWhole, IsRight, IsRound, IsDone, after_lines, text, lines_text, end_text, with_counts}
 use Rattle.plain_yard.specs.Keeps.{Keeps}
 use Rattle.plain_yard.specs.Rounds.{Finishes}
 use Rattle.plain_yard.proofs.Keeping.{right_append, round_right, whole}
@@ -14,7 +14,6 @@ use Rattle.plain_yard.proofs.Reaching.{after_append}
 use Rattle.move_journal.specs.declared.faults.BadLine.{BadLine}
 use Rattle.move_journal.specs.declared.faults.BadLine.TheVariants.{Memory}
 use Rattle.move_journal.specs.Answers.{IsTextOf, IsFrontOf}
-use Rattle.move_journal.specs.Counted.{journal_of}
 use Rattle.move_journal.specs.Replays.{Replays}
 use Rattle.move_journal.proofs.Fronts.{text_goes_on}
 use Rattle.layout_json.specs.Doc.{Doc, IsDoc, offers_of, names_of}
@@ -51,7 +50,7 @@ resumed_whole D trees J given written doc accepted whole text same = record {
 -- the state and the lines of a front's replay, and what a finish from them gives
 pub resumed_front : (D : Doc) (trees : List Tree) (front : Journal) (given written : List ℕ) (y z : Yard) (lines longer : List Line) → IsDoc D → AreAccepted D trees
     → IsFrontOf (names_of D) given front → IsRight (offers_of D) (opening D.start) front.lines → y ≡ after_lines (opening D.start) front.lines → lines ≡ front.lines
-    → IsDone (offers_of D) z → Finishes (offers_of D) y (trains (offer (offers_of D) 0).table - 1) lines z longer → written ≡ text (names_of D) (journal_of longer)
+    → IsDone (offers_of D) z → Finishes (offers_of D) y (trains (offer (offers_of D) 0).table - 1) lines z longer → written ≡ text (names_of D) (with_counts longer)
     → IsResumed D 0 given written
 resumed_front D trees front given written y z lines longer doc accepted is_front right reached same done finishes printed =
     let longer_is : longer ≡ front.lines ++ finishes.added = finishes.adds ∙ ap (λ (ls : List Line). ls ++ finishes.added) same in
@@ -66,16 +65,16 @@ resumed_front D trees front given written y z lines longer doc accepted is_front
           ∙ ap (after_lines (opening D.start)) (sym longer_is);
     } in
     record {
-      run = run_of_whole D trees (journal_of longer) written doc accepted (whole (offers_of D) z longer run done) printed;
-      rest = lines_text (names_of D) (length front.lines + 1) finishes.added ++ end_text (journal_of longer).moves (journal_of longer).tables;
-      begins = printed ∙ text_goes_on (names_of D) given front (journal_of longer) finishes.added is_front longer_is;
+      run = run_of_whole D trees (with_counts longer) written doc accepted (whole (offers_of D) z longer run done) printed;
+      rest = lines_text (names_of D) (length front.lines + 1) finishes.added ++ end_text (with_counts longer).moves (with_counts longer).tables;
+      begins = printed ∙ text_goes_on (names_of D) given front (with_counts longer) finishes.added is_front longer_is;
       continued = inr (
         front,
         is_front,
         record {
           added = finishes.added;
           by = subst (λ (w : Yard). IsRound (offers_of D) w (trains (offer (offers_of D) 0).table - 1) finishes.added) reached finishes.round;
-          printed = printed ∙ ap (λ (ls : List Line). text (names_of D) (journal_of ls)) longer_is;
+          printed = printed ∙ ap (λ (ls : List Line). text (names_of D) (with_counts ls)) longer_is;
         },
       );
     }

@@ -11,7 +11,7 @@ use Rattle.rail_model.specs.State.{Legal}
 use Rattle.rail_model.specs.Move.{Live}
 use Rattle.rail_model.specs.Certificate.{Tree}
 use Rattle.rail_model.specs.Yard.{Offer, Yard, opening, offer, in_force}
-use Rattle.rail_model.specs.Journal.{IsRight, IsDone, after_line, after_lines, text}
+use Rattle.rail_model.specs.Journal.{IsRight, IsDone, after_line, after_lines, text, with_counts}
 use Rattle.rail_model.proofs.Live.{completes}
 use Rattle.rail_model.proofs.Sound.{live}
 use Rattle.table_exchange.specs.Tables.{Stands}
@@ -19,7 +19,6 @@ use Rattle.plain_yard.specs.Keeps.{Keeps}
 use Rattle.plain_yard.specs.Rounds.{Finishes}
 use Rattle.plain_yard.proofs.Keeping.{keeps_stands, keeps_ready, few_moves, round_right, whole}
 use Rattle.plain_yard.proofs.Reaching.{round_begun}
-use Rattle.move_journal.specs.Counted.{journal_of}
 use Rattle.move_journal.specs.Printable.{IsNamed, AreEnough}
 use Rattle.move_journal.proofs.Named.{named_right}
 use Rattle.layout_json.specs.Doc.{Doc, IsDoc, table_at, offers_of, names_of}
@@ -55,7 +54,7 @@ goes_on_well D trees lines doc accepted right front later split =
 
 -- what the finish of a document's run gives
 unfoldable pub runs : (D : Doc) (trees : List Tree) (z : Yard) (lines : List Line) (written : List ℕ) → IsDoc D → AreAccepted D trees → IsDone (offers_of D) z
-    → Finishes (offers_of D) (opening D.start) (trains (offer (offers_of D) 0).table - 1) [] z lines → written ≡ text (names_of D) (journal_of lines)
+    → Finishes (offers_of D) (opening D.start) (trains (offer (offers_of D) 0).table - 1) [] z lines → written ≡ text (names_of D) (with_counts lines)
     → (run : IsRun D written) × IsRoundRobin D (opening D.start) run.journal.lines
 runs D trees z lines written doc accepted done finishes printed =
     let run : Keeps (offers_of D) z lines = record {
@@ -67,7 +66,7 @@ runs D trees z lines written doc accepted done finishes printed =
     } in (
       record {
         legal_start = legal_start D doc;
-        journal = journal_of lines;
+        journal = with_counts lines;
         trees = trees;
         accepted = accepted;
         whole = whole (offers_of D) z lines run done;

@@ -6,11 +6,10 @@ use Rattle.rail_model.specs.Move.{IsFirst}
 use Rattle.rail_model.specs.Certificate.{Tree}
 use Rattle.rail_model.specs.Yard.{Offer, Yard, opening}
 use Rattle.rail_model.specs.Names.{Names}
-use Rattle.rail_model.specs.Journal.{Journal, IsWhole, after_lines, text}
+use Rattle.rail_model.specs.Journal.{Journal, IsWhole, after_lines, text, with_counts}
 use Rattle.move_journal.specs.declared.faults.BadText.{BadText}
 use Rattle.move_journal.specs.declared.faults.BadText.TheVariants.{NoEnd}
 use Rattle.move_journal.specs.declared.faults.BadLine.{BadLine}
-use Rattle.move_journal.specs.Counted.{journal_of}
 use Rattle.move_journal.specs.Answers.{IsTextOf, IsFrontOf, HasFault}
 use Rattle.move_journal.specs.Replays.{HasBadLine, IsNotWhole}
 use Rattle.layout_json.specs.Doc.{Doc, IsDoc, offers_of, names_of}
@@ -90,7 +89,7 @@ pub record IsUnverified (D : Doc) (given : List ℕ) (cause : BadLine) : Type 0 
 pub record GoesOnFrom (D : Doc) (workers : ℕ) (front : Journal) (written : List ℕ) : Type 0 where
   pub added : List Step
   pub by : IsRunBy D workers (after_lines (opening D.start) front.lines) added
-  pub printed : written ≡ text (names_of D) (journal_of (front.lines ++ added))
+  pub printed : written ≡ text (names_of D) (with_counts (front.lines ++ added))
 
 -- The given bytes are a journal's text and were written as they are, or they are a front, from whose state the run goes on.
 abbrev pub IsContinued : Doc → ℕ → List ℕ → List ℕ → Type 0

@@ -4,8 +4,7 @@ use Rattle.rail_model.specs.declared.types.Line.{Line}
 use Rattle.rail_model.specs.Certificate.{Tree}
 use Rattle.rail_model.specs.Names.{Names}
 use Rattle.rail_model.specs.Yard.{Yard, opening}
-use Rattle.rail_model.specs.Journal.{IsWhole, words}
-use Rattle.move_journal.specs.Counted.{journal_of}
+use Rattle.rail_model.specs.Journal.{IsWhole, words, with_counts}
 use Rattle.train_sim.specs.Report.{Simulates, IsSoon}
 use Rattle.layout_json.specs.Doc.{Doc, offers_of, names_of, times_of}
 use Rattle.ats_run.specs.Certificates.{AreAccepted}
@@ -19,7 +18,7 @@ timed_text N _ _ = []
 -- the counts of the lines, and the tick of the last move
 abbrev pub last_text : List Line → ℕ → List ℕ
 last_text lines tick =
-    codes "end moves=" ++ decimal (journal_of lines).moves ++ codes " tables=" ++ decimal (journal_of lines).tables
+    codes "end moves=" ++ decimal (with_counts lines).moves ++ codes " tables=" ++ decimal (with_counts lines).tables
     ++ codes " last=" ++ decimal tick ++ codes "\n"
 
 -- The bytes are the timed journal of one whole run by the document's travel times, under tables that accept their certificates. From
@@ -33,6 +32,6 @@ pub record IsSimulated (D : Doc) (bytes : List ℕ) : Type 0 where
   pub end : Yard
   pub simulates : Simulates (offers_of D) (times_of D) (opening D.start) [] lines ticks last_tick end
   pub soon : IsSoon (offers_of D) (times_of D) end.moves last_tick
-  pub whole : IsWhole (offers_of D) (opening D.start) (journal_of lines)
+  pub whole : IsWhole (offers_of D) (opening D.start) (with_counts lines)
   pub goes_on_well : GoesOnWell (offers_of D) (opening D.start) lines
   pub printed : bytes ≡ timed_text (names_of D) ticks lines ++ last_text lines last_tick

@@ -3,11 +3,10 @@ ghost use Rattle.std.specs.Prelude.{◌≡◌, ◌⊎◌, ◌-◌, [], Ok, List,
 ghost use Rattle.layout_json.specs.Doc.{IsDoc, offers_of, names_of};
 ghost use Rattle.rail_model.specs.Table.{trains};
 ghost use Rattle.rail_model.specs.Yard.{offer, opening};
-ghost use Rattle.rail_model.specs.Journal.{IsDone, text as text_of};
+ghost use Rattle.rail_model.specs.Journal.{IsDone, text as text_of, with_counts};
 ghost use Rattle.rail_model.specs.Certificate.{Tree};
 ghost use Rattle.plain_yard.specs.Keeps.{Keeps};
 ghost use Rattle.plain_yard.specs.Rounds.{Finishes};
-ghost use Rattle.move_journal.specs.Counted.{journal_of};
 ghost use Rattle.ats_run.specs.Certificates.{AreAccepted};
 ghost use Rattle.ats_run.specs.Command.{IsDocWith, IsUnchecked};
 ghost use Rattle.ats_run.specs.Headline.{IsRun, IsRoundRobin};
@@ -77,7 +76,7 @@ pub fn finish_from(
 /// The text of the lines that a run of a document has.
 pub fn text_of_run(alloc: Global, doc: &Doc, state: PlainState) -> Result<Vec<u8>, AllocError>
     requires { Keeps (offers_of doc.now) state.yard state.lines }
-    ensures { IfOk result (λ text. text.items ≡ text_of (names_of doc.now) (journal_of state.lines)) }
+    ensures { IfOk result (λ text. text.items ≡ text_of (names_of doc.now) (with_counts state.lines)) }
 {
     let names = names_of(doc);
     let (_, lines) = state.into_parts();

@@ -1,10 +1,9 @@
 // The run of a document by its travel times, as text.
 ghost use Rattle.std.specs.Prelude.{◌≡◌, ◌⊎◌, ◌-◌, ◌++◌, [], All, List, length, IfOk, IfErr, OnOk, string_bytes};
 ghost use Rattle.rail_model.specs.Certificate.{Tree};
-ghost use Rattle.rail_model.specs.Journal.{IsDone};
+ghost use Rattle.rail_model.specs.Journal.{IsDone, with_counts};
 ghost use Rattle.rail_model.specs.Yard.{opening};
 ghost use Rattle.plain_yard.specs.Keeps.{Keeps};
-ghost use Rattle.move_journal.specs.Counted.{journal_of};
 ghost use Rattle.move_journal.specs.Printable.{IsNamed};
 ghost use Rattle.train_sim.specs.Report.{Simulates, IsSoon};
 ghost use Rattle.layout_json.specs.Doc.{IsDoc, offers_of, times_of, names_of};
@@ -69,7 +68,7 @@ fn begin_run<'a>(
 ) -> Result<PlainYard<'a, Accepted>, AllocError>
     requires { tables.now ≡ offers_of doc.now }
     ensures formed { IsDoc doc.now }
-    ensures run { IfOk result (λ run. run ≡ record { tables = offers_of doc.now; yard = opening doc.now.start; lines = [] }) }
+    ensures run { IfOk result (λ run. run ≡ record { tables = offers_of doc.now; yard = opening doc.now.start; lines = []; room = run.room }) }
 {
     let begun = begin(alloc, start_of(doc))?;
     let Ok(yard) = PlainYard::new(tables, begun) else {
@@ -110,7 +109,7 @@ fn push_timed(
 
 // Adds the counts of the lines and the tick of the last move.
 fn push_last(out: &mut String, journal: &Journal, last_tick: u32) -> Result<(), AllocError>
-    requires { journal.now ≡ journal_of journal.now.lines }
+    requires { journal.now ≡ with_counts journal.now.lines }
     ensures { OnOk result (string_bytes out.new ≡ string_bytes out.old ++ last_text journal.now.lines last_tick) }
 {
     let moves = journal.moves();

@@ -1,5 +1,5 @@
 // Reading the words.
-ghost use Rattle.std.specs.Prelude.{◌≡◌, ◌⊎◌, IfOk, IfErr, IfSome, Some, None, map, string_bytes, option_and_then};
+ghost use Rattle.std.specs.Prelude.{◌≡◌, IfOk, IfSome, Some, None, map, string_bytes, option_and_then};
 ghost use Rattle.clap.specs.Words.{found_of, rows_of, subcommand_rows_of};
 ghost use Rattle.command_words.specs.Subcommands as sub;
 ghost use Rattle.command_words.specs.Words as spec;
@@ -22,7 +22,6 @@ pub fn words(alloc: Global, words: &[String]) -> Result<Order, WordsRefused>
     ensures within { IfOk result sub.HasItsNumbers }
 
     ensures refused { result ≡ Err WordsRefused.Words → spec.words (map string_bytes words.now) ≡ None }
-    ensures errors { IfErr result (λ e. (e ≡ WordsRefused.Words) ⊎ (e ≡ WordsRefused.Memory)) }
 {
     let Ok(command) = command(alloc) else {
         return Err(WordsRefused::Memory);

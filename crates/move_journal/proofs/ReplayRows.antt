@@ -10,10 +10,9 @@ use Rattle.rail_model.specs.State.{Legal, StandsAt}
 use Rattle.rail_model.specs.Move.{Move as Step, Blocks}
 use Rattle.rail_model.specs.Exchange.{DiffersAt}
 use Rattle.rail_model.specs.Yard.{Offer, offer, opening}
-use Rattle.rail_model.specs.Journal.{IsRight, IsDone, IsWhole, after_lines}
+use Rattle.rail_model.specs.Journal.{IsRight, IsDone, IsWhole, after_lines, with_counts}
 use Rattle.move_journal.specs.declared.faults.BadLine.TheVariants as bad
 use Rattle.move_journal.specs.Printable.{AreEnough}
-use Rattle.move_journal.specs.Counted.{journal_of}
 use Rattle.move_journal.specs.Replays.{IsBad, HasBadLine, Replays, Lacks, IsNotWhole, Verifies}
 use Rattle.move_journal.proofs.Samples.{names, path}
 
@@ -46,16 +45,16 @@ done = (arrived, λ open_table. omega (arith, open_table))
     arrived zero h = refl
     arrived (suc i) h = absurd (omega arith)
 
-whole : IsWhole alone (opening (0 ∷ [])) (journal_of lines)
+whole : IsWhole alone (opening (0 ∷ [])) (with_counts lines)
 whole = record { right = right; done = done; moves = refl; exchanges = refl }
 
-replayed : Replays alone (opening (0 ∷ [])) (journal_of lines) (Ok (record { yard = record { positions = 2 ∷ []; table = 0; tried = 0; moves = 2 }; lines = lines }))
+replayed : Replays alone (opening (0 ∷ [])) (with_counts lines) (Ok (record { yard = record { positions = 2 ∷ []; table = 0; tried = 0; moves = 2 }; lines = lines }))
 replayed = record { right = right; yard = refl; lines = refl }
 
-verified : Verifies alone (opening (0 ∷ [])) (journal_of lines) (Ok tt)
+verified : Verifies alone (opening (0 ∷ [])) (with_counts lines) (Ok tt)
 verified = whole
 
-unfinished : Lacks alone (after_lines (opening (0 ∷ [])) (Move 0 0 (Some 1) ∷ [])) (journal_of (Move 0 0 (Some 1) ∷ [])) (bad.Unfinished 0)
+unfinished : Lacks alone (after_lines (opening (0 ∷ [])) (Move 0 0 (Some 1) ∷ [])) (with_counts (Move 0 0 (Some 1) ∷ [])) (bad.Unfinished 0)
 unfinished = ((lit< tt, λ e. absurd (omega (arith, e))), λ j below short. absurd (omega arith))
 
 three_moves : Lacks alone (after_lines (opening (0 ∷ [])) lines) (record { lines = lines; moves = 3; tables = 0 }) bad.Counts
@@ -71,7 +70,7 @@ no_such_train = (refl, inl (lit≤ tt))
 abbrev followed : List Offer
 followed = record { table = path; after = 0 } ∷ record { table = path; after = 99 } ∷ []
 
-unanswered : Lacks followed (after_lines (opening (0 ∷ [])) lines) (journal_of lines) (bad.Open 1)
+unanswered : Lacks followed (after_lines (opening (0 ∷ [])) lines) (with_counts lines) (bad.Open 1)
 unanswered = (done.0, lit< tt, refl)
 
 early : IsBad followed (opening (0 ∷ [])) 1 (TableLine 1) (bad.Table 1)
@@ -88,10 +87,10 @@ twice = (
   (refl, inr ((λ e. absurd (omega (arith, e))), λ at. absurd (let h : Some 1 ≡ Some 0 = at.0 in cc))),
 )
 
-refused : Replays alone (opening (0 ∷ [])) (journal_of (Move 0 0 (Some 1) ∷ Move 0 0 (Some 1) ∷ [])) (Err (bad.Place 2))
+refused : Replays alone (opening (0 ∷ [])) (with_counts (Move 0 0 (Some 1) ∷ Move 0 0 (Some 1) ∷ [])) (Err (bad.Place 2))
 refused = twice
 
-not_whole : IsNotWhole alone (opening (0 ∷ [])) (journal_of (Move 0 0 (Some 1) ∷ Move 0 0 (Some 1) ∷ [])) (bad.Place 2)
+not_whole : IsNotWhole alone (opening (0 ∷ [])) (with_counts (Move 0 0 (Some 1) ∷ Move 0 0 (Some 1) ∷ [])) (bad.Place 2)
 not_whole = inl twice
 
 goes_on : IsBad alone (after_lines (opening (0 ∷ [])) lines) 3 (Move 0 2 None) (bad.Move 3 AtEnd)

@@ -8,12 +8,11 @@ use Rattle.std.proofs.lemmas.List.Elements.{All-nil, All-cons}
 use Rattle.decimal_number.specs.Decimal.{number_of}
 use Rattle.rail_model.specs.declared.types.Line.{Line}
 use Rattle.rail_model.specs.declared.types.Line.TheVariants.{Move, Table, KeptDiffers, KeptOver}
-use Rattle.rail_model.specs.Journal.{text}
+use Rattle.rail_model.specs.Journal.{text, with_counts}
 use Rattle.move_journal.specs.declared.faults.BadText.TheVariants.{Line as BadLine, Number, After, NoEnd}
 use Rattle.move_journal.specs.declared.lines.Part.TheVariants.{Whole, Open}
 use Rattle.move_journal.specs.declared.reading.Head.TheVariants.{Other}
 use Rattle.move_journal.specs.Printable.{IsNamed, IsPrintable, ArePrintable}
-use Rattle.move_journal.specs.Counted.{journal_of}
 use Rattle.move_journal.specs.Answers.{IsTextOf, IsFrontOf, Reads, HasFault, Answers, AnswersPrefix}
 use Rattle.move_journal.specs.Words.{word_list, called, target_of, move_of, table_of, differs_of, over_of, kept_of, line_of, numbered_of, field_of, end_of}
 use Rattle.move_journal.proofs.Again.{IsOneLine}
@@ -72,7 +71,7 @@ end_with_zeros = refl
 abbrev lines : List Line
 lines = Move 0 0 (Some 1) ∷ Move 0 1 (Some 2) ∷ []
 
-printed : text names (journal_of lines) ≡ codes "1 move T0 A B\n2 move T0 B C\nend moves=2 tables=0\n"
+printed : text names (with_counts lines) ≡ codes "1 move T0 A B\n2 move T0 B C\nend moves=2 tables=0\n"
 printed = rw (decimal_digit 1 (lit< tt), decimal_digit 2 (lit< tt), decimal_digit 0 (lit< tt)) refl
 
 are_printable : ArePrintable names lines
@@ -82,23 +81,23 @@ are_printable = record {
       (All-cons (IsPrintable names) (Move 0 1 (Some 2)) [] (lit< tt, lit< tt, lit< tt) (All-nil (IsPrintable names)));
 }
 
-whole : IsTextOf names (codes "1 move T0 A B\n2 move T0 B C\nend moves=2 tables=0\n") (journal_of lines)
+whole : IsTextOf names (codes "1 move T0 A B\n2 move T0 B C\nend moves=2 tables=0\n") (with_counts lines)
 whole = record { has = record { lines = are_printable; moves = lit< tt; tables = lit< tt }; text = sym printed }
 
-front : IsFrontOf names (codes "1 move T0 A B\n2 move T0 B C\n") (journal_of lines)
+front : IsFrontOf names (codes "1 move T0 A B\n2 move T0 B C\n") (with_counts lines)
 front = record {
   lines = are_printable;
   text = sym (rw (decimal_digit 1 (lit< tt), decimal_digit 2 (lit< tt)) refl);
   counts = (refl, refl);
 }
 
-read_whole : Answers names (codes "1 move T0 A B\n2 move T0 B C\nend moves=2 tables=0\n") (Ok (journal_of lines))
+read_whole : Answers names (codes "1 move T0 A B\n2 move T0 B C\nend moves=2 tables=0\n") (Ok (with_counts lines))
 read_whole = whole
 
-prefix_whole : AnswersPrefix names (codes "1 move T0 A B\n2 move T0 B C\nend moves=2 tables=0\n") (Ok (Whole (journal_of lines)))
+prefix_whole : AnswersPrefix names (codes "1 move T0 A B\n2 move T0 B C\nend moves=2 tables=0\n") (Ok (Whole (with_counts lines)))
 prefix_whole = whole
 
-prefix_open : AnswersPrefix names (codes "1 move T0 A B\n2 move T0 B C\n") (Ok (Open (journal_of lines)))
+prefix_open : AnswersPrefix names (codes "1 move T0 A B\n2 move T0 B C\n") (Ok (Open (with_counts lines)))
 prefix_open = front
 
 named_exit : IsNamed names (Move 0 2 None)

@@ -5,7 +5,7 @@ use Rattle.std.proofs.lemmas.List.{append-nil}
 use Rattle.std.proofs.lemmas.List.Elements.{All-nil, All-cons}
 use Rattle.rail_model.specs.declared.types.Line.{Line}
 use Rattle.rail_model.specs.Names.{Names, IsNames}
-use Rattle.rail_model.specs.Journal.{Journal, lines_text, end_text}
+use Rattle.rail_model.specs.Journal.{Journal, lines_text, end_text, with_counts}
 use Rattle.move_journal.specs.declared.faults.BadText.{BadText}
 use Rattle.move_journal.specs.declared.faults.BadText.TheVariants.{Line as BadLine, Number, After, NoEnd, Memory}
 use Rattle.move_journal.specs.declared.lines.Part.{Part}
@@ -13,7 +13,6 @@ use Rattle.move_journal.specs.declared.lines.Part.TheVariants.{Whole, Open}
 use Rattle.move_journal.specs.declared.reading.Head.{Head}
 use Rattle.move_journal.specs.declared.reading.Head.TheVariants.{Numbered, End, Other}
 use Rattle.move_journal.specs.Printable.{IsPrintable}
-use Rattle.move_journal.specs.Counted.{journal_of}
 use Rattle.move_journal.specs.Answers.{IsTextOf, IsFrontOf, BeginsWithEnd, Reads, Stops, Answers, AnswersPrefix}
 use Rattle.move_journal.specs.Heads.{IsHead, IsContent}
 use Rattle.move_journal.specs.Words.{word_list, numbered_of, end_of}
@@ -93,7 +92,7 @@ text_of_way N bytes lines m t w = record {
 }
 
 -- the front of a text, from a way that ends with the bytes
-front_of_way : (N : Names) (bytes : List ℕ) (lines : List Line) → Way N bytes lines (bad NoEnd) → IsFrontOf N bytes (journal_of lines)
+front_of_way : (N : Names) (bytes : List ℕ) (lines : List Line) → Way N bytes lines (bad NoEnd) → IsFrontOf N bytes (with_counts lines)
 front_of_way N bytes lines w = record {
   lines = w.reads.printable;
   text = w.reads.text ∙ ap (λ r. lines_text N 1 lines ++ r) (no_bytes w.rest w.ends) ∙ append-nil (lines_text N 1 lines);
@@ -117,7 +116,7 @@ prefix_of_way N bytes lines (ended m t) w = (Ok (Whole (record { lines = lines; 
 prefix_of_way N bytes lines (bad (BadLine j)) w = (Err (BadLine j), (λ e. absurd cc), (lines, w.rest, w.reads, w.ends))
 prefix_of_way N bytes lines (bad (Number j)) w = (Err (Number j), (λ e. absurd cc), (lines, w.rest, w.reads, w.ends))
 prefix_of_way N bytes lines (bad After) w = (Err After, (λ e. absurd cc), (lines, w.rest, w.reads, w.ends))
-prefix_of_way N bytes lines (bad NoEnd) w = (Ok (Open (journal_of lines)), (λ e. absurd cc), front_of_way N bytes lines w)
+prefix_of_way N bytes lines (bad NoEnd) w = (Ok (Open (with_counts lines)), (λ e. absurd cc), front_of_way N bytes lines w)
 prefix_of_way N bytes lines (bad Memory) w = absurd w.ends
 
 pub some_answer : (N : Names) (bytes : List ℕ) → IsNames N → (a : Result Journal BadText) × (a ≡ Err Memory → ⊥) × Answers N bytes a

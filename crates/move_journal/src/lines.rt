@@ -1,7 +1,6 @@
 // A journal: its lines, and the two counts of its end line.
 ghost use Rattle.std.specs.Prelude.{◌≡◌, ℕ, ◌^◌, ◌<◌, length, count_by};
-ghost use Rattle.rail_model.specs.Journal.{is_move, is_table};
-ghost use Rattle.move_journal.specs.Counted.{journal_of};
+ghost use Rattle.rail_model.specs.Journal.{is_move, is_table, with_counts};
 
 use rail_model::Line;
 use std::marker::Model;
@@ -37,7 +36,7 @@ impl Journal {
     /// The journal of these lines, with the counts of its moves and of its exchanged tables.
     pub fn from_lines(lines: Vec<Line>) -> Self
         requires { length lines.items < 2 ^ 32 }
-        ensures { result ≡ journal_of lines.items }
+        ensures { result ≡ with_counts lines.items }
     {
         let moves = moves_of(&lines) as u32;
         let tables = tables_of(&lines) as u32;

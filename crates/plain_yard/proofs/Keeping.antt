@@ -4,33 +4,31 @@ use Rattle.std.specs.Prelude.{count_by}
 use Rattle.std.proofs.lemmas.List.Sums.{sum_by-cons}
 use Rattle.rail_model.specs.declared.types.Ask.{Ask}
 use Rattle.rail_model.specs.declared.types.Ask.TheVariants.{Yes, Arrived as AtEnd, Occupied, Full, Waits}
+use Rattle.rail_model.specs.declared.types.Entry.{Entry}
 use Rattle.rail_model.specs.declared.types.Line.{Line}
 use Rattle.rail_model.specs.declared.types.Line.TheVariants.{Move as MoveLine, Table as TableLine, KeptDiffers, KeptOver}
 use Rattle.rail_model.specs.declared.types.Tried.{Tried}
 use Rattle.rail_model.specs.declared.types.Tried.TheVariants.{Exchanged, Differs, Over, Early, NoMore}
-use Rattle.rail_model.specs.Journal.{IsRight, IsRound, IsDone, IsWhole, after_line, after_lines, is_move}
-use Rattle.rail_model.specs.Lines.{move_line}
+use Rattle.rail_model.specs.Journal.{IsRight, IsRound, IsDone, IsWhole, after_line, after_lines, is_move, with_counts}
+use Rattle.rail_model.specs.Lines.{move_line, journal_of}
 use Rattle.rail_model.specs.Move.{Answers}
 use Rattle.rail_model.specs.Plain.{Plain}
 use Rattle.rail_model.specs.State.{Legal}
 use Rattle.rail_model.specs.Table.{IsTable}
-use Rattle.rail_model.specs.Yard.{Offer, Yard, offer, in_force, opening, moved, Tries}
+use Rattle.rail_model.specs.Yard.{Offer, Yard, offer, in_force, opening, moved, Tries, IsHistory, after}
+use Rattle.rail_model.proofs.Histories.{journal_leads, journal_right}
+use Rattle.rail_model.proofs.LinesOfMoves.{move_line_right}
 use Rattle.table_exchange.specs.Steps.{after_ask, after_tried}
 use Rattle.table_exchange.specs.Tables.{AreTables, Stands}
-use Rattle.table_exchange.proofs.Standings.{few_places, stands_line}
-use Rattle.plain_yard.specs.Keeps.{Keeps, whole_of}
+use Rattle.table_exchange.proofs.Histories.{stands_lines}
+use Rattle.table_exchange.proofs.Standings.{few_places}
+use Rattle.plain_yard.specs.Keeps.{Keeps}
 use Rattle.plain_yard.specs.Lines.{IsReady, asked_lines, most_lines, tried_lines}
 use Rattle.plain_yard.specs.Rounds.{Finishes}
-use Rattle.plain_yard.proofs.Moving.{move_line_right}
 use Rattle.plain_yard.proofs.Reaching.{after_append}
 
 stands_opening : (tables : List Offer) (start : List ℕ) → AreTables tables → Legal (offer tables 0).table start → Stands tables (opening start)
 stands_opening tables start are legal = record { in_range = are.some; tried = are.some; answered = omega arith; legal = legal; moves = omega arith }
-
--- right lines lead from a yard that stands to one that stands
-stands_lines : (tables : List Offer) (y : Yard) (lines : List Line) → AreTables tables → Stands tables y → IsRight tables y lines → Stands tables (after_lines y lines)
-stands_lines tables y [] are s right = s
-stands_lines tables y (l ∷ later) are s right = stands_lines tables (after_line y l) later are (stands_line tables y l are s right.0) right.1
 
 pub keeps_stands : (tables : List Offer) (y : Yard) (lines : List Line) → Keeps tables y lines → Stands tables y
 keeps_stands tables y lines k =
@@ -139,6 +137,14 @@ keeps_on tables y z lines added longer k right after adds = record {
   reached = after ∙ ap (λ w. after_lines w added) k.reached ∙ sym (after_append (opening k.start) lines added) ∙ ap (after_lines (opening k.start)) (sym adds);
 }
 
+pub lines_keep : (tables : List Offer) (y : Yard) (lines added : List Line) → Keeps tables y lines → IsRight tables y added → Keeps tables (after_lines y added) (lines ++ added)
+lines_keep tables y lines added k right = keeps_on tables y (after_lines y added) lines added (lines ++ added) k right refl refl
+
+pub history_keeps : (tables : List Offer) (y : Yard) (lines : List Line) (h : List Entry) → Keeps tables y lines → IsHistory tables y h
+    → Keeps tables (after y h) (lines ++ journal_of tables y h)
+history_keeps tables y lines h k legal =
+    keeps_on tables y (after y h) lines (journal_of tables y h) (lines ++ journal_of tables y h) k (journal_right tables y h legal) (sym (journal_leads tables y h)) refl
+
 pub keeps_asked : (tables : List Offer) (y z : Yard) (lines longer : List Line) (i : ℕ) (a : Ask) → Keeps tables y lines → Answers (in_force tables y) y.positions i a
     → z ≡ after_ask y i a → longer ≡ lines ++ asked_lines tables y i a → Keeps tables z longer
 keeps_asked tables y z lines longer i Yes k answer after adds = keeps_on tables y z lines (move_line tables y i ∷ []) longer k (move_line_right tables y i answer, tt) after adds
@@ -167,7 +173,7 @@ pub keeps_finish : (tables : List Offer) (y z : Yard) (b : ℕ) (lines longer : 
 keeps_finish tables y z b lines longer k f = keeps_on tables y z lines f.added longer k (round_right tables y b f.added f.round) f.after f.adds
 
 -- the lines of a run that is done are a whole journal
-pub whole : (tables : List Offer) (y : Yard) (lines : List Line) → (run : Keeps tables y lines) → IsDone tables y → IsWhole tables (opening run.start) (whole_of lines)
+pub whole : (tables : List Offer) (y : Yard) (lines : List Line) → (run : Keeps tables y lines) → IsDone tables y → IsWhole tables (opening run.start) (with_counts lines)
 whole tables y lines run done = record {
   right = run.right;
   done = subst (IsDone tables) run.reached done;
@@ -177,7 +183,7 @@ whole tables y lines run done = record {
 
 -- and so are right lines with those of a finish
 pub whole_finish : (tables : List Offer) (start : List ℕ) (y z : Yard) (last : ℕ) (lines longer : List Line) → IsRight tables (opening start) lines → y ≡ after_lines (opening start) lines
-    → Finishes tables y last lines z longer → IsDone tables z → IsWhole tables (opening start) (whole_of longer)
+    → Finishes tables y last lines z longer → IsDone tables z → IsWhole tables (opening start) (with_counts longer)
 whole_finish tables start y z last lines longer right reached f done = record {
   right = subst (IsRight tables (opening start)) (sym f.adds)
       (right_append tables (opening start) lines f.added right (subst (λ w. IsRight tables w f.added) reached (round_right tables y last f.added f.round)));

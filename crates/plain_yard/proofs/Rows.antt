@@ -4,13 +4,12 @@ use Rattle.rail_model.specs.declared.types.Ask.TheVariants.{Yes, Full}
 use Rattle.rail_model.specs.declared.types.Line.{Line}
 use Rattle.rail_model.specs.declared.types.Line.TheVariants.{Move as MoveLine, KeptDiffers}
 use Rattle.rail_model.specs.declared.types.Tried.TheVariants.{Differs, Early}
-use Rattle.rail_model.specs.Journal.{IsRound, IsNextMover, after_lines}
+use Rattle.rail_model.specs.Journal.{IsRound, IsNextMover, after_lines, with_counts}
 use Rattle.rail_model.specs.Move.{Move}
 use Rattle.rail_model.specs.State.{Legal}
 use Rattle.rail_model.specs.Table.{Table, trains, last, place}
 use Rattle.rail_model.specs.Yard.{Offer, offer, opening}
 use Rattle.table_exchange.specs.Tables.{AreTables}
-use Rattle.plain_yard.specs.Keeps.{whole_of}
 use Rattle.plain_yard.specs.Lines.{asked_lines, tried_lines}
 
 -- one train with these points and no sections
@@ -91,7 +90,7 @@ kept_lines = MoveLine 0 0 (Some 1) ∷ MoveLine 0 1 (Some 0) ∷ KeptDiffers 1 0
 kept_led : after_lines (opening (0 ∷ [])) kept_lines ≡ record { positions = 3 ∷ []; table = 0; tried = 1; moves = 3 }
 kept_led = refl
 
-counted : whole_of kept_lines ≡ record { lines = kept_lines; moves = 3; tables = 0 }
+counted : with_counts kept_lines ≡ record { lines = kept_lines; moves = 3; tables = 0 }
 counted = refl
 
 tables : AreTables twice

@@ -8,6 +8,6 @@ mod plain;
 mod rounds;
 
 pub use checked::CheckedTable;
-pub use laws::{begun_keeps, finished_is_whole, replayed_keeps, run_is_whole};
+pub use laws::{begun_keeps, finished_is_whole, histories_keep, replayed_keeps, run_is_whole};
 pub use plain::{MOST_LINES, PlainYard, begin};
 pub use rounds::has_answer;

@@ -43,7 +43,7 @@ impl<'a, A: CheckedTable> Model for PlainYard<'a, A> {
 
     ghost Value = { PlainRun };
 
-    ghost view = { λ s. record { tables = map A.offer s.tables.now; yard = s.yard; lines = s.lines.items } };
+    ghost view = { λ s. record { tables = map A.offer s.tables.now; yard = s.yard; lines = s.lines.items; room = vec_capacity s.lines } };
 
     ghost invariant = { λ s. Keeps (map A.offer s.tables.now) s.yard s.lines.items × (most_lines ≤ vec_capacity s.lines) };
 }
@@ -57,7 +57,8 @@ impl<'a, A: CheckedTable> PlainYard<'a, A> {
     /// Want of memory alone; the state comes back as it was.
     pub fn new(tables: &'a [A], state: PlainState) -> Result<Self, PlainState>
         requires { Keeps (map A.offer tables.now) state.yard state.lines }
-        ensures ok { IfOk result (λ run. run ≡ record { tables = map A.offer tables.entry.now; yard = state.yard; lines = state.lines }) }
+        ensures ok { IfOk result (λ run. run ≡ record { tables = map A.offer tables.entry.now; yard = state.yard; lines = state.lines; room = run.room }) }
+        ensures room { IfOk result (λ run. most_lines ≤ run.room) }
         ensures err { IfErr result (λ back. back ≡ state) }
     {
         let (yard, mut lines) = state.into_parts();
@@ -113,6 +114,7 @@ impl<'a, A: CheckedTable> PlainYard<'a, A> {
         ensures after { self.new.yard ≡ after_ask self.old.yard train result }
         ensures adds { self.new.lines ≡ self.old.lines ++ asked_lines self.old.tables self.old.yard train result }
         ensures tables { self.new.tables ≡ self.old.tables }
+        ensures room { self.new.room ≡ self.old.room }
         ensures keeps { Keeps self.new.tables self.new.yard self.new.lines }
     {
         ask_line(self.tables, &mut self.yard, &mut self.lines, train)
@@ -124,6 +126,7 @@ impl<'a, A: CheckedTable> PlainYard<'a, A> {
         ensures after { self.new.yard ≡ after_tried self.old.yard result }
         ensures adds { self.new.lines ≡ self.old.lines ++ tried_lines self.old.tables self.old.yard result }
         ensures tables { self.new.tables ≡ self.old.tables }
+        ensures room { self.new.room ≡ self.old.room }
         ensures keeps { Keeps self.new.tables self.new.yard self.new.lines }
     {
         try_line(self.tables, &mut self.yard, &mut self.lines)
@@ -135,6 +138,7 @@ impl<'a, A: CheckedTable> PlainYard<'a, A> {
         ensures done { IsDone self.new.tables self.new.yard }
         ensures round { Finishes self.old.tables self.old.yard (trains (offer self.old.tables 0).table - 1) self.old.lines self.new.yard self.new.lines }
         ensures tables { self.new.tables ≡ self.old.tables }
+        ensures room { self.new.room ≡ self.old.room }
         ensures keeps { Keeps self.new.tables self.new.yard self.new.lines }
     {
         finish_lines(self.tables, &mut self.yard, &mut self.lines);

@@ -25,6 +25,7 @@ fn try_next<A: HasTable>(tables: &[A], yard: &mut Standing, lines: &mut Vec<Line
     ensures tried { yard.new.tried ≡ yard.old.tried + (if result then 1 else 0) }
     ensures reaches { (b : ℕ) → Reaches (map A.offer tables.now) yard.old b lines.old.items yard.new b lines.new.items }
     ensures none { result ≡ false → (IsNextDue (map A.offer tables.now) yard.old → ⊥) × (yard.new ≡ yard.old) }
+    ensures room { vec_capacity lines.new ≡ vec_capacity lines.old }
     ensures ready { IsReady (map A.offer tables.now) yard.new lines.new.items (vec_capacity lines.new) }
 {
     has_answer(try_line(tables, yard, lines))
@@ -37,6 +38,7 @@ fn try_due<A: HasTable>(tables: &[A], yard: &mut Standing, lines: &mut Vec<Line>
     ensures reaches { (b : ℕ) → Reaches (map A.offer tables.now) yard.old b lines.old.items yard.new b lines.new.items }
     ensures none { IsNextDue (map A.offer tables.now) yard.new → ⊥ }
     ensures formed { IsTable (table_in_force (map A.offer tables.now) yard.new) }
+    ensures room { vec_capacity lines.new ≡ vec_capacity lines.old }
     ensures ready { IsReady (map A.offer tables.now) yard.new lines.new.items (vec_capacity lines.new) }
 {
     while try_next(tables, yard, lines) {}
@@ -48,6 +50,7 @@ fn go<A: HasTable>(tables: &[A], yard: &mut Standing, lines: &mut Vec<Line>, tra
     requires ready { IsReady (map A.offer tables.now) yard.old lines.old.items (vec_capacity lines.old) }
     requires train { train < trains (table_in_force (map A.offer tables.now) yard.old) }
     ensures went { Went (map A.offer tables.now) yard.old lines.old.items train result yard.new lines.new.items }
+    ensures room { vec_capacity lines.new ≡ vec_capacity lines.old }
     ensures ready { IsReady (map A.offer tables.now) yard.new lines.new.items (vec_capacity lines.new) }
 {
     matches!(ask_line(tables, yard, lines, train), Ask::Yes)
@@ -72,6 +75,7 @@ pub(crate) fn finish_lines<A: CheckedTable>(
     requires { IsReady (map A.offer tables.now) yard.old lines.old.items (vec_capacity lines.old) }
     ensures done { IsDone (map A.offer tables.now) yard.new }
     ensures round { Finishes (map A.offer tables.now) yard.old (trains (offer (map A.offer tables.now) 0).table - 1) lines.old.items yard.new lines.new.items }
+    ensures room { vec_capacity lines.new ≡ vec_capacity lines.old }
     ensures ready { IsReady (map A.offer tables.now) yard.new lines.new.items (vec_capacity lines.new) }
 {
     try_due(tables, yard, lines);

@@ -1,6 +1,6 @@
 -- A block of steps has exactly one answer, and the answer's entries are a history.
-use Rattle.std.proofs.Common.{◌≡◌, ◌⊎◌, ℕ, zero, suc, ◌+◌, ◌-◌, ◌<◌, ◌≤◌, List, length, replicate, refl, sym, ◌∙◌, ap, subst, arith, inl, inr}
-use Rattle.std.specs.Prelude.{min, max, slice_set, ◌↔◌}
+use Rattle.std.proofs.Common.{◌≡◌, ◌⊎◌, ℕ, zero, suc, ◌+◌, ◌<◌, ◌≤◌, List, length, replicate, refl, ◌∙◌, ap, subst, arith, inl, inr}
+use Rattle.std.specs.Prelude.{slice_set, ◌↔◌}
 use Rattle.std.proofs.lemmas.Bool.{cases_lt}
 use Rattle.std.proofs.lemmas.List.{get_or-set_same, set-set}
 use Rattle.rail_model.specs.declared.types.Ask.{Ask}

@@ -1,5 +1,5 @@
 -- Rows of blocks: T0 on a way of four points, and T1 that stands at the last of them or has left it.
-use Rattle.std.proofs.Common.{◌≡◌, [], ◌∷◌, refl, lit<, lit≤, inl, inr}
+use Rattle.std.proofs.Common.{◌≡◌, [], ◌∷◌, refl, lit<, lit≤, inr}
 use Rattle.rail_model.specs.declared.types.Ask.TheVariants.{Yes as Granted, Arrived, Occupied}
 use Rattle.rail_model.specs.declared.types.BlockAsk.TheVariants.{Yes, First, NotWhole}
 use Rattle.rail_model.specs.declared.types.Reply.TheVariants as reply

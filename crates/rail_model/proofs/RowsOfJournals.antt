@@ -7,7 +7,7 @@ use Rattle.rail_model.specs.declared.types.Line.{Line}
 use Rattle.rail_model.specs.declared.types.Line.TheVariants.{Move as MoveLine, Table as TableLine, KeptDiffers, KeptOver}
 use Rattle.rail_model.specs.Move.{Move, advance}
 use Rattle.rail_model.specs.Yard.{in_force, opening}
-use Rattle.rail_model.specs.Journal.{Journal, IsLine, IsRight, IsDone, IsWhole, IsNextMover, IsRound, after_lines, text}
+use Rattle.rail_model.specs.Journal.{Journal, IsLine, IsRight, IsDone, IsWhole, IsNextMover, IsRound, after_lines, with_counts, text}
 use Rattle.rail_model.specs.Lines.{journal_of}
 use Rattle.rail_model.proofs.MoveTests.{Decides-move}
 use Rattle.rail_model.proofs.StateTests.{Decides-arrived, due}
@@ -44,6 +44,9 @@ done = ((Decides-arrived (in_force three_tables ended) (1 ∷ 2 ∷ [])).0 refl,
 
 abbrev journal : Journal
 journal = record { lines = lines; moves = 3; tables = 1 }
+
+counts_of_lines : with_counts lines ≡ journal
+counts_of_lines = refl
 
 whole : IsWhole three_tables opened journal
 whole = record { right = right; done = done; moves = refl; exchanges = refl }

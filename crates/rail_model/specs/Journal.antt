@@ -52,6 +52,10 @@ pub record Journal : Type 0 where
   pub moves : ℕ
   pub tables : ℕ
 
+-- the journal of these lines, with its two counts
+abbrev pub with_counts : List Line → Journal
+with_counts lines = record { lines = lines; moves = count_by is_move lines; tables = count_by is_table lines }
+
 -- Right from the opening state on, done at its end, with true counts.
 pub record IsWhole (tables : List Offer) (y : Yard) (J : Journal) : Type 0 where
   pub right : IsRight tables y J.lines

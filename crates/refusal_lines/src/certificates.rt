@@ -8,7 +8,7 @@ use rail_model::Bad;
 use std::alloc::AllocError;
 
 /// Adds why a list of nodes spells no certificate of a table.
-pub fn push_tree(out: &mut String, table: u32, refused: &CertRefused) -> Result<(), AllocError>
+pub fn write_tree(out: &mut String, table: u32, refused: &CertRefused) -> Result<(), AllocError>
     ensures { OnOk result (string_bytes out.new ≡ string_bytes out.old ++ tree_words table refused.now) }
 {
     match *refused {
@@ -20,7 +20,7 @@ pub fn push_tree(out: &mut String, table: u32, refused: &CertRefused) -> Result<
 }
 
 /// Adds the first bad node of a table's certificate, and what it lacks.
-pub fn push_bad(out: &mut String, table: u32, bad: &Bad) -> Result<(), AllocError>
+pub fn write_bad(out: &mut String, table: u32, bad: &Bad) -> Result<(), AllocError>
     ensures { OnOk result (string_bytes out.new ≡ string_bytes out.old ++ bad_words table bad.now) }
 {
     match *bad {
@@ -44,23 +44,23 @@ pub fn push_bad(out: &mut String, table: u32, bad: &Bad) -> Result<(), AllocErro
             index,
             train,
             other,
-        } => push_point(out, table, index, train, other),
+        } => write_point(out, table, index, train, other),
         Bad::MoveRoom {
             index,
             train,
             section,
-        } => push_room(out, table, index, train, section),
+        } => write_room(out, table, index, train, section),
         Bad::Name { index } => write!(out, "58 Name table={table} index={index}"),
         Bad::MoveWait {
             index,
             train,
             connection,
-        } => push_wait(out, table, index, train, connection),
+        } => write_wait(out, table, index, train, connection),
     }
 }
 
 // Adds a move whose point another train may hold.
-fn push_point(
+fn write_point(
     out: &mut String,
     table: u32,
     index: u32,
@@ -76,7 +76,7 @@ fn push_point(
 }
 
 // Adds a move for which a section may lack room.
-fn push_room(
+fn write_room(
     out: &mut String,
     table: u32,
     index: u32,
@@ -92,7 +92,7 @@ fn push_room(
 }
 
 // Adds a move that a connection may hold.
-fn push_wait(
+fn write_wait(
     out: &mut String,
     table: u32,
     index: u32,

@@ -7,7 +7,7 @@ use rail_model::Ask;
 use std::alloc::AllocError;
 
 /// Adds what is wrong with the text of a journal.
-pub fn push_text(out: &mut String, fault: &BadText) -> Result<(), AllocError>
+pub fn write_text(out: &mut String, fault: &BadText) -> Result<(), AllocError>
     ensures { OnOk result (string_bytes out.new ≡ string_bytes out.old ++ text_words fault.now) }
 {
     match *fault {
@@ -20,13 +20,13 @@ pub fn push_text(out: &mut String, fault: &BadText) -> Result<(), AllocError>
 }
 
 /// Adds the first line of a journal that isn't right, or what it lacks at its end.
-pub fn push_line(out: &mut String, fault: &BadLine) -> Result<(), AllocError>
+pub fn write_line(out: &mut String, fault: &BadLine) -> Result<(), AllocError>
     ensures { OnOk result (string_bytes out.new ≡ string_bytes out.old ++ line_words fault.now) }
 {
     match *fault {
         BadLine::Move { line, ask } => {
             write!(out, "75 Move line={line} ")?;
-            push_ask(out, ask)
+            write_ask(out, ask)
         }
         BadLine::Table { line } => write!(out, "76 Table line={line}"),
         BadLine::Unfinished { train } => write!(out, "77 Unfinished train={train}"),
@@ -38,7 +38,7 @@ pub fn push_line(out: &mut String, fault: &BadLine) -> Result<(), AllocError>
 }
 
 // Adds what a train would be told.
-fn push_ask(out: &mut String, ask: Ask) -> Result<(), AllocError>
+fn write_ask(out: &mut String, ask: Ask) -> Result<(), AllocError>
     ensures { OnOk result (string_bytes out.new ≡ string_bytes out.old ++ ask_words ask) }
 {
     match ask {

@@ -7,7 +7,7 @@ use std::alloc::AllocError;
 use track_layout::LayoutRefused;
 
 /// Adds what is wrong with a layout.
-pub fn push_layout(out: &mut String, refused: &LayoutRefused) -> Result<(), AllocError>
+pub fn write_layout(out: &mut String, refused: &LayoutRefused) -> Result<(), AllocError>
     ensures { OnOk result (string_bytes out.new ≡ string_bytes out.old ++ layout_words refused.now) }
 {
     match *refused {
@@ -29,7 +29,7 @@ pub fn push_layout(out: &mut String, refused: &LayoutRefused) -> Result<(), Allo
 }
 
 /// Adds what is wrong with trains.
-pub fn push_trains(out: &mut String, refused: &TrainRefused) -> Result<(), AllocError>
+pub fn write_trains(out: &mut String, refused: &TrainRefused) -> Result<(), AllocError>
     ensures { OnOk result (string_bytes out.new ≡ string_bytes out.old ++ trains_words refused.now) }
 {
     match *refused {

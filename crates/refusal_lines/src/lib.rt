@@ -9,9 +9,10 @@ mod layouts;
 mod makers;
 mod marks;
 mod missions;
+mod refusals;
 mod starts;
 
-pub use certificates::{push_bad, push_tree};
-pub use documents::push_document;
-pub use journals::{push_line, push_text};
-pub use makers::{push_connected, push_many, push_rounds, push_spent, push_stuck};
+pub use refusals::{
+    push_bad, push_connected, push_document, push_line, push_many, push_rounds, push_spent,
+    push_stuck, push_text, push_tree,
+};

@@ -7,7 +7,7 @@ use section_marks::MarkRefused;
 use std::alloc::AllocError;
 
 /// Adds what is wrong with the sections or the connections of a table.
-pub fn push_marks(out: &mut String, table: usize, refused: &MarkRefused) -> Result<(), AllocError>
+pub fn write_marks(out: &mut String, table: usize, refused: &MarkRefused) -> Result<(), AllocError>
     ensures { OnOk result (string_bytes out.new ≡ string_bytes out.old ++ marks_words table refused.now) }
 {
     match *refused {
@@ -23,13 +23,13 @@ pub fn push_marks(out: &mut String, table: usize, refused: &MarkRefused) -> Resu
             train,
             place,
             value,
-        } => push_step(out, table, section, train, place, value),
+        } => write_step(out, table, section, train, place, value),
         MarkRefused::Share {
             section,
             train,
             place,
             value,
-        } => push_share(out, table, section, train, place, value),
+        } => write_share(out, table, section, train, place, value),
         MarkRefused::Limit { section, value } => {
             write!(
                 out,
@@ -39,14 +39,14 @@ pub fn push_marks(out: &mut String, table: usize, refused: &MarkRefused) -> Resu
         MarkRefused::Connections { count } => {
             write!(out, "26 Connections table={table} count={count}")
         }
-        MarkRefused::ConnectionTrain { connection } => push_wrong_trains(out, table, connection),
-        MarkRefused::ConnectionPlace { connection } => push_wrong_places(out, table, connection),
+        MarkRefused::ConnectionTrain { connection } => write_wrong_trains(out, table, connection),
+        MarkRefused::ConnectionPlace { connection } => write_wrong_places(out, table, connection),
         MarkRefused::Memory => write!(out, "202 Memory"),
     }
 }
 
 // Adds a change that no train may make.
-fn push_step(
+fn write_step(
     out: &mut String,
     table: usize,
     section: u32,
@@ -60,11 +60,11 @@ fn push_step(
         out,
         "23 Step table={table} section={section} train={train} place={place}"
     )?;
-    push_value(out, value)
+    write_value(out, value)
 }
 
 // Adds a share that no train may have.
-fn push_share(
+fn write_share(
     out: &mut String,
     table: usize,
     section: u32,
@@ -78,11 +78,11 @@ fn push_share(
         out,
         "24 Share table={table} section={section} train={train} place={place}"
     )?;
-    push_value(out, value)
+    write_value(out, value)
 }
 
 // Adds a connection whose trains are wrong.
-fn push_wrong_trains(out: &mut String, table: usize, connection: u32) -> Result<(), AllocError>
+fn write_wrong_trains(out: &mut String, table: usize, connection: u32) -> Result<(), AllocError>
     ensures { OnOk result (string_bytes out.new ≡ string_bytes out.old ++ marks_words table (ConnectionTrain connection)) }
 {
     write!(
@@ -92,7 +92,7 @@ fn push_wrong_trains(out: &mut String, table: usize, connection: u32) -> Result<
 }
 
 // Adds a connection whose places are wrong.
-fn push_wrong_places(out: &mut String, table: usize, connection: u32) -> Result<(), AllocError>
+fn write_wrong_places(out: &mut String, table: usize, connection: u32) -> Result<(), AllocError>
     ensures { OnOk result (string_bytes out.new ≡ string_bytes out.old ++ marks_words table (ConnectionPlace connection)) }
 {
     write!(
@@ -102,7 +102,7 @@ fn push_wrong_places(out: &mut String, table: usize, connection: u32) -> Result<
 }
 
 // Adds a change or a share, with its sign.
-fn push_value(out: &mut String, value: i32) -> Result<(), AllocError>
+fn write_value(out: &mut String, value: i32) -> Result<(), AllocError>
     ensures { OnOk result (string_bytes out.new ≡ string_bytes out.old ++ value_words value) }
 {
     write!(out, " value={value}")

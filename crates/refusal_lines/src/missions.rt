@@ -6,7 +6,7 @@ use mission_table::MissionRefused;
 use std::alloc::AllocError;
 
 /// Adds what is wrong with the missions of a table.
-pub fn push_missions(
+pub fn write_missions(
     out: &mut String,
     table: usize,
     refused: &MissionRefused,

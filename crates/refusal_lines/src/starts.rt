@@ -6,15 +6,15 @@ use legal_state::Illegal;
 use std::alloc::AllocError;
 
 /// Adds why a start isn't legal.
-pub fn push_start(out: &mut String, cause: &Illegal) -> Result<(), AllocError>
+pub fn write_start(out: &mut String, cause: &Illegal) -> Result<(), AllocError>
     ensures { OnOk result (string_bytes out.new ≡ string_bytes out.old ++ start_words cause.now) }
 {
     write!(out, "112 StartIllegal ")?;
-    push_illegal(out, cause)
+    write_illegal(out, cause)
 }
 
 // Adds why a state isn't legal.
-fn push_illegal(out: &mut String, cause: &Illegal) -> Result<(), AllocError>
+fn write_illegal(out: &mut String, cause: &Illegal) -> Result<(), AllocError>
     ensures { OnOk result (string_bytes out.new ≡ string_bytes out.old ++ illegal_words cause.now) }
 {
     match *cause {

@@ -1,3 +1,4 @@
 pub mod Arrivals
+pub mod Histories
 pub mod Rows
 pub mod Standings

@@ -6,5 +6,5 @@ mod laws;
 mod steps;
 
 pub use exchange::{NotNow, admit, all_arrived, due, first_unfinished};
-pub use laws::{admitted_stays_legal, each_admission_is_computed};
+pub use laws::{admitted_stays_legal, each_admission_is_computed, histories_keep_standing};
 pub use steps::{ask, in_force, try_table};

@@ -6,7 +6,7 @@ use Rattle.rail_model.specs.declared.types.Reply.TheVariants.{Driver, NotWhole, 
 use Rattle.rail_model.specs.declared.types.Tried.TheVariants.{Exchanged, Differs, Over, Early, NoMore}
 use Rattle.rail_model.specs.Journal.{IsRight}
 use Rattle.rail_model.specs.Yard.{Offer}
-use Rattle.plain_yard.proofs.Moving.{move_line_right}
+use Rattle.rail_model.proofs.LinesOfMoves.{move_line_right}
 use Rattle.train_sim.specs.Timed.{Clock, Stamped, IsNext, IsTimed, after_stamped, lines_of, timed_lines}
 
 abbrev pub stamped : ℕ → ℕ → Reply → Stamped

@@ -25,7 +25,7 @@ returns-in-Some-clause-ready g c =
       are = c.requires.are;
       stands = c.try_table-tried.ensures.stands;
       counted = counted_tried tables c.args.yard.now c.try_table-tried.new.yard c.try_table-tried.result c.args.lines.now.items _ c.requires.counted c.try_table-tried.ensures.after (returns-in-Some-clause-adds g c);
-      room = omega (arith, c.push_line.ensures.capacity, c.requires.room);
+      room = omega (arith, c.push_line.ensures.room, c.requires.room);
     }
 
 pub returns-in_default-clause-adds : goal.returns-in_default-clause-adds

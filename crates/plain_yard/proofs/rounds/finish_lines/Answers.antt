@@ -27,6 +27,7 @@ loop-asked-preserved-then-go g c =
     let more : c.loop-asked.asked < trains (in_force tables y) = omega (arith, c.loop-asked-test.true) in
     record {
       ready = c.try_due-then-go.ensures.ready;
+      room = c.try_due-then-go.ensures.room ∙ c.go.ensures.room ∙ c.loop-asked.invariant.room;
       size = new_size;
       turn = goes tables c.args.yard.now y c.go.new.yard w _ c.loop-asked.before c.loop-asked.asked i _ _ _ _ more (ap (λ (m : ℕ). (c.loop-asked.before + 1 + c.loop-asked.asked) % m) size) within
           c.if-go.ensures.went (c.try_due-then-go.ensures.reaches i) c.try_due-then-go.ensures.formed c.try_due-then-go.ensures.none c.loop-asked.invariant.turn;
@@ -43,6 +44,7 @@ loop-asked-preserved g c =
     let turn = declines tables c.args.yard.now y _ c.loop-asked.before c.loop-asked.asked _ _ (omega (arith, c.loop-asked-test.true)) none c.loop-asked.invariant.turn in
     record {
       ready = c.go.ensures.ready;
+      room = c.go.ensures.room ∙ c.loop-asked.invariant.room;
       size = size ∙ sym (ap (λ (z : Yard). trains (in_force tables z)) went.0);
       turn = subst (λ (z : Yard). Turn tables c.args.yard.now (trains (offer tables 0).table - 1) c.args.lines.now.items z c.loop-asked.before (c.loop-asked.asked + 1) c.go.new.lines.items) (sym went.0)
           (subst (λ (ls : List Line). Turn tables c.args.yard.now (trains (offer tables 0).table - 1) c.args.lines.now.items y c.loop-asked.before (c.loop-asked.asked + 1) ls) (sym went.1) turn);

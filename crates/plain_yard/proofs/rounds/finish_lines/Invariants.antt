@@ -10,6 +10,7 @@ invariant-loop-asked g l =
     let tables = map g.A.HasTable.offer l.tables in
     record {
       ready : IsReady tables l.yard l.lines.items (vec_capacity l.lines);
+      room : vec_capacity l.lines ≡ vec_capacity l.fn.lines;
       size : l.trains ≡ trains (in_force tables l.yard);
       turn : Turn tables l.fn.yard (trains (offer tables 0).table - 1) l.fn.lines.items l.yard l.before l.asked l.lines.items;
     }

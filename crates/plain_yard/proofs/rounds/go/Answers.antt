@@ -17,5 +17,6 @@ returns-in_default g c =
         adds_nothing tables y c.args.train c.ask_line.result _ _ other asked.adds,
         λ m. other (told_once (in_force tables y) y.positions c.args.train c.ask_line.result Yes c.requires.ready.stands.legal asked.answer m),
       );
+      room = asked.room;
       ready = asked.ready;
     }
