@@ -30,3 +30,13 @@ returns-clause-few c =
     let end : c.loop-place.place ≡ c.args.span.hi = omega arith in
     extremes_few T i s lo c.args.span.hi c.loop-place.extremes c.share_at-share.ensures.formed c.requires.section c.requires.train c.requires.some c.requires.in_range
     (subst (λ (n : ℕ). IsExtremes (share T i s) lo (n - lo) c.loop-place.extremes) end c.loop-place.invariant.extremes)
+
+pub overflow_add-share : goal.overflow_add-share
+overflow_add-share c =
+    let T = c.args.table.now in
+    let i = c.args.train in
+    let s = c.args.section in
+    let k = c.loop-place.place in
+    let bounds = share_bounds T i s (k + 1) c.share_at-share.ensures.formed c.requires.train c.requires.section (omega arith) in
+    let next = share_next T i s k in
+    omega (arith, ints, c.change_at-share.ensures.change, c.loop-place.invariant.share_is, next, bounds)
