@@ -153,15 +153,15 @@ fn mission(alloc: Global, points: &[u32], exits: bool) -> Result<Mission, AllocE
 }
 
 // Two trains that pass each other at a loop.
-fn passing_loop(alloc: Global) -> Result<Table, AllocError> {
+fn passing_loop(alloc: Global) -> Result<Table, Fail> {
     let mut missions = Vec::new(alloc);
     missions.push(mission(alloc, &[0, 1, 2], false)?)?;
     missions.push(mission(alloc, &[2, 3, 0], false)?)?;
-    Ok(Table::new(Missions::new(missions), Vec::new(alloc), Vec::new(alloc)))
+    Ok(Table::new(Missions::checked(missions).ok_or("missions")?, Vec::new(alloc), Vec::new(alloc)))
 }
 
 // Two trains that meet in a corridor, which one section keeps to one of them.
-fn corridor(alloc: Global) -> Result<Table, AllocError> {
+fn corridor(alloc: Global) -> Result<Table, Fail> {
     let mut missions = Vec::new(alloc);
     missions.push(mission(alloc, &[0, 1, 2, 3], false)?)?;
     missions.push(mission(alloc, &[4, 2, 1, 5], false)?)?;
@@ -170,29 +170,29 @@ fn corridor(alloc: Global) -> Result<Table, AllocError> {
     changes.push(Vec::from_slice(alloc, &[0, 1, 0, -1])?.into())?;
     let mut sections = Vec::new(alloc);
     sections.push(Section::new(1, changes))?;
-    Ok(Table::new(Missions::new(missions), sections, Vec::new(alloc)))
+    Ok(Table::new(Missions::checked(missions).ok_or("missions")?, sections, Vec::new(alloc)))
 }
 
 // Two trains that leave the layout behind one common point.
-fn leaving(alloc: Global) -> Result<Table, AllocError> {
+fn leaving(alloc: Global) -> Result<Table, Fail> {
     let mut missions = Vec::new(alloc);
     missions.push(mission(alloc, &[0, 1], true)?)?;
     missions.push(mission(alloc, &[2, 1], true)?)?;
-    Ok(Table::new(Missions::new(missions), Vec::new(alloc), Vec::new(alloc)))
+    Ok(Table::new(Missions::checked(missions).ok_or("missions")?, Vec::new(alloc), Vec::new(alloc)))
 }
 
 // Two trains on ways of their own, of which the first waits for the second.
-fn waiting(alloc: Global) -> Result<Table, AllocError> {
+fn waiting(alloc: Global) -> Result<Table, Fail> {
     let mut missions = Vec::new(alloc);
     missions.push(mission(alloc, &[0, 1], false)?)?;
     missions.push(mission(alloc, &[2, 3], false)?)?;
     let mut connections = Vec::new(alloc);
     connections.push(Connection::new(0, 0, 1, 1))?;
-    Ok(Table::new(Missions::new(missions), Vec::new(alloc), connections))
+    Ok(Table::new(Missions::checked(missions).ok_or("missions")?, Vec::new(alloc), connections))
 }
 
 // A train that enters a section in which another stays.
-fn entering(alloc: Global) -> Result<Table, AllocError> {
+fn entering(alloc: Global) -> Result<Table, Fail> {
     let mut missions = Vec::new(alloc);
     missions.push(mission(alloc, &[0, 1], false)?)?;
     missions.push(mission(alloc, &[2, 3], false)?)?;
@@ -201,11 +201,11 @@ fn entering(alloc: Global) -> Result<Table, AllocError> {
     changes.push(Vec::from_slice(alloc, &[1, 0])?.into())?;
     let mut sections = Vec::new(alloc);
     sections.push(Section::new(1, changes))?;
-    Ok(Table::new(Missions::new(missions), sections, Vec::new(alloc)))
+    Ok(Table::new(Missions::checked(missions).ok_or("missions")?, sections, Vec::new(alloc)))
 }
 
 // Two trains that stay in one section.
-fn together(alloc: Global, limit: u32) -> Result<Table, AllocError>
+fn together(alloc: Global, limit: u32) -> Result<Table, Fail>
     requires { limit ≤ 128 }
 {
     let mut missions = Vec::new(alloc);
@@ -216,7 +216,7 @@ fn together(alloc: Global, limit: u32) -> Result<Table, AllocError>
     changes.push(Vec::from_slice(alloc, &[1, 0])?.into())?;
     let mut sections = Vec::new(alloc);
     sections.push(Section::new(limit, changes))?;
-    Ok(Table::new(Missions::new(missions), sections, Vec::new(alloc)))
+    Ok(Table::new(Missions::checked(missions).ok_or("missions")?, sections, Vec::new(alloc)))
 }
 
 // What all three checks answer.

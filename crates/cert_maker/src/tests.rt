@@ -53,52 +53,52 @@ fn mission(alloc: Global, points: &[u32], exits: bool) -> Result<Mission, AllocE
 }
 
 // One train on a way of three points.
-fn first_path(alloc: Global) -> Result<Table, AllocError> {
+fn first_path(alloc: Global) -> Result<Table, Fail> {
     let mut missions = Vec::new(alloc);
     missions.push(mission(alloc, &[0, 1, 2], false)?)?;
-    Ok(Table::new(Missions::new(missions), Vec::new(alloc), Vec::new(alloc)))
+    Ok(Table::new(Missions::checked(missions).ok_or("missions")?, Vec::new(alloc), Vec::new(alloc)))
 }
 
 // Two trains that want each other's points.
-fn head_on(alloc: Global) -> Result<Table, AllocError> {
+fn head_on(alloc: Global) -> Result<Table, Fail> {
     let mut missions = Vec::new(alloc);
     missions.push(mission(alloc, &[0, 1], false)?)?;
     missions.push(mission(alloc, &[1, 0], false)?)?;
-    Ok(Table::new(Missions::new(missions), Vec::new(alloc), Vec::new(alloc)))
+    Ok(Table::new(Missions::checked(missions).ok_or("missions")?, Vec::new(alloc), Vec::new(alloc)))
 }
 
 // Two trains that meet in a corridor without sections.
-fn corridor(alloc: Global) -> Result<Table, AllocError> {
+fn corridor(alloc: Global) -> Result<Table, Fail> {
     let mut missions = Vec::new(alloc);
     missions.push(mission(alloc, &[0, 1, 2, 3], false)?)?;
     missions.push(mission(alloc, &[4, 2, 1, 5], false)?)?;
-    Ok(Table::new(Missions::new(missions), Vec::new(alloc), Vec::new(alloc)))
+    Ok(Table::new(Missions::checked(missions).ok_or("missions")?, Vec::new(alloc), Vec::new(alloc)))
 }
 
 // Two trains that pass each other in a loop.
-fn passing_loop(alloc: Global) -> Result<Table, AllocError> {
+fn passing_loop(alloc: Global) -> Result<Table, Fail> {
     let mut missions = Vec::new(alloc);
     missions.push(mission(alloc, &[0, 1, 2], false)?)?;
     missions.push(mission(alloc, &[2, 3, 0], false)?)?;
-    Ok(Table::new(Missions::new(missions), Vec::new(alloc), Vec::new(alloc)))
+    Ok(Table::new(Missions::checked(missions).ok_or("missions")?, Vec::new(alloc), Vec::new(alloc)))
 }
 
 // Two trains that leave the layout behind one common point.
-fn leaving(alloc: Global) -> Result<Table, AllocError> {
+fn leaving(alloc: Global) -> Result<Table, Fail> {
     let mut missions = Vec::new(alloc);
     missions.push(mission(alloc, &[0, 1], true)?)?;
     missions.push(mission(alloc, &[2, 1], true)?)?;
-    Ok(Table::new(Missions::new(missions), Vec::new(alloc), Vec::new(alloc)))
+    Ok(Table::new(Missions::checked(missions).ok_or("missions")?, Vec::new(alloc), Vec::new(alloc)))
 }
 
 // Two trains on ways of their own, of which the first waits for the second.
-fn waiting(alloc: Global) -> Result<Table, AllocError> {
+fn waiting(alloc: Global) -> Result<Table, Fail> {
     let mut missions = Vec::new(alloc);
     missions.push(mission(alloc, &[0, 1], false)?)?;
     missions.push(mission(alloc, &[2, 3], false)?)?;
     let mut connections = Vec::new(alloc);
     connections.push(Connection::new(0, 0, 1, 1))?;
-    Ok(Table::new(Missions::new(missions), Vec::new(alloc), connections))
+    Ok(Table::new(Missions::checked(missions).ok_or("missions")?, Vec::new(alloc), connections))
 }
 
 // The nodes of a certificate that was given.

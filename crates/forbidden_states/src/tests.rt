@@ -8,7 +8,7 @@ use std::alloc::{AllocError, Global};
 use std::test::Fail;
 
 // Two trains that want through a corridor from its two ends.
-fn corridor(alloc: Global) -> Result<Missions, AllocError>
+fn corridor(alloc: Global) -> Result<Missions, Fail>
     ensures { IfOk result (λ missions. length missions ≡ 2) }
 {
     let first = Mission::new(Vec::from_slice(alloc, &[0, 1, 2, 3, 4])?, false);
@@ -16,7 +16,7 @@ fn corridor(alloc: Global) -> Result<Missions, AllocError>
     let mut missions = Vec::new(alloc);
     missions.push(first)?;
     missions.push(second)?;
-    Ok(Missions::new(missions))
+    Ok(Missions::checked(missions).ok_or("missions")?)
 }
 
 // The trains in the corridor.

@@ -31,13 +31,13 @@ fn path_names(alloc: Global) -> Result<Names, AllocError> {
 }
 
 // T0 from A over B to C.
-fn path(alloc: Global) -> Result<Table, AllocError>
+fn path(alloc: Global) -> Result<Table, Fail>
     ensures { IfOk result (λ t. trains t ≡ 1) }
 {
     let points = Vec::from_slice(alloc, &[0, 1, 2])?;
     let mut missions = Vec::new(alloc);
     missions.push(Mission::new(points, false))?;
-    let missions = Missions::new(missions);
+    let missions = Missions::checked(missions).ok_or("missions")?;
     Ok(Table::new(missions, Vec::new(alloc), Vec::new(alloc)))
 }
 

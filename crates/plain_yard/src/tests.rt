@@ -8,19 +8,17 @@ use cert_checker::{Accepted, accept};
 use cert_tree::tree;
 use legal_state::judge;
 use rail_model::{Line, Mission, Missions, Node, PlainState, State, Table};
-use std::alloc::{AllocError, Global};
+use std::alloc::Global;
 use std::test::Fail;
 use table_exchange::in_force;
 
 // One train with these points.
-fn alone(alloc: Global, points: &[u32]) -> Result<Table, AllocError>
-    requires some { 1 ≤ length points.now }
-    requires few { length points.now ≤ 128 }
+fn alone(alloc: Global, points: &[u32]) -> Result<Table, Fail>
     ensures { IfOk result (λ table. trains table ≡ 1) }
 {
     let mut missions = Vec::new(alloc);
     missions.push(Mission::new(Vec::from_slice(alloc, points)?, false))?;
-    Ok(Table::new(Missions::new(missions), Vec::new(alloc), Vec::new(alloc)))
+    Ok(Table::new(Missions::checked(missions).ok_or("missions")?, Vec::new(alloc), Vec::new(alloc)))
 }
 
 // The same as a table that is accepted: the train moves until it has arrived.

@@ -1,16 +1,16 @@
 use super::*;
 use rail_model::{Connection, Mission, Missions, Table};
-use std::alloc::{AllocError, Global};
+use std::alloc::Global;
 use std::test::Fail;
 
 // A B and C D, for two trains.
-fn two(alloc: Global) -> Result<Missions, AllocError> {
+fn two(alloc: Global) -> Result<Missions, Fail> {
     let first = Mission::new(Vec::from_slice(alloc, &[0, 1])?, false);
     let second = Mission::new(Vec::from_slice(alloc, &[2, 3])?, false);
     let mut missions = Vec::new(alloc);
     missions.push(first)?;
     missions.push(second)?;
-    Ok(Missions::new(missions))
+    Ok(Missions::checked(missions).ok_or("missions")?)
 }
 
 // One section for the two trains.
@@ -20,7 +20,7 @@ fn marked(
     first: &[i32],
     second: &[i32],
     marks: Marks,
-) -> Result<Result<Table, MarkRefused>, AllocError> {
+) -> Result<Result<Table, MarkRefused>, Fail> {
     let mut changes = Vec::new(alloc);
     changes.push(Vec::from_slice(alloc, first)?)?;
     changes.push(Vec::from_slice(alloc, second)?)?;

@@ -56,11 +56,11 @@ fn mission(alloc: Global, points: &[u32]) -> Result<Mission, AllocError>
 }
 
 // Two trains that want through a long corridor from its two ends.
-fn long_corridor(alloc: Global) -> Result<Missions, AllocError> {
+fn long_corridor(alloc: Global) -> Result<Missions, Fail> {
     let mut missions = Vec::new(alloc);
     missions.push(mission(alloc, &[0, 1, 2, 3, 4])?)?;
     missions.push(mission(alloc, &[5, 3, 2, 1, 6])?)?;
-    Ok(Missions::new(missions))
+    Ok(Missions::checked(missions).ok_or("missions")?)
 }
 
 // Whether a section has this limit and these changes for two trains.

@@ -111,7 +111,7 @@ fn two_trains_pass(rt: HostRuntime) -> Result<(), Fail> {
         Node::Move { train: 1 },
         Node::Arrived,
     ];
-    let tables = [accepted(alloc, Missions::new(ways), 0, &nodes)?];
+    let tables = [accepted(alloc, Missions::checked(ways).ok_or("missions")?, 0, &nodes)?];
     let start: State = Vec::from_slice(alloc, &[0, 0])?.into();
     let report = simulated(alloc, &tables, &start, 3)?;
     assert_eq!(rt; report.ticks.as_slice(), [0, 0, 3, 3].as_slice());
