@@ -15,12 +15,12 @@ fn mission(alloc: Global, points: &[u32]) -> Result<Mission, AllocError>
 }
 
 // Three trains, each of which wants the point of the next.
-fn round(alloc: Global) -> Result<Missions, AllocError> {
+fn round(alloc: Global) -> Result<Missions, Fail> {
     let mut missions = Vec::new(alloc);
     missions.push(mission(alloc, &[0, 1])?)?;
     missions.push(mission(alloc, &[1, 2])?)?;
     missions.push(mission(alloc, &[2, 0])?)?;
-    Ok(Missions::new(missions))
+    Ok(Missions::checked(missions).ok_or("missions")?)
 }
 
 // The points from 0 up to 66, or down from there.
@@ -35,11 +35,11 @@ fn line(alloc: Global, upwards: bool) -> Result<Mission, AllocError>
 }
 
 // Two trains against one another along a line, with a ring at each of its 66 links.
-fn ladder(alloc: Global) -> Result<Missions, AllocError> {
+fn ladder(alloc: Global) -> Result<Missions, Fail> {
     let mut missions = Vec::new(alloc);
     missions.push(line(alloc, true)?)?;
     missions.push(line(alloc, false)?)?;
-    Ok(Missions::new(missions))
+    Ok(Missions::checked(missions).ok_or("missions")?)
 }
 
 #[test]

@@ -1,47 +1,73 @@
--- A test of missions that computes: a mission passes it.
-use Rattle.std.proofs.Common.{◌≡◌, ℕ, zero, suc, ◌+◌, ◌<◌, ◌≤◌, ◌==◌, Bool, true, false, not, ◌&&◌, List, [], ◌∷◌, length, slice_get, slice_index_or, Some, arith, ap, sym, ◌∙◌, subst, Decides, refl}
+-- The tests of missions say what the definitions say.
+use Rattle.std.proofs.Common.{◌≡◌, ◌∙◌, ℕ, zero, suc, ◌+◌, ◌<◌, ◌==◌, Bool, true, false, not, ◌&&◌, List, [], ◌∷◌, length, zip, All, get_or, slice_get, slice_index_or, Some, Decides, refl, sym, ap, subst, arith}
 use Rattle.std.specs.Prelude.{◌≢◌, nat_le, nat_lt}
 use Rattle.std.specs.List.{list_all}
-use Rattle.std.proofs.lemmas.Bool.Decides.{Decides-and, Decides-not, Decides-eqb, Decides-ltb, Decides-by_and}
-use Rattle.std.proofs.lemmas.Option.{slice_get_within, get_or_from_slice_get}
+use Rattle.std.proofs.lemmas.Bool.Decides.{Decides-and, Decides-not, Decides-eqb, Decides-ltb, Decides-like, Decides-by_and}
+use Rattle.std.proofs.lemmas.List.{get_or_default}
+use Rattle.std.proofs.lemmas.Option.{slice_get_within, slice_get-get_or, get_or_from_slice_get}
 use Rattle.rail_model.specs.Table.{Mission, last_of, IsMission, AreMissions}
+use Rattle.rail_model.specs.Checks.{steps_on, is_mission, are_missions}
 use Rattle.rail_model.proofs.Agree.{Decides-leb}
 
--- whether each step leads to another point
-abbrev pub steps_on : List ℕ → Bool
-steps_on [] = true
-steps_on (p ∷ []) = true
-steps_on (p ∷ q ∷ later) = not (p == q) && steps_on (q ∷ later)
+-- consecutive points are different
+abbrev StepOn : List ℕ → Type 0
+StepOn points = (k p q : ℕ) → slice_get points k ≡ Some p → slice_get points (suc k) ≡ Some q → p ≢ q
 
--- whether points, with or without an exit, are a mission
-abbrev pub is_mission : Mission → Bool
-is_mission m = (nat_le 1 (length m.points) && nat_le (last_of m) 127) && (list_all (λ q. nat_lt q 512) m.points && steps_on m.points)
+steps-cons : (a b : ℕ) (later : List ℕ) → a ≢ b → StepOn (b ∷ later) → StepOn (a ∷ b ∷ later)
+steps-cons a b later apart h zero p q at next = λ same. apart cc
+steps-cons a b later apart h (suc k) p q at next = h k p q at next
 
-stepping : (points : List ℕ) → steps_on points ≡ true → (k p q : ℕ) → slice_get points k ≡ Some p → slice_get points (suc k) ≡ Some q → p ≢ q
-stepping [] h k p q at next = absurd cc
-stepping (a ∷ []) h k p q at next = absurd cc
-stepping (a ∷ b ∷ later) h zero p q at next =
-    let apart = ((Decides-and _ _ (Decides-not _ (Decides-eqb a b)) (λ e. e, λ e. e)).0 h).0 in
-    λ same. apart cc
-stepping (a ∷ b ∷ later) h (suc k) p q at next = stepping (b ∷ later) ((Decides-and _ _ (Decides-not _ (Decides-eqb a b)) (λ e. e, λ e. e)).0 h).1 k p q at next
+Decides-steps : (points : List ℕ) → Decides (steps_on points) (StepOn points)
+Decides-steps [] = (λ e k p q at next. absurd cc, λ h. refl)
+Decides-steps (a ∷ []) = (λ e. alone, λ h. refl)
+  where
+    alone : StepOn (a ∷ [])
+    alone zero p q at next = absurd cc
+    alone (suc k) p q at next = absurd cc
+Decides-steps (a ∷ b ∷ later) =
+    Decides-like (not (a == b) && steps_on (b ∷ later))
+    (λ h. steps-cons a b later h.0 h.1)
+    (λ h. (h 0 a b refl refl, λ k. h (suc k)))
+    (Decides-and _ _ (Decides-not _ (Decides-eqb a b)) (Decides-steps (b ∷ later)))
 
-pub mission_passes : (m : Mission) → is_mission m ≡ true → IsMission m
-mission_passes m h =
-    let parts = (Decides-and _ _ (Decides-and _ _ (Decides-leb 1 (length m.points)) (Decides-leb (last_of m) 127))
-    (Decides-and _ _ (Decides-by_and (λ q. nat_lt q 512) (λ q. q < 512) (list_all (λ q. nat_lt q 512)) (λ q. Decides-ltb q 512) refl (λ _ _. refl) m.points) (λ e. e, λ e. e))).0 h in
-    record {
-      some_point = parts.0.0;
-      few_places = parts.0.1;
-      low_points = λ k q at. subst (λ n. n < 512) (get_or_from_slice_get m.points k q 0 at) (parts.1.0 k 0 (slice_get_within m.points k q at));
-      steps = λ k p q at next. let one : k + 1 ≡ suc k = omega arith in stepping m.points parts.1.1 k p q at (ap (slice_get m.points) (sym one) ∙ next);
-    }
+-- each point of a list is low
+abbrev AreLow : List ℕ → Type 0
+AreLow points = (k q : ℕ) → slice_get points k ≡ Some q → q < 512
 
--- missions that all pass, of few trains
-pub missions_pass : (missions : List Mission) → nat_le (length missions) 32 ≡ true → list_all is_mission missions ≡ true → AreMissions missions
-missions_pass missions few each = record {
-  few = (Decides-leb (length missions) 32).0 few;
-  each = λ i lt.
-      let m = slice_index_or missions i (record { points = []; exits = false }) in
-      mission_passes m
-      ((Decides-by_and is_mission (λ m. is_mission m ≡ true) (list_all is_mission) (λ m. (λ e. e, λ e. e)) refl (λ _ _. refl) missions).0 each i (record { points = []; exits = false }) lt);
-}
+Decides-low : (points : List ℕ) → Decides (list_all (λ q. nat_lt q 512) points) (AreLow points)
+Decides-low points =
+    Decides-like (list_all (λ q. nat_lt q 512) points)
+    (λ h k q at. subst (λ n. n < 512) (get_or_from_slice_get points k q 0 at) (h k 0 (slice_get_within points k q at)))
+    (λ h k d lt. h k (get_or points k d) (slice_get-get_or points k d lt))
+    (Decides-by_and (λ q. nat_lt q 512) (λ q. q < 512) (list_all (λ q. nat_lt q 512)) (λ q. Decides-ltb q 512) refl (λ _ _. refl) points)
+
+one_more : (k : ℕ) → k + 1 ≡ suc k
+one_more k = omega arith
+
+pub Decides-mission : (m : Mission) → Decides (is_mission m) (IsMission m)
+Decides-mission m =
+    Decides-like (is_mission m)
+    (λ h. record { some_point = h.0.0; few_places = h.0.1; low_points = h.1.0; steps = λ k p q at next. h.1.1 k p q at (ap (slice_get m.points) (sym (one_more k)) ∙ next) })
+    (λ h. ((h.some_point, h.few_places), (h.low_points, λ k p q at next. h.steps k p q at (ap (slice_get m.points) (one_more k) ∙ next))))
+    (Decides-and _ _
+    (Decides-and _ _ (Decides-leb 1 (length m.points)) (Decides-leb (last_of m) 127))
+    (Decides-and _ _ (Decides-low m.points) (Decides-steps m.points)))
+
+abbrev none : Mission
+none = record { points = []; exits = false }
+
+pub Decides-missions : (missions : List Mission) → Decides (are_missions missions) (AreMissions missions)
+Decides-missions missions =
+    Decides-like (are_missions missions)
+    (λ h. record { few = h.0; each = λ i lt. h.1 i none lt })
+    (λ h. (h.few, λ i d lt. subst IsMission (get_or_default missions i none d lt) (h.each i lt)))
+    (Decides-and _ _ (Decides-leb (length missions) 32)
+    (Decides-by_and is_mission IsMission (list_all is_mission) Decides-mission refl (λ _ _. refl) missions))
+
+pub missions_pass : (missions : List Mission) → are_missions missions ≡ true → AreMissions missions
+missions_pass missions = (Decides-missions missions).0
+
+-- the points and those after the first, place by place
+pub steps-zipped : (p : ℕ) (later : List ℕ) → list_all (λ (pair : ℕ × ℕ). not (pair.0 == pair.1)) (zip (p ∷ later) later) ≡ steps_on (p ∷ later)
+steps-zipped p [] = refl
+steps-zipped p (q ∷ later) = ap (λ t. not (p == q) && t) (steps-zipped q later)

@@ -4,7 +4,8 @@ use Rattle.std.specs.Prelude.{codes, slice_get}
 use Rattle.rail_model.specs.Layout.{Layout, Link, AreLinked}
 use Rattle.rail_model.specs.Table.{Mission, IsMission}
 use Rattle.rail_model.specs.Ways.{IsMissionOf, IsOn}
-use Rattle.rail_model.proofs.MissionTests.{is_mission, mission_passes}
+use Rattle.rail_model.specs.Checks.{is_mission, are_missions}
+use Rattle.rail_model.proofs.MissionTests.{Decides-mission}
 use Rattle.rail_model.proofs.Samples.{one_train, two_points}
 
 abbrev way : List ℕ → Mission
@@ -12,15 +13,21 @@ way points = record { points = points; exits = false }
 
 -- A B A: a way may come back
 there_and_back : IsMission (way (0 ∷ 1 ∷ 0 ∷ []))
-there_and_back = mission_passes (way (0 ∷ 1 ∷ 0 ∷ [])) refl
+there_and_back = (Decides-mission (way (0 ∷ 1 ∷ 0 ∷ []))).0 refl
 
 -- A A: no step stays at its point
 no_step : IsMission (way (0 ∷ 0 ∷ [])) → ⊥
 no_step h = h.steps 0 0 0 refl refl refl
 
+not_tested : is_mission (way (0 ∷ 0 ∷ [])) ≡ false
+not_tested = refl
+
+two_tested : are_missions (way (0 ∷ 1 ∷ []) ∷ way (2 ∷ 1 ∷ 0 ∷ []) ∷ []) ≡ true
+two_tested = refl
+
 -- the points end at 511
 last_point : IsMission (way (511 ∷ 0 ∷ []))
-last_point = mission_passes (way (511 ∷ 0 ∷ [])) refl
+last_point = (Decides-mission (way (511 ∷ 0 ∷ []))).0 refl
 
 no_point : IsMission (way (0 ∷ 512 ∷ [])) → ⊥
 no_point h = omega (arith, h.low_points 1 512 refl)

@@ -1,6 +1,7 @@
 //! The plain types of a dispatcher, and the definitions that every contract cites.
 #![tactic(auto)]
 
+mod checked;
 mod copies;
 mod laws;
 mod layout;
@@ -17,9 +18,10 @@ pub use copies::{TryCopy, copy_all, copy_missions, copy_table};
 pub use laws::{
     accepted_is_live, accepted_or_one_first_bad, each_ask_has_one_answer,
     each_block_has_one_answer, each_box_is_tested, each_history_has_its_journal,
-    each_name_is_tested, each_state_is_tested, each_step_goes_to_another_point,
-    each_table_has_one_answer, each_turn_has_one_answer, histories_are_joined, live_completes,
-    missions_of_a_layout_are_missions, moves_raise_the_positions,
+    each_mission_is_tested, each_name_is_tested, each_state_is_tested,
+    each_step_goes_to_another_point, each_table_has_one_answer, each_turn_has_one_answer,
+    histories_are_joined, live_completes, missions_of_a_layout_are_missions,
+    moves_raise_the_positions,
 };
 pub use layout::{Layout, Link, Point, are_linked, home_of, points_of, zone_of, zones_of};
 pub use lists::{Changes, Mission, Missions, Nodes, State};

@@ -1,8 +1,9 @@
 // Lists, each a type of its own that contracts see as a list.
-ghost use Rattle.std.specs.Prelude.{◌≡◌, ◌↔◌, IsTrue, IfOk, ◌^◌, ◌+◌, slice_set, ℕ, ℤ, pos, ◌<◌, [], List, length, false, slice_get, slice_index, slice_index_or};
+ghost use Rattle.std.specs.Prelude.{◌≡◌, ◌↔◌, IsTrue, IfOk, MatchOption, ◌^◌, ◌+◌, slice_set, ℕ, ℤ, pos, ◌<◌, [], List, length, false, slice_get, slice_index, slice_index_or};
 ghost use Rattle.rail_model.specs.declared.types.Node.{Node as NodeValue};
 
 use crate::Node;
+use crate::checked::are_missions;
 use std::alloc::{AllocError, Global};
 use std::marker::Model;
 
@@ -91,6 +92,16 @@ impl Missions {
         ensures { result ≡ items.items }
     {
         Missions { items }
+    }
+
+    /// The missions, where they are missions.
+    pub fn checked(items: Vec<Mission>) -> Option<Self>
+        ensures { MatchOption result (AreMissions items.items → ⊥) (λ made. (made ≡ items.items) × AreMissions made) }
+    {
+        if !are_missions(&items) {
+            return None;
+        }
+        Some(Missions { items })
     }
 
     /// The number of trains.

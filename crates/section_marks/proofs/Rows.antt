@@ -46,7 +46,7 @@ unfolding table_from
 too_long = refl
 
 path_formed : AreMissions path
-path_formed = missions_pass path refl refl
+path_formed = missions_pass path refl
 
 -- so its table keeps to 4, and it doesn't keep to 1
 long_keeps : KeepsTo Four long_table
