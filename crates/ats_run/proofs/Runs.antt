@@ -85,13 +85,6 @@ few_lines D z lines doc keeps =
     let ready = keeps_ready (offers_of D) z lines 4079 keeps (omega arith) in
     omega (arith, few_moves (offers_of D) z stands formed, ready.counted, stands.tried, doc.tables.few)
 
--- a train that a table has, where it has a point
-has_train : (T : Table) (i k q : ℕ) → point T i k ≡ Some q → i < trains T
-has_train T i k q at = elim (cases_lt i (trains T)) [
-  | inl lt ↦ lt
-  | inr le ↦ absurd (none-some q (sym (slice_get_past [] k (omega arith)) ∙ sym (ap (λ (m : Mission). slice_get m.points k) (get_or_past T.missions i _ le)) ∙ at))
-]
-
 enough : (D : Doc) → IsDoc D → AreEnough (names_of D) (offers_of D)
 enough D doc = record {
   each_train = λ t lt.
@@ -100,7 +93,7 @@ enough D doc = record {
   each_point = λ t i k q lt at.
       let within = subst (λ n. t < n) (offer_count D) lt in
       let there = subst (λ (T : Table). point T i k ≡ Some q) (table_offered D t within) at in
-      subst (λ n. q < n) (sym (names_count D)) (doc.points t within i k q (has_train (table_at D t) i k q there) there);
+      subst (λ n. q < n) (sym (names_count D)) (doc.points t within i k q there);
 }
   where
     names_count : (D : Doc) → length (names_of D).points ≡ length D.layout.points
