@@ -4,7 +4,7 @@ use Rattle.std.specs.Prelude.{Result, IfOk}
 use Rattle.clap.specs.Words.{Text}
 use Rattle.ats_io.specs.Bytes.{Adds, AddsPrefix}
 use Rattle.ats_io.specs.Faults.{Rose}
-use Rattle.ats_io.specs.Memory.{Supply, Store, HasMade, IsFull}
+use Rattle.ats_io.specs.Memory.{HasMade, IsFull}
 use Rattle.command_words.specs.declared.orders.Order.{Order}
 use Rattle.ats_run.specs.declared.failure.Failure.{Failure}
 use Rattle.ats_run.specs.declared.failure.Failure.TheVariants as failure
@@ -88,14 +88,13 @@ module _ (asked : Option Order) (held : Option (List ℕ)) (E S K E' S' K' : Typ
 pub told_nothing : (old now told : Option (List ℕ)) → old ≡ Some [] → told ≡ now → Adds old now [] → Adds (Some []) told []
 told_nothing old now told none same h = same_adds old (Some []) now told [] none same h
 
--- devices that are made of an input and of two lists of calls
-pub played_by : {E : Type 0} (result : Result Played E) (line : List Text) (source : Supply) (out : Store) (input reads writes : List ℕ)
-    → source.left ≡ input → source.plan.fails ≡ reads → out.plan.fails ≡ writes
-    → IfOk result (IsPlayed line source.left source.plan.fails out.plan.fails) → IfOk result (IsPlayed line input reads writes)
-played_by result line source out input reads writes all read written h =
-    subst (λ (w : List ℕ). IfOk result (IsPlayed line input reads w)) written
-    (subst (λ (r : List ℕ). IfOk result (IsPlayed line input r out.plan.fails)) read
-    (subst (λ (i : List ℕ). IfOk result (IsPlayed line i source.plan.fails out.plan.fails)) all h))
+-- what is said of a call's devices is said of what they are made of
+pub played_by : {E : Type 0} (result : Result Played E) (line : List Text) (left read written input reads writes : List ℕ)
+    → left ≡ input → read ≡ reads → written ≡ writes → IfOk result (IsPlayed line left read written) → IfOk result (IsPlayed line input reads writes)
+played_by result line left read written input reads writes all reading writing h =
+    subst (λ (w : List ℕ). IfOk result (IsPlayed line input reads w)) writing
+    (subst (λ (r : List ℕ). IfOk result (IsPlayed line input r written)) reading
+    (subst (λ (i : List ℕ). IfOk result (IsPlayed line i read written)) all h))
 
 -- a count of 0 that is still 0 hasn't risen
 pub never_rises : Rose 0 0 → ⊥

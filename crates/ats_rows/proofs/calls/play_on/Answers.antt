@@ -1,4 +1,4 @@
-use Rattle.std.proofs.Common.{List, ℕ, Some, ◌∙◌, ap, sym, subst}
+use Rattle.std.proofs.Common.{List, ℕ, ◌+◌, Some, ◌∙◌, ap, sym, subst}
 use Rattle.ats_io.specs.Bytes.{ConsumesAtMost}
 use Rattle.ats_io.specs.Memory.{Supply}
 use Rattle.ats_run.specs.Causes.{most_bytes}
@@ -21,5 +21,5 @@ returns g c =
       prefix = λ is. served_weaker _ _ _ _ _ _ rest (λ written. wrote_part _ _ _ written c.requires.written copy) (a.prefix is);
       complete = λ order bytes asked held good no_source no_sink. a.complete order bytes asked held good (λ rose. no_source (source rose)) (λ rose. no_sink (sink rose));
       untouched = λ none. rest ∙ ap (λ (s : Supply). s.left) (a.untouched none);
-      at_most = subst (λ (xs : List ℕ). ConsumesAtMost (most_bytes + 1) (Some _) (Some xs)) (sym rest) a.at_most;
+      at_most = subst (λ (xs : List ℕ). ConsumesAtMost (most_bytes + 1) (Some c.args.source.now.left) (Some xs)) (sym rest) a.at_most;
     }
