@@ -140,7 +140,9 @@ invariant_of-self g c =
     ∙ (ap (λ (o : Offer). o.table) (offer_at g.A.HasTable.offer c.self.inside.tables.now c.unwrap_or-table.result c.index-tables-table.result (omega arith) c.index-tables-table.is)
     ∙ ap (table_of S) table_is) in
     let new_is : c.table-2.result.now ≡ (g.A.HasTable.offer c.index-tables-row.result).table = c.table-2.ensures.given in
-    let row_is = c.tell_control.ensures ∙ ap (λ (T : Table). control_told (below S.layout.zones) T c.note_positions.new.positions c.tell-told.result a) new_is in
+    let row_is = c.tell_control.ensures
+    ∙ (ap (λ (x : Actor). control_told (below S.layout.zones) c.table-2.result.now c.note_positions.new.positions c.tell-told.result x) (sym c.row.view_is)
+    ∙ ap (λ (T : Table). control_told (below S.layout.zones) T c.note_positions.new.positions c.tell-told.result a) new_is) in
     let word_is : c.len.result ≡ length c.push_reserved.new.self.items = search rules in
     let make : Actor → World = λ x. after_control S control world x in
     let last_is = control_world S world a c.table.result.now (g.A.HasTable.offer c.index-tables-row.result) c.note_positions.new.positions c.moves_to-moves.result c.tell-told.result old_is next_is positions_are c.moves_to-moves.ensures c.tell-told.ensures c.len.result c.push_reserved.new.self.items c.tell_control.new.row c.push_reserved.ensures.items word_is row_is in
@@ -186,7 +188,9 @@ returns-clause-world g c =
     ∙ (ap (λ (o : Offer). o.table) (offer_at g.A.HasTable.offer c.self.inside.tables.now c.unwrap_or-table.result c.index-tables-table.result (omega arith) c.index-tables-table.is)
     ∙ ap (table_of S) table_is) in
     let new_is : c.table-2.result.now ≡ (g.A.HasTable.offer c.index-tables-row.result).table = c.table-2.ensures.given in
-    let row_is = c.tell_control.ensures ∙ ap (λ (T : Table). control_told (below S.layout.zones) T c.note_positions.new.positions c.tell-told.result a) new_is in
+    let row_is = c.tell_control.ensures
+    ∙ (ap (λ (x : Actor). control_told (below S.layout.zones) c.table-2.result.now c.note_positions.new.positions c.tell-told.result x) (sym c.row.view_is)
+    ∙ ap (λ (T : Table). control_told (below S.layout.zones) T c.note_positions.new.positions c.tell-told.result a) new_is) in
     let word_is : c.len.result ≡ length c.push_reserved.new.self.items = search rules in
     let make : Actor → World = λ x. after_control S control world x in
     let last_is = control_world S world a c.table.result.now (g.A.HasTable.offer c.index-tables-row.result) c.note_positions.new.positions c.moves_to-moves.result c.tell-told.result old_is next_is positions_are c.moves_to-moves.ensures c.tell-told.ensures c.len.result c.push_reserved.new.self.items c.tell_control.new.row c.push_reserved.ensures.items word_is row_is in
