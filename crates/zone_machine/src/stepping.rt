@@ -2,8 +2,7 @@
 ghost use Rattle.std.specs.Prelude.{◌≡◌, ℕ, None, Some, true, slice_get, option_map, ◌∷◌, [], not, ◌==◌, ◌||◌, nat_lt};
 ghost use Rattle.rail_model.specs.Turns.{first_of};
 ghost use Rattle.zone_machine.specs.Calls.{Steps};
-ghost use Rattle.zone_machine.specs.Sound.{IsSetup, Sound};
-ghost use Rattle.zone_machine.specs.declared.steps.Stage.TheVariants.{Aboard};
+ghost use Rattle.zone_machine.specs.Sound.{IsActor, IsSetup, Sound};
 ghost use Rattle.zone_machine.specs.declared.steps.Step.TheVariants.{Append as AppendStep, Block as BlockStep};
 ghost use Rattle.zone_machine.specs.declared.steps.NotAllowed.TheVariants.{Held};
 ghost use Rattle.zone_machine.specs.Steps.{checks, first_zone as least, is_in_place as in_place, outcome, refusal as cause_of, step_of};
@@ -43,7 +42,7 @@ impl<'a, A: HasTable> Core<'a, A> {
     // Why an actor may not add an entry.
     fn append_refusal(&self, number: u32, row: &Row) -> Option<NotAllowed>
         requires there { slice_get self.now.world.actors number ≡ Some row.now }
-        requires aboard { row.now.stage ≡ Aboard }
+        requires actor { IsActor self.now.setup number }
         ensures { result ≡ first_of (checks self.now.setup number self.now.world row.now AppendStep) }
     {
         if number == CONTROL {
@@ -56,7 +55,7 @@ impl<'a, A: HasTable> Core<'a, A> {
     // Why an actor may not add the entries of a block.
     fn block_refusal(&self, number: u32, row: &Row, steps: u32) -> Option<NotAllowed>
         requires there { slice_get self.now.world.actors number ≡ Some row.now }
-        requires aboard { row.now.stage ≡ Aboard }
+        requires actor { IsActor self.now.setup number }
         ensures { result ≡ first_of (checks self.now.setup number self.now.world row.now (BlockStep steps)) }
     {
         if number == CONTROL {
@@ -71,6 +70,7 @@ impl<'a, A: HasTable> Core<'a, A> {
     // Why an actor that is where the step asks may not make it.
     fn kind_refusal(&self, number: u32, row: &Row, step: Step) -> Option<NotAllowed>
         requires there { slice_get self.now.world.actors number ≡ Some row.now }
+        requires actor { IsActor self.now.setup number }
         requires place { in_place self.now.setup number row.now step ≡ true }
         ensures { result ≡ first_of (checks self.now.setup number self.now.world row.now step) }
     {
