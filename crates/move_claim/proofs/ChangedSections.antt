@@ -7,7 +7,8 @@ use Rattle.rail_model.specs.Checks.{below}
 use Rattle.rail_model.proofs.Found.{Among-range}
 use Rattle.zone_locks.specs.Zones.{has}
 use Rattle.move_claim.specs.declared.cells.Cell.{Cell}
-use Rattle.move_claim.specs.Claims.{Claim, is_changed, sections, reached}
+use Rattle.move_claim.specs.declared.claims.Claim.{Claim}
+use Rattle.move_claim.specs.Claims.{is_changed, sections, reached}
 use Rattle.move_claim.specs.Deciding.{overfills}
 use Rattle.move_claim.proofs.Amongs.{Among-filter, any-Among}
 use Rattle.move_claim.proofs.Numbered.{Among-has}

@@ -15,7 +15,8 @@ use Rattle.move_claim.specs.declared.answers.BlockAsk.TheVariants as block
 use Rattle.move_claim.specs.declared.cells.Cell.{Cell}
 use Rattle.move_claim.specs.declared.cells.Cell.TheVariants.{Point, Count, Position, Table as TableCell}
 use Rattle.move_claim.specs.Cells.{number_of, number_in}
-use Rattle.move_claim.specs.Claims.{Claim, is_changed, sections}
+use Rattle.move_claim.specs.declared.claims.Claim.{Claim}
+use Rattle.move_claim.specs.Claims.{is_changed, sections}
 use Rattle.move_claim.specs.Deciding.{decided, effects, touched, number_left, count_after}
 use Rattle.move_claim.specs.Informed.{IsInformed, IsOneStep, AreNew}
 use Rattle.move_claim.specs.States.{AnswersBlock, cell_number, occupant}
