@@ -8,16 +8,18 @@ use Rattle.rail_model.specs.Table.{Table, Mission, mission, last_of, last, point
 use Rattle.rail_model.specs.Yard.{Yard, IsHistory, after, after_entry}
 use Rattle.table_exchange.specs.Tables.{AreTables, Stands}
 use Rattle.zone_machine.specs.World.{Setup}
-use Rattle.zone_machine.specs.Replays.{Replayed}
 use Rattle.zone_machine.proofs.Histories.{stands_entry}
 
-module _ (S : Setup) (are : AreTables S.tables) (history : List Entry) where
-  -- nothing is replayed yet
-  pub none_replayed : Stands S.tables S.opening → IsHistory S.tables S.opening history → (yard : Yard) → yard ≡ S.opening → Replayed S history history yard []
-  none_replayed stands right yard is = subst (λ (y : Yard). Replayed S history history y []) (sym is) (record { stands = stands; right = right; leads = refl; told = refl })
+-- The entries that are left are right from here on, and lead with the lines so far to where the whole history does.
+pub record Replayed (S : Setup) (history left : List Entry) (yard : Yard) (lines : List Line) : Type 0 where
+  pub stands : Stands S.tables yard
+  pub right : IsHistory S.tables yard left
+  pub leads : after yard left ≡ after S.opening history
+  pub told : lines ++ journal_of S.tables yard left ≡ journal_of S.tables S.opening history
 
+module _ (S : Setup) (are : AreTables S.tables) (history : List Entry) where
   -- one entry more
-  pub one_replayed : (e : Entry) (left : List Entry) (y z : Yard) (lines more : List Line) → Replayed S history (e ∷ left) y lines
+  one_replayed : (e : Entry) (left : List Entry) (y z : Yard) (lines more : List Line) → Replayed S history (e ∷ left) y lines
       → z ≡ after_entry y e → more ≡ lines ++ option_to_list (line_of S.tables y e) → Replayed S history left z more
   one_replayed e left y z lines more r z_is more_is =
       subst (λ (x : Yard). Replayed S history left x more) (sym z_is)
@@ -27,6 +29,15 @@ module _ (S : Setup) (are : AreTables S.tables) (history : List Entry) where
         leads = r.leads;
         told = append_assoc lines _ _ ∙ r.told;
       }))
+
+  -- the entry of this place is replayed
+  pub next_replayed : (items : List Entry) (i : ℕ) (e : Entry) → i < length items → (y z : Yard) (lines more : List Line)
+      → Replayed S history (drop i items) y lines → z ≡ after_entry y (get_or items i e) → more ≡ lines ++ option_to_list (line_of S.tables y (get_or items i e))
+      → Replayed S history (drop (i + 1) items) z more
+  next_replayed items i e lt y z lines more r z_is more_is =
+      let one : suc i ≡ i + 1 = omega arith in
+      subst (λ k. Replayed S history (drop k items) z more) one
+      (one_replayed (get_or items i e) (drop (suc i) items) y z lines more (subst (λ l. Replayed S history l y lines) (drop-cons items i e lt) r) z_is more_is)
 
 -- a train that isn't at its last place stands at a point
 pub has_point : (T : Table) (i k : ℕ) → k < last T i → point T i k ≡ None → ⊥
@@ -43,12 +54,3 @@ has_point T i k lt none = absent (mission T i).points k (before_last (mission T 
     absent [] k lt none = omega arith
     absent (x ∷ xs) zero lt none = cc none
     absent (x ∷ xs) (suc k) lt none = absent xs k (omega arith) none
-
--- the entry of this place is replayed
-pub next_replayed : (S : Setup) (are : AreTables S.tables) (history items : List Entry) (i : ℕ) (e : Entry) → i < length items → (y z : Yard) (lines more : List Line)
-    → Replayed S history (drop i items) y lines → z ≡ after_entry y (get_or items i e) → more ≡ lines ++ option_to_list (line_of S.tables y (get_or items i e))
-    → Replayed S history (drop (i + 1) items) z more
-next_replayed S are history items i e lt y z lines more r z_is more_is =
-    let one : suc i ≡ i + 1 = omega arith in
-    subst (λ k. Replayed S history (drop k items) z more) one
-    (one_replayed S are history (get_or items i e) (drop (suc i) items) y z lines more (subst (λ l. Replayed S history l y lines) (drop-cons items i e lt) r) z_is more_is)

@@ -1,5 +1,5 @@
 use Rattle.std.proofs.Common.{◌≡◌, drop}
-use Rattle.zone_machine.specs.Replays.{Replayed}
+use Rattle.zone_machine.proofs.Replaying.{Replayed}
 use Rattle.zone_machine.proofs.machine.Core.plain.Given as goal
 
 abbrev pub invariant-loop-entry : goal.invariant-loop-entry
