@@ -89,12 +89,12 @@ drill --rounds 3
 weave";
 
 // An order with its numbers in the order of its fields.
-struct Shown {
+struct Parts {
     name: &'static str,
     numbers: [u32; 3],
 }
 
-fn shown(order: Order) -> Shown {
+fn parts_of(order: Order) -> Parts {
     let (name, numbers) = match order {
         Order::Run { workers, rounds } => ("Run", [workers, rounds, 0]),
         Order::Resume { workers, rounds } => ("Resume", [workers, rounds, 0]),
@@ -112,7 +112,7 @@ fn shown(order: Order) -> Shown {
             workers,
         } => ("Drill", [seed, trains, workers]),
     };
-    Shown { name, numbers }
+    Parts { name, numbers }
 }
 
 // What a command line asks for, or that it is refused.
@@ -127,10 +127,10 @@ fn asked(alloc: Global, line: &str) -> Result<Result<Order, WordsRefused>, Alloc
 // The order of a command line as text: its name, and three numbers.
 fn asked_text(alloc: Global, line: &str) -> Result<String, Fail> {
     let order = asked(alloc, line)?.ok().ok_or("an order")?;
-    let Shown {
+    let Parts {
         name,
         numbers: [a, b, c],
-    } = shown(order);
+    } = parts_of(order);
     Ok(format!(in alloc; "{name} {a} {b} {c}")?)
 }
 

@@ -92,22 +92,21 @@ fn is_refused(
     rt: &(impl Threads + Sync),
     alloc: Global,
     words: &str,
-    input: &[&str],
+    input: Vec<u8>,
     told: &str,
 ) -> Result<bool, AllocError> {
-    let played = play(rt, alloc, &line(alloc, words)?, joined(alloc, input)?, SURE)?;
+    let played = play(rt, alloc, &line(alloc, words)?, input, SURE)?;
     let wanted = joined(alloc, &["ats: ", told, "\n"])?;
     let is_told = matches!(&played.told, Some(bytes) if bytes.as_slice() == wanted.as_slice());
     Ok(is_told && played.written.is_empty())
 }
 
-// The text with the ends of its lines.
-fn lines(alloc: Global, text: &str) -> Result<String, AllocError> {
-    let mut lines = String::new(alloc);
-    for part in text.chars() {
-        lines.push(if part == '/' { '\n' } else { part })?;
+// The text behind what is there, with the ends of its lines.
+fn push_lines(input: &mut Vec<u8>, text: &str) -> Result<(), AllocError> {
+    for byte in text.bytes() {
+        input.push(if byte == b'/' { b'\n' } else { byte })?;
     }
-    Ok(lines)
+    Ok(())
 }
 
 #[test]
@@ -116,8 +115,8 @@ fn documents_are_refused(rt: HostRuntime) -> Result<(), Fail> {
     let head = without(FIRST_PATH, 1);
     for row in MEMBERS.split('\n') {
         let (members, told) = row.split_once(" => ").ok_or("words")?;
-        let input = [head, ",", members, "}"];
-        assert!(rt; is_refused(&rt, alloc, "check", &input, told)?, "{row}");
+        let input = joined(alloc, &[head, ",", members, "}"])?;
+        assert!(rt; is_refused(&rt, alloc, "check", input, told)?, "{row}");
     }
     Ok(())
 }
@@ -130,13 +129,13 @@ fn certificates_are_refused(rt: HostRuntime) -> Result<(), Fail> {
     for row in NODES.split('\n') {
         let (nodes, told) = row.split_once(" => ").ok_or("words")?;
         let nodes = if nodes == "[]" { "" } else { nodes };
-        let input = [head, table, nodes, "]}]}"];
-        assert!(rt; is_refused(&rt, alloc, "check", &input, told)?, "{row}");
+        let input = joined(alloc, &[head, table, nodes, "]}]}"])?;
+        assert!(rt; is_refused(&rt, alloc, "check", input, told)?, "{row}");
     }
     for row in NODES_IN_A_SECTION.split('\n') {
         let (nodes, told) = row.split_once(" => ").ok_or("words")?;
-        let input = [ENTERING, nodes, "]}]}"];
-        assert!(rt; is_refused(&rt, alloc, "check", &input, told)?, "{row}");
+        let input = joined(alloc, &[ENTERING, nodes, "]}]}"])?;
+        assert!(rt; is_refused(&rt, alloc, "check", input, told)?, "{row}");
     }
     Ok(())
 }
@@ -147,9 +146,9 @@ fn journals_are_refused(rt: HostRuntime) -> Result<(), Fail> {
     let head = without(FIRST_PATH, 1);
     for row in JOURNALS.split('\n') {
         let (journal, told) = row.split_once(" => ").ok_or("words")?;
-        let journal = lines(alloc, journal)?;
-        let input = [head, ",", TWO_TABLES, "\njournal\n", journal.as_str()];
-        assert!(rt; is_refused(&rt, alloc, "verify", &input, told)?, "{row}");
+        let mut input = joined(alloc, &[head, ",", TWO_TABLES, "\njournal\n"])?;
+        push_lines(&mut input, journal)?;
+        assert!(rt; is_refused(&rt, alloc, "verify", input, told)?, "{row}");
     }
     Ok(())
 }

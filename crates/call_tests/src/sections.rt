@@ -1,5 +1,5 @@
 // Circular waits of worked missions, and the sections that are made of missions.
-ghost use Rattle.std.specs.Prelude.{◌≡◌, ◌<◌, ◌≤◌, ◌∷◌, ◌×◌, IfOk, length, false};
+ghost use Rattle.std.specs.Prelude.{◌≡◌, ◌<◌, ◌≤◌, ◌∷◌, IfOk, length, false};
 
 use crate::examples::documents::{LONG_CORRIDOR, LONG_CORRIDOR_REPAIRED};
 use crate::examples::is_answered;

@@ -10,10 +10,10 @@ use Rattle.ring_sections.proofs.standing.size_of.Goals as goal
 abbrev none : Mission
 none = record { points = []; exits = false }
 
-pub above_points-requires-clause-points : goal.above_points-requires-clause-points
-above_points-requires-clause-points c =
+pub above_points-bound-requires-clause-points : goal.above_points-bound-requires-clause-points
+above_points-bound-requires-clause-points c =
     subst (All (λ q. q < 512)) (sym (c.as_slice.ensures ∙ ap (λ (m : Mission). m.points) c.mission.ensures))
-    (λ k d lt. (c.len.ensures.formed.each c.loop-train.train (omega arith)).low_points k _ (slice_get-get_or _ k d lt))
+    (λ k d lt. (c.len-train-end.ensures.formed.each c.loop-train.train (omega arith)).low_points k _ (slice_get-get_or _ k d lt))
 
 pub loop-train-preserved : goal.loop-train-preserved
 loop-train-preserved c =
