@@ -38,7 +38,8 @@ impl<'a> Footprint<'a> {
     ghost use Rattle.rail_model.specs.Table.{trains};
     ghost use Rattle.move_claim.specs.declared.answers.BlockAsk.TheVariants.{Yes};
     ghost use Rattle.move_claim.specs.Cells.{number_in};
-    ghost use Rattle.move_claim.specs.Claims.{cells_of, claim_of, footprint_of, nothing_claimed, IsOn};
+    ghost use Rattle.move_claim.specs.Claims.{cells_of, claim_of, footprint_of, nothing_claimed};
+    ghost use Rattle.rail_model.specs.Ways.{IsOn};
     ghost use Rattle.move_claim.specs.Deciding.{decided, one_ask, effects};
     ghost use Rattle.move_claim.specs.Small.{AreSmall};
 

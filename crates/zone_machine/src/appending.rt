@@ -61,7 +61,7 @@ fn push_entries(history: &mut Vec<Entry>, who: u32, steps: u32, told: BlockAsk)
 
 // A driver was told this of the steps that it asked for: where they are granted it is further on, and owes what changed.
 fn tell_driver(row: &mut Row, needs: &Footprint, told: BlockAsk)
-    requires small { AreSmall row.old.known }
+    requires small { AreSmall needs.now.table needs.now.claim row.old.known }
     requires told { told ≡ decided needs.now.table needs.now.claim (number_in row.old.known) }
     requires room { row.old.position + needs.now.claim.steps < 2 ^ 32 }
     ensures { row.new ≡ driver_told needs.now told row.old }
