@@ -31,7 +31,7 @@ use Rattle.zone_machine.specs.Cores.{CoreValue, IsCore}
 use Rattle.zone_machine.proofs.Acting.{in_place, passed, there, is_row, allowed_here}
 use Rattle.zone_machine.proofs.Allowed.{Passes}
 use Rattle.zone_machine.proofs.DriverAppends.{is_known}
-use Rattle.zone_machine.proofs.Histories.{stands_after}
+use Rattle.table_exchange.proofs.Histories.{stands_history}
 use Rattle.zone_machine.proofs.Refusing.{known_in_range}
 
 -- What the code asks of a driver that adds the entries of n steps.
@@ -96,7 +96,7 @@ module _ (S : Setup) (w : World) (p n : ℕ) (ok : IsSetup S) (s : Sound S w) (a
 
   small_place : own.position + (own_claim S p own n).steps < 4294967296
   small_place =
-      let stands = stands_after S.tables S.opening w.history ok.tables ok.opening s.legal in
+      let stands = stands_history S.tables S.opening w.history ok.tables ok.opening s.legal in
       let table = ok.formed (yard_after S w.history).table stands.in_range in
       let same = ok.tables.same (yard_after S w.history).table stands.in_range in
       let lt = low in

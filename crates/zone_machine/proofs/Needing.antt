@@ -15,7 +15,7 @@ use Rattle.zone_machine.specs.Needs.{table_of, claim, zones}
 use Rattle.zone_machine.specs.Steps.{first_zone}
 use Rattle.zone_machine.specs.Sound.{Sound, IsSetup, Is}
 use Rattle.zone_machine.specs.Cores.{CoreValue, IsCore}
-use Rattle.zone_machine.proofs.Histories.{stands_after}
+use Rattle.table_exchange.proofs.Histories.{stands_history}
 use Rattle.zone_machine.proofs.Readable.{Rising-zones, zones_low}
 use Rattle.zone_machine.proofs.Refusing.{no_control}
 
@@ -50,7 +50,7 @@ module _ (v now : CoreValue) (core : IsCore v) (is : v ≡ now) where
     pub glance_in : (t : ℕ) → a.glance ≡ Some t → t < length S.tables
     glance_in t e =
         let s = sound in
-        let stands = stands_after S.tables S.opening now.world.history made.tables made.opening s.legal in
+        let stands = stands_history S.tables S.opening now.world.history made.tables made.opening s.legal in
         omega (arith, s.glances p a t at e, s.lags, stands.in_range)
 
     -- the zones of a driver's next step under that table

@@ -8,7 +8,7 @@ use Rattle.rail_model.specs.Table.{Table, Mission, mission, last_of, last, point
 use Rattle.rail_model.specs.Yard.{Yard, IsHistory, after, after_entry}
 use Rattle.table_exchange.specs.Tables.{AreTables, Stands}
 use Rattle.zone_machine.specs.World.{Setup}
-use Rattle.zone_machine.proofs.Histories.{stands_entry}
+use Rattle.table_exchange.proofs.Histories.{stands_history}
 
 -- The entries that are left are right from here on, and lead with the lines so far to where the whole history does.
 pub record Replayed (S : Setup) (history left : List Entry) (yard : Yard) (lines : List Line) : Type 0 where
@@ -24,7 +24,7 @@ module _ (S : Setup) (are : AreTables S.tables) (history : List Entry) where
   one_replayed e left y z lines more r z_is more_is =
       subst (λ (x : Yard). Replayed S history left x more) (sym z_is)
       (subst (λ (l : List Line). Replayed S history left (after_entry y e) l) (sym more_is) (record {
-        stands = stands_entry S.tables y e are r.stands r.right.0;
+        stands = stands_history S.tables y (e ∷ []) are r.stands (r.right.0, tt);
         right = r.right.1;
         leads = r.leads;
         told = append_assoc lines _ _ ∙ r.told;
