@@ -6,17 +6,16 @@ use Rattle.std.proofs.lemmas.Bool.Decides.{Decides-eqb}
 use Rattle.rail_model.specs.declared.types.Ask.TheVariants.{Yes}
 use Rattle.rail_model.specs.declared.types.Reply.TheVariants.{Driver}
 use Rattle.rail_model.specs.declared.types.Entry.{Entry}
-use Rattle.rail_model.specs.Table.{Table, place}
+use Rattle.rail_model.specs.Table.{place}
 use Rattle.rail_model.specs.Yard.{control}
 use Rattle.rail_model.proofs.Firsts.{then_some-none, passing}
 use Rattle.move_claim.specs.declared.answers.BlockAsk.{BlockAsk}
 use Rattle.move_claim.specs.declared.answers.BlockAsk.TheVariants as block
-use Rattle.move_claim.specs.declared.cells.Cell.TheVariants.{Count, Table as TableCell}
+use Rattle.move_claim.specs.declared.cells.Cell.{Cell}
+use Rattle.move_claim.specs.declared.cells.Cell.TheVariants.{Table as TableCell}
 use Rattle.move_claim.specs.Cells.{number_of, number_in}
-use Rattle.move_claim.specs.declared.claims.Claim.{Claim}
 use Rattle.move_claim.specs.Claims.{Footprint, claim_of, footprint_of}
 use Rattle.move_claim.specs.Deciding.{decided}
-use Rattle.move_claim.specs.Small.{AreSmall}
 use Rattle.zone_machine.specs.declared.steps.Stage.{Stage}
 use Rattle.zone_machine.specs.declared.steps.Stage.TheVariants.{Away, Aboard, Left}
 use Rattle.zone_machine.specs.declared.steps.Step.TheVariants.{Block}
@@ -40,7 +39,7 @@ pub record Enters (S : Setup) (w : World) (p n : ℕ) (a : Actor) : Type 0 where
   pub train : p < trains_of S
   pub few : n ≤ 4
   pub table : known_table a < length S.tables
-  pub small : (T : Table) (c : Claim) → AreSmall T c a.known
+  pub small : (d : Cell) (m : ℕ) → number_of d a.known ≡ Some m → m < 2147483648
   pub room : length w.history + cond ((own_claim S p a n).steps == 0) 1 (own_claim S p a n).steps ≤ S.most
   pub place : a.position + (own_claim S p a n).steps < 4294967296
 
@@ -112,7 +111,7 @@ module _ (S : Setup) (w : World) (p n : ℕ) (ok : IsSetup S) (s : Sound S w) (a
     train = low;
     few = ltb-false 4 n size.1;
     table = in_range;
-    small = λ T c q m changed k. s.known_small p own (Count q) m at k;
+    small = λ c m k. s.known_small p own c m at k;
     room = room;
     place = small_place;
   }

@@ -1,16 +1,11 @@
 -- What the tests of an actor's program say of its zones.
-use Rattle.std.proofs.Common.{◌≡◌, ◌⊎◌, ℕ, zero, suc, ◌+◌, ◌<◌, ◌≤◌, ◌==◌, List, [], ◌∷◌, ◌++◌, length, get_or, map, Bool, true, false, true≢false, cond, Option, Some, None, refl, sym, ap, ap₂, ◌∙◌, subst, inl, inr, ⊎_elim, arith, eq-eqb, ne_eqb, le-leb, ltb-true, ltb-false, nat_lt}
+use Rattle.std.proofs.Common.{◌≡◌, ◌⊎◌, ℕ, suc, ◌+◌, ◌<◌, ◌==◌, List, [], ◌∷◌, get_or, Bool, true, false, true≢false, cond, Option, Some, None, refl, sym, ap, ap₂, ◌∙◌, subst, inl, inr, arith, eq-eqb, ne_eqb, le-leb, ltb-true, ltb-false, nat_lt}
 use Rattle.std.specs.Prelude.{find, nat_le, not, is_none, is_some, option_map, unwrap_or}
 use Rattle.std.specs.Option.{option_or}
 use Rattle.std.specs.List.Sorted.{IsStrictlyIncreasing}
 use Rattle.std.proofs.lemmas.Bool.{lt-leb}
 use Rattle.std.proofs.lemmas.Bool.Decides.{Decides-eqb}
-use Rattle.rail_model.specs.Checks.{below}
 use Rattle.zone_locks.specs.Zones.{has}
-use Rattle.move_claim.specs.declared.cells.Cell.{Cell}
-use Rattle.move_claim.specs.declared.cells.Cell.TheVariants.{Position}
-use Rattle.move_claim.specs.Cells.{number_of, first_unknown}
-use Rattle.move_claim.proofs.Finding.{found, nothing_found}
 use Rattle.zone_machine.specs.declared.steps.Step.{Step}
 use Rattle.zone_machine.specs.declared.steps.Step.TheVariants.{Take}
 use Rattle.zone_machine.specs.Steps.{first_zone}
@@ -185,21 +180,3 @@ taken given held needed more begins = go (rest_of held needed) refl begins
         → option_map (λ z. Take z) (outside held needed) ≡ option_or (cond (is_none o) given None) (option_map (λ z. Take z) (first_zone (unwrap_or o [])))
     go None e h = absurd (true≢false (sym h))
     go (Some rest) e h = ap (option_map (λ z. Take z)) (sym (zone_after held needed rest more e))
-
-found-map : {A B : Type 0} (p : B → Bool) (f : A → B) (xs : List A) → find p (map f xs) ≡ option_map f (find (λ x. p (f x)) xs)
-found-map p f [] = refl
-found-map {A} {B} p f (x ∷ xs) = go (p (f x)) (found-map p f xs)
-  where
-    go : (b : Bool) → find p (map f xs) ≡ option_map f (find (λ x. p (f x)) xs) → cond {A = Option B} b (Some (f x)) (find p (map f xs)) ≡ option_map f (cond {A = Option A} b (Some x) (find (λ x. p (f x)) xs))
-    go true e = refl
-    go false e = e
-
-module _ (known : List (Cell × ℕ)) (n : ℕ) where
-  pub position_found : (s : ℕ) → s < n → ((j : ℕ) → j < s → is_none (number_of (Position j) known) ≡ false) → is_none (number_of (Position s) known) ≡ true
-      → Some (Position s) ≡ first_unknown (map (λ (i : ℕ). Position i) (below n)) known
-  position_found s lt before is =
-      sym (found-map (λ c. is_none (number_of c known)) (λ (i : ℕ). Position i) (below n) ∙ ap (option_map (λ (i : ℕ). Position i)) (found (λ i. is_none (number_of (Position i) known)) n s lt before is))
-
-  pub no_position : ((j : ℕ) → j < n → is_none (number_of (Position j) known) ≡ false) → None ≡ first_unknown (map (λ (i : ℕ). Position i) (below n)) known
-  no_position none =
-      sym (found-map (λ c. is_none (number_of c known)) (λ (i : ℕ). Position i) (below n) ∙ ap (option_map (λ (i : ℕ). Position i)) (nothing_found (λ i. is_none (number_of (Position i) known)) n none))

@@ -1,18 +1,12 @@
 -- What a core says of an actor's next entry.
-use Rattle.std.proofs.Common.{◌≡◌, ◌≢◌, ℕ, ◌<◌, ◌≤◌, ◌==◌, List, [], ◌∷◌, length, Bool, true, false, cond, Option, Some, None, refl, sym, ap, ◌∙◌, subst, ⊎_elim, arith}
-use Rattle.std.specs.Prelude.{option_map}
+use Rattle.std.proofs.Common.{◌≡◌, ℕ, ◌<◌, ◌==◌, List, length, true, false, Some, refl, sym, subst, arith}
 use Rattle.std.specs.List.Sorted.{IsStrictlyIncreasing}
 use Rattle.rail_model.specs.Checks.{below}
 use Rattle.rail_model.specs.Yard.{control}
-use Rattle.table_exchange.specs.Tables.{Stands}
 use Rattle.zone_locks.specs.Zones.{has}
 use Rattle.move_claim.specs.Claims.{claim_of, zones_of}
-use Rattle.zone_machine.specs.declared.steps.Stage.TheVariants.{Aboard, Left}
-use Rattle.zone_machine.specs.declared.steps.Step.{Step}
-use Rattle.zone_machine.specs.declared.steps.Step.TheVariants.{Release}
-use Rattle.zone_machine.specs.World.{Setup, Actor, World, trains_of, yard_after}
-use Rattle.zone_machine.specs.Needs.{table_of, claim, zones}
-use Rattle.zone_machine.specs.Steps.{first_zone}
+use Rattle.zone_machine.specs.World.{Setup, Actor, gone, trains_of}
+use Rattle.zone_machine.specs.Needs.{table_of, zones}
 use Rattle.zone_machine.specs.Sound.{Sound, IsSetup, Is}
 use Rattle.zone_machine.specs.Cores.{CoreValue, IsCore}
 use Rattle.table_exchange.proofs.Histories.{stands_history}
@@ -31,21 +25,18 @@ module _ (v now : CoreValue) (core : IsCore v) (is : v ≡ now) where
 
   -- the zones of the control's entry
   pub control_rising : IsStrictlyIncreasing (below S.layout.zones)
-  control_rising = Rising-zones S made control (record { stage = Left; held = []; known = []; owed = []; closing = false; claimed = []; glance = None; position = 0 }) 0 1 made.tables.some
+  control_rising = Rising-zones S made control gone 0 1 made.tables.some
 
   pub control_low : (z : ℕ) → has z (below S.layout.zones) ≡ true → z < 16
   control_low z h =
-      let low = zones_low S made control (record { stage = Left; held = []; known = []; owed = []; closing = false; claimed = []; glance = None; position = 0 }) 0 1 made.tables.some z h in
+      let low = zones_low S made control gone 0 1 made.tables.some z h in
       omega (arith, made.layout.few_zones)
 
   -- a driver isn't the control
-  pub is_driver : (p : ℕ) → p < trains_of S → (p == control) ≡ false
+  is_driver : (p : ℕ) → p < trains_of S → (p == control) ≡ false
   is_driver p low = no_control S p made low
 
   module _ (p : ℕ) (a : Actor) (at : Is now.world p a) where
-    pub held_rising : IsStrictlyIncreasing a.held
-    held_rising = sound.rising p a at
-
     -- a table that was glanced is one of the tables
     pub glance_in : (t : ℕ) → a.glance ≡ Some t → t < length S.tables
     glance_in t e =

@@ -30,8 +30,8 @@ use std::mem::replace;
 use table_exchange::{NotNow, admit, all_arrived, due};
 use zone_locks::ZoneSet;
 
-// The first of the trains' positions that isn't known.
-fn unknown_position(known: &Known, trains: u32) -> Option<Cell>
+/// The first of the trains' positions that isn't known.
+pub(crate) fn unknown_position(known: &Known, trains: u32) -> Option<Cell>
     ensures { result ≡ first_unknown (map (λ (i : ℕ). Position i) (below trains)) known.now }
 {
     for train in 0..trains {
@@ -157,8 +157,8 @@ fn tell_control(row: &mut Row, layout: &Layout, new: &Table, positions: &State, 
 }
 
 impl<'a, A: HasTable> Core<'a, A> {
-    // Whether there is a table after the last one that has its answer.
-    fn has_more(&self, row: &Row) -> bool
+    /// Whether there is a table after the last one that has its answer.
+    pub(crate) fn has_more(&self, row: &Row) -> bool
         ensures { result ≡ more_tables self.now.setup row.now }
     {
         row.position as usize + 1 < self.tables.len()

@@ -10,10 +10,10 @@ ghost use Rattle.move_claim.specs.Cells.{number_of, first_unknown};
 ghost use Rattle.zone_machine.specs.declared.steps.Stage.TheVariants.{Aboard};
 ghost use Rattle.zone_machine.specs.declared.steps.Step.TheVariants.{Release, Take, Read, Append};
 ghost use Rattle.zone_machine.specs.World.{trains_of as trains_in};
-ghost use Rattle.zone_machine.specs.Needs.{has_more as more_open};
 ghost use Rattle.zone_machine.specs.Steps.{first_zone as least};
 ghost use Rattle.zone_machine.specs.Program.{rest_of, zones_left, next as step_after, next_aboard as step_aboard};
 
+use crate::control::unknown_position;
 use crate::machine::Row;
 use crate::refusals::first_zone;
 use crate::{CONTROL, Core, Stage, Step};
@@ -93,27 +93,7 @@ fn knows_other(known: &Known, table: u32) -> bool
     }
 }
 
-// The first of so many trains' positions that isn't known.
-fn first_position(known: &Known, trains: u32) -> Option<Cell>
-    ensures { result ≡ first_unknown (map (λ (i : ℕ). PositionCell i) (below trains)) known.now }
-{
-    for train in 0..trains {
-        let cell = Cell::Position { train };
-        if known.number(cell).is_none() {
-            return Some(cell);
-        }
-    }
-    None
-}
-
 impl<'a, A: HasTable> Core<'a, A> {
-    // Whether the control has a table to try.
-    fn has_open_table(&self, row: &Row) -> bool
-        ensures { result ≡ more_open self.now.setup row.now }
-    {
-        row.position as usize + 1 < self.tables.len()
-    }
-
     // The first of the cells that the control needs that isn't known.
     fn first_unread(&self, known: &Known) -> Option<Cell>
         ensures { result ≡ first_unknown (TableCell ∷ map (λ (i : ℕ). PositionCell i) (below (trains_in self.now.setup))) known.now }
@@ -121,7 +101,7 @@ impl<'a, A: HasTable> Core<'a, A> {
         if known.number(Cell::Table).is_none() {
             return Some(Cell::Table);
         }
-        first_position(known, trains_of(self.tables[0].table()))
+        unknown_position(known, trains_of(self.tables[0].table()))
     }
 
     // The next step of the control, which neither owes a cell nor is closing.
@@ -131,7 +111,7 @@ impl<'a, A: HasTable> Core<'a, A> {
         requires still { row.now.closing ≡ false }
         ensures { Some result ≡ step_aboard self.now.setup control row.now }
     {
-        if !self.has_open_table(row) {
+        if !self.has_more(row) {
             return release_or(&row.held, Step::Leave);
         }
         let needed = ZoneSet::all(zones_of(self.layout));

@@ -1,4 +1,4 @@
-use Rattle.std.proofs.Common.{◌≡◌, None, sym, ◌∙◌, ap, subst}
+use Rattle.std.proofs.Common.{◌≡◌, None, sym, ◌∙◌, subst}
 use Rattle.std.specs.Prelude.{◌<◌}
 use Rattle.rail_model.specs.Table.{last, point}
 use Rattle.zone_machine.proofs.Replaying.{has_point}

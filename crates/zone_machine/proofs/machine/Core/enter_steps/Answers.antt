@@ -1,5 +1,6 @@
 use Rattle.std.proofs.Common.{◌≡◌, ℕ, ◌<◌, ◌≤◌, length, map, refl, sym, ap, ◌∙◌, subst, Option, arith, rules}
 use Rattle.std.specs.Prelude.{unwrap_or, vec_capacity}
+use Rattle.move_claim.specs.declared.cells.Cell.TheVariants.{Count}
 use Rattle.move_claim.specs.Cells.{number_in}
 use Rattle.move_claim.specs.Deciding.{decided}
 use Rattle.zone_machine.specs.declared.steps.Step.TheVariants.{Block}
@@ -27,7 +28,7 @@ needs-needs-requires-clause-train g c =
 pub decide_block-told-requires : goal.decide_block-told-requires
 decide_block-told-requires g c =
     let f = enters_at _ c.args.self.now c.args.number c.args.steps c.self.invariant.0 c.self.view_is c.requires c.index-row.result.now _ c.index-row.ensures c.row.view_is in
-    f.small c.needs-needs.result.table c.needs-needs.result.claim
+    λ s m changed is. f.small (Count s) m is
 
 pub push_entries-requires : goal.push_entries-requires
 push_entries-requires g c =
@@ -44,7 +45,7 @@ push_entries-requires g c =
     record { room = omega arith }
 
 pub tell_driver-requires-clause-small : goal.tell_driver-requires-clause-small
-tell_driver-requires-clause-small g c = (enters_at _ c.args.self.now c.args.number c.args.steps c.self.invariant.0 c.self.view_is c.requires c.index_mut-2.result.now c.index_mut-2.result.now c.index_mut-2.ensures.value refl).small c.needs-needs.result.table c.needs-needs.result.claim
+tell_driver-requires-clause-small g c = λ s m changed is. (enters_at _ c.args.self.now c.args.number c.args.steps c.self.invariant.0 c.self.view_is c.requires c.index_mut-2.result.now c.index_mut-2.result.now c.index_mut-2.ensures.value refl).small (Count s) m is
 
 pub tell_driver-requires-clause-told : goal.tell_driver-requires-clause-told
 tell_driver-requires-clause-told g c =

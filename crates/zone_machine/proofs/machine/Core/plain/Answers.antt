@@ -1,4 +1,4 @@
-use Rattle.std.proofs.Common.{◌≡◌, ◌++◌, List, ap, ◌∙◌, subst, get_or}
+use Rattle.std.proofs.Common.{◌++◌, ap, ◌∙◌, subst, get_or}
 use Rattle.std.specs.Prelude.{option_to_list}
 use Rattle.rail_model.specs.declared.types.Ask.TheVariants.{Yes}
 use Rattle.rail_model.specs.declared.types.Reply.TheVariants.{Driver}

@@ -1,4 +1,4 @@
-use Rattle.std.proofs.Common.{◌≡◌, drop}
+use Rattle.std.proofs.Common.{drop}
 use Rattle.zone_machine.proofs.Replaying.{Replayed}
 use Rattle.zone_machine.proofs.machine.Core.plain.Given as goal
 
