@@ -1,14 +1,13 @@
 -- What a driver's append that is allowed says of its actor, and the world that it leaves.
-use Rattle.std.proofs.Common.{◌≡◌, ◌≢◌, ◌⊎◌, ℕ, zero, suc, ◌+◌, ◌<◌, ◌≤◌, ◌==◌, ◌^◌, nat_lt, List, [], ◌++◌, length, set, get_or, replicate, Bool, true, false, true≢false, cond, Option, Some, None, refl, sym, ap, ◌∙◌, subst, ⊎_elim, arith, ltb-false, ne_eqb, length-append}
-use Rattle.std.specs.Prelude.{slice_get, is_none, unwrap_or, ◌||◌}
-use Rattle.std.specs.Bool.{then_some}
+use Rattle.std.proofs.Common.{◌≡◌, ℕ, zero, suc, ◌+◌, ◌<◌, ◌≤◌, ◌==◌, nat_lt, List, ◌++◌, length, set, get_or, replicate, Bool, false, true≢false, cond, Option, Some, None, refl, sym, ap, ◌∙◌, subst, ⊎_elim, arith, ltb-false, ne_eqb, length-append}
+use Rattle.std.specs.Prelude.{is_none, unwrap_or, ◌||◌}
+use Rattle.std.proofs.lemmas.List.{length-replicate}
 use Rattle.std.proofs.lemmas.Bool.Decides.{Decides-eqb}
 use Rattle.rail_model.specs.declared.types.Ask.TheVariants.{Yes}
 use Rattle.rail_model.specs.declared.types.Reply.TheVariants.{Driver}
 use Rattle.rail_model.specs.declared.types.Entry.{Entry}
-use Rattle.rail_model.specs.Table.{place}
 use Rattle.rail_model.specs.Yard.{control}
-use Rattle.rail_model.proofs.Firsts.{then_some-none, passing}
+use Rattle.rail_model.proofs.Firsts.{then_some-none}
 use Rattle.move_claim.specs.declared.answers.BlockAsk.{BlockAsk}
 use Rattle.move_claim.specs.declared.answers.BlockAsk.TheVariants as block
 use Rattle.move_claim.specs.declared.cells.Cell.{Cell}
@@ -16,19 +15,17 @@ use Rattle.move_claim.specs.declared.cells.Cell.TheVariants.{Table as TableCell}
 use Rattle.move_claim.specs.Cells.{number_of, number_in}
 use Rattle.move_claim.specs.Claims.{Footprint, claim_of, footprint_of}
 use Rattle.move_claim.specs.Deciding.{decided}
-use Rattle.zone_machine.specs.declared.steps.Stage.{Stage}
-use Rattle.zone_machine.specs.declared.steps.Stage.TheVariants.{Away, Aboard, Left}
 use Rattle.zone_machine.specs.declared.steps.Step.TheVariants.{Block}
 use Rattle.zone_machine.specs.declared.steps.NotAllowed.TheVariants as no
 use Rattle.zone_machine.specs.World.{Setup, Actor, World, actor, trains_of, yard_after}
 use Rattle.zone_machine.specs.Needs.{table_of, zones}
 use Rattle.zone_machine.specs.Entries.{known_table, own_claim, answer, block_entries, driver_after}
 use Rattle.zone_machine.specs.Entered.{driver_told}
-use Rattle.zone_machine.specs.Steps.{is_aboard, checks, refusal, room_for, append_checks, after_driver}
+use Rattle.zone_machine.specs.Steps.{checks, refusal, room_for, append_checks, after_driver}
 use Rattle.zone_machine.specs.Sound.{Sound, IsSetup, Is}
 use Rattle.zone_machine.specs.Cores.{CoreValue, IsCore}
 use Rattle.zone_machine.proofs.Acting.{in_place, passed, there, is_row, allowed_here}
-use Rattle.zone_machine.proofs.Allowed.{Passes}
+use Rattle.zone_machine.proofs.Allowed.{Passes, either_false, is_aboard_at}
 use Rattle.zone_machine.proofs.DriverAppends.{is_known}
 use Rattle.table_exchange.proofs.Histories.{stands_history}
 use Rattle.zone_machine.proofs.Refusing.{known_in_range}
@@ -42,15 +39,6 @@ pub record Enters (S : Setup) (w : World) (p n : ℕ) (a : Actor) : Type 0 where
   pub small : (d : Cell) (m : ℕ) → number_of d a.known ≡ Some m → m < 2147483648
   pub room : length w.history + cond ((own_claim S p a n).steps == 0) 1 (own_claim S p a n).steps ≤ S.most
   pub place : a.position + (own_claim S p a n).steps < 4294967296
-
-either_false : (b d : Bool) → b || d ≡ false → (b ≡ false) × (d ≡ false)
-either_false true d e = absurd (true≢false e)
-either_false false d e = (refl, e)
-
-aboard_at : (t : Stage) → is_aboard t ≡ true → t ≢ Left
-aboard_at Aboard e l = cc l
-aboard_at Away e l = cc l
-aboard_at Left e l = true≢false (sym e)
 
 module _ (S : Setup) (w : World) (p n : ℕ) (ok : IsSetup S) (s : Sound S w) (allowed : refusal S p w (Block n) ≡ None) where
   abbrev own : Actor
@@ -71,7 +59,7 @@ module _ (S : Setup) (w : World) (p n : ℕ) (ok : IsSetup S) (s : Sound S w) (a
   low : p < trains_of S
   low = ⊎_elim (λ (lt : p < trains_of S). lt)
       (λ (e : p ≡ control). absurd (true≢false (sym ((Decides-eqb p control).1 e) ∙ differ)))
-      (s.present p own at (aboard_at own.stage (in_place S w p (Block n) allowed)))
+      (s.present p own at (λ left. absurd (cc (sym (is_aboard_at own.stage (in_place S w p (Block n) allowed)) ∙ left))))
 
   asked : Passes (append_checks S p w own n)
   asked = none.1.1
@@ -122,10 +110,6 @@ pub enters_at : (v now : CoreValue) (p n : ℕ) (core : IsCore v) (is : v ≡ no
 enters_at v now p n core is allowed d a found same =
     subst (Enters v.setup v.world p n) (is_row v now p (Block n) core is allowed d a found same)
     (enters v.setup v.world p n core.made core.sound (allowed_here v now p (Block n) core is allowed))
-
-length-replicate : {X : Type 0} (n : ℕ) (x : X) → length (replicate n x) ≡ n
-length-replicate zero x = refl
-length-replicate (suc n) x = ap suc (length-replicate n x)
 
 -- the entries of a block are few enough
 at_least : (n : ℕ) → (1 ≤ cond (n == 0) 1 n) × (n ≤ cond (n == 0) 1 n)

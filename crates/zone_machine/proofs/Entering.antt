@@ -1,5 +1,5 @@
 -- What the loops of an append find and add.
-use Rattle.std.proofs.Common.{◌≡◌, ℕ, zero, suc, ◌+◌, ◌<◌, List, [], ◌∷◌, ◌++◌, map, Bool, true, false, cond, Option, Some, None, refl, sym, ap, ◌∙◌, arith, replicate, append_assoc}
+use Rattle.std.proofs.Common.{◌≡◌, ℕ, ◌<◌, List, [], ◌∷◌, map, Bool, true, false, cond, Some, None, refl, sym, ap, ◌∙◌}
 use Rattle.std.specs.Prelude.{find, is_none, option_map}
 use Rattle.rail_model.specs.Checks.{below}
 use Rattle.move_claim.specs.declared.cells.Cell.{Cell}
@@ -29,7 +29,3 @@ module _ (known : List (Cell × ℕ)) where
   pub none_unknown : (n : ℕ) → ((j : ℕ) → j < n → is_unknown j ≡ false) → None ≡ first_unknown (map (λ (i : ℕ). Position i) (below n)) known
   none_unknown n none =
       sym (find-map (λ c. is_none (number_of c known)) (λ (i : ℕ). Position i) (below n) ∙ ap (option_map (λ (i : ℕ). Position i)) (nothing_found is_unknown n none))
-
-pub replicate_more : {X : Type 0} (k : ℕ) (x : X) → replicate (k + 1) x ≡ replicate k x ++ x ∷ []
-replicate_more zero x = refl
-replicate_more (suc k) x = let e : suc k + 1 ≡ suc (k + 1) = omega arith in ap (λ n. replicate n x) e ∙ ap (λ xs. x ∷ xs) (replicate_more k x)

@@ -1,32 +1,19 @@
 -- A step that is made, and one that is refused.
-use Rattle.std.proofs.Common.{◌≡◌, ◌≢◌, ℕ, List, ◌∷◌, length, get_or, ◌∙◌, Bool, true, false, true≢false, ltb-true, nat_lt, Option, Some, None, Result, Ok, Err, sym, ap, subst}
+use Rattle.std.proofs.Common.{◌≡◌, ◌≢◌, ℕ, List, ◌∷◌, length, get_or, ◌∙◌, true, false, true≢false, ltb-true, nat_lt, Some, None, sym, ap, subst}
 use Rattle.std.specs.Prelude.{slice_get, not}
 use Rattle.std.specs.Bool.{then_some}
 use Rattle.std.specs.Option.{option_or}
-use Rattle.rail_model.specs.Turns.{first_of, unless}
+use Rattle.rail_model.specs.Turns.{first_of}
 use Rattle.zone_machine.specs.declared.steps.Stage.TheVariants.{Left}
 use Rattle.zone_machine.specs.declared.steps.Step.{Step}
 use Rattle.zone_machine.specs.declared.steps.Step.TheVariants.{Board, Glance, Take, Read, Append, Block, Pay, Release, Leave}
-use Rattle.zone_machine.specs.declared.steps.Seen.{Seen}
-use Rattle.zone_machine.specs.declared.steps.NotAllowed.{NotAllowed}
 use Rattle.zone_machine.specs.declared.steps.NotAllowed.TheVariants as no
 use Rattle.zone_machine.specs.World.{Setup, Actor, World, actor}
 use Rattle.zone_machine.specs.Steps.{is_away, is_aboard, is_in_place, checks, refusal, outcome}
 use Rattle.zone_machine.specs.Sound.{Sound, IsSetup}
-use Rattle.zone_machine.specs.Calls.{Steps}
 use Rattle.zone_machine.proofs.Acting.{kept_by}
 use Rattle.zone_machine.proofs.Allowed.{allowed_keeps}
 use Rattle.zone_machine.proofs.Rowing.{at_row, row_at}
-
-pub steps_made : (o : Option NotAllowed) (r : Seen × World) (before after : World) (seen : Seen) → o ≡ None → seen ≡ r.0 → after ≡ r.1
-    → Steps (unless o r) before (Ok seen) after
-steps_made None r before after seen none sees leaves = (sees, leaves)
-steps_made (Some cause) r before after seen none sees leaves = absurd (cc none)
-
-pub steps_refused : (o : Option NotAllowed) (r : Seen × World) (before after : World) (cause : NotAllowed) → Some cause ≡ o → after ≡ before
-    → Steps (unless o r) before (Err cause) after
-steps_refused None r before after cause some same = absurd (cc some)
-steps_refused (Some e) r before after cause some same = (let h : cause ≡ e = cc in h, same)
 
 -- what an allowed step leaves is sound
 pub made_sound : (S : Setup) (w : World) (p : ℕ) (step : Step) → IsSetup S → Sound S w → refusal S p w step ≡ None → (v : World) → v ≡ (outcome S p w (actor w p) step).1 → Sound S v

@@ -1,7 +1,7 @@
 -- Worked rows: each refusal, at each step that it can meet.
 use Rattle.std.proofs.Common.{◌≡◌, [], ◌∷◌, ◌++◌, Ok, Err, refl}
 use Rattle.rail_model.specs.Yard.{control}
-use Rattle.move_claim.specs.declared.cells.Cell.TheVariants.{Point, Count, Position, Table}
+use Rattle.move_claim.specs.declared.cells.Cell.TheVariants.{Point, Position, Table}
 use Rattle.zone_machine.specs.declared.steps.Step.TheVariants.{Board, Glance, Take, Read, Append, Block, Pay, Release, Leave}
 use Rattle.zone_machine.specs.declared.steps.Seen.TheVariants as seen
 use Rattle.zone_machine.specs.declared.steps.NotAllowed.TheVariants as no

@@ -1,5 +1,4 @@
-use Rattle.std.proofs.Common.{◌≡◌, ◌∙◌, Bool, true, false, cond, sym, ap, refl}
-use Rattle.rail_model.specs.declared.types.Tried.TheVariants.{Early}
+use Rattle.std.proofs.Common.{◌≡◌, ◌∙◌, true, false, sym, ap, refl}
 use Rattle.rail_model.specs.Table.{Table}
 use Rattle.rail_model.specs.Checks.{is_due, admitted}
 use Rattle.rail_model.proofs.Told.{admitted-agrees}

@@ -1,12 +1,12 @@
-use Rattle.std.proofs.Common.{◌≡◌, ℕ, ◌<◌, ◌≤◌, length, map, refl, sym, ap, ◌∙◌, subst, Option, arith, rules}
-use Rattle.std.specs.Prelude.{unwrap_or, vec_capacity}
+use Rattle.std.proofs.Common.{◌≡◌, ℕ, ◌<◌, length, map, refl, sym, ap, ◌∙◌, subst, Option, arith, rules}
+use Rattle.std.specs.Prelude.{unwrap_or}
 use Rattle.move_claim.specs.declared.cells.Cell.TheVariants.{Count}
 use Rattle.move_claim.specs.Cells.{number_in}
 use Rattle.move_claim.specs.Deciding.{decided}
 use Rattle.zone_machine.specs.declared.steps.Step.TheVariants.{Block}
 use Rattle.zone_machine.specs.World.{Setup, Actor, World, actor, trains_of}
 use Rattle.zone_machine.specs.Entered.{driver_told}
-use Rattle.zone_machine.specs.Entries.{own_claim, answer}
+use Rattle.zone_machine.specs.Entries.{answer}
 use Rattle.zone_machine.specs.Steps.{after_driver}
 use Rattle.zone_machine.specs.Cores.{CoreValue}
 use Rattle.zone_machine.proofs.Acting.{is_row, leaves_as, makes_as}

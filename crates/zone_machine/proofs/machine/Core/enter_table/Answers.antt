@@ -1,7 +1,6 @@
-use Rattle.std.proofs.Common.{◌≡◌, ℕ, ◌+◌, ◌-◌, ◌<◌, ◌≤◌, length, map, refl, sym, ap, ◌∙◌, subst, List, Option, arith, rules}
-use Rattle.std.specs.Prelude.{unwrap_or, sum, vec_capacity}
+use Rattle.std.proofs.Common.{◌≡◌, ℕ, ◌+◌, ◌≤◌, length, map, refl, sym, ap, ◌∙◌, subst, List, Option, arith, rules}
+use Rattle.std.specs.Prelude.{unwrap_or}
 use Rattle.std.proofs.lemmas.List.{length-map}
-use Rattle.rail_model.specs.declared.types.Tried.TheVariants.{Exchanged}
 use Rattle.rail_model.specs.Checks.{below}
 use Rattle.rail_model.specs.State.{Legal}
 use Rattle.rail_model.specs.Table.{Table, trains}
@@ -9,7 +8,7 @@ use Rattle.rail_model.specs.Yard.{Offer, control, offer}
 use Rattle.move_claim.specs.declared.cells.Cell.TheVariants.{Position}
 use Rattle.move_claim.specs.Cells.{number_in}
 use Rattle.zone_machine.specs.declared.steps.Step.TheVariants.{Append}
-use Rattle.zone_machine.specs.World.{Setup, Actor, World, actor, trains_of}
+use Rattle.zone_machine.specs.World.{Setup, Actor, World, actor}
 use Rattle.zone_machine.specs.Needs.{table_of}
 use Rattle.zone_machine.specs.Entered.{control_told}
 use Rattle.zone_machine.specs.Entries.{known_table, known_positions, moves_to, tried}
@@ -145,8 +144,7 @@ invariant_of-self g c =
     ∙ ap (λ (T : Table). control_told (below S.layout.zones) T c.note_positions.new.positions c.tell-told.result a) new_is) in
     let word_is : c.len.result ≡ length c.push_reserved.new.self.items = search rules in
     let make : Actor → World = λ x. after_control S control world x in
-    let last_is = control_world S world a c.table.result.now (g.A.HasTable.offer c.index-tables-row.result) c.note_positions.new.positions c.moves_to-moves.result c.tell-told.result old_is next_is positions_are c.moves_to-moves.ensures c.tell-told.ensures c.len.result c.push_reserved.new.self.items c.tell_control.new.row c.push_reserved.ensures.items word_is row_is in
-    (
+    let last_is = control_world S world a c.table.result.now (g.A.HasTable.offer c.index-tables-row.result) c.note_positions.new.positions c.moves_to-moves.result c.tell-told.result old_is next_is positions_are c.moves_to-moves.ensures c.tell-told.ensures c.len.result c.push_reserved.new.self.items c.tell_control.new.row c.push_reserved.ensures.items word_is row_is in (
       leaves_as _ c.args.self.now control Append c.self.invariant.0 c.self.view_is c.requires c.index_mut-row.result.now a c.index_mut-row.ensures.value c.row.view_is make refl _ last_is,
       (search rules, ap (λ (ps : List ℕ). length ps) positions_are ∙ t.one_each),
     )
