@@ -10,8 +10,8 @@ use Rattle.rail_model.specs.State.{Legal, StandsAt}
 use Rattle.rail_model.specs.Yard.{advanced}
 use Rattle.rail_model.proofs.Shares.{count_natural, share_next}
 use Rattle.zone_locks.specs.Zones.{has}
-use Rattle.move_claim.specs.declared.answers.BlockAsk.{BlockAsk}
-use Rattle.move_claim.specs.declared.answers.BlockAsk.TheVariants as block
+use Rattle.rail_model.specs.declared.types.BlockAsk.{BlockAsk}
+use Rattle.rail_model.specs.declared.types.BlockAsk.TheVariants as block
 use Rattle.move_claim.specs.declared.cells.Cell.{Cell}
 use Rattle.move_claim.specs.declared.cells.Cell.TheVariants.{Point, Count, Position, Table as TableCell}
 use Rattle.move_claim.specs.Cells.{number_of, number_in}
@@ -19,7 +19,8 @@ use Rattle.move_claim.specs.declared.claims.Claim.{Claim}
 use Rattle.move_claim.specs.Claims.{is_changed, sections}
 use Rattle.move_claim.specs.Deciding.{decided, effects, touched, number_left, count_after}
 use Rattle.move_claim.specs.Informed.{IsInformed, IsOneStep, AreNew}
-use Rattle.move_claim.specs.States.{AnswersBlock, cell_number, occupant}
+use Rattle.rail_model.specs.Blocks.{AnswersBlock}
+use Rattle.move_claim.specs.States.{cell_number, occupant}
 use Rattle.move_claim.proofs.Effects.{at, other, legal_after, occupied, occupies, stood_at, changed_at, point_left, owed_point, owed_count, owed_position, owed_table, in_sections}
 use Rattle.move_claim.proofs.Informing.{told, answered, some_is}
 use Rattle.move_claim.proofs.StepAsked.{count_told, count_moved}

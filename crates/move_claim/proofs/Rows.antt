@@ -3,7 +3,7 @@ use Rattle.std.proofs.Common.{◌≡◌, ℕ, zero, suc, List, [], ◌∷◌, po
 use Rattle.rail_model.specs.declared.types.Ask.TheVariants.{Arrived, Occupied, Full, Waits}
 use Rattle.rail_model.specs.Layout.{Layout, Point as LayoutPoint}
 use Rattle.rail_model.specs.Table.{Table}
-use Rattle.move_claim.specs.declared.answers.BlockAsk.TheVariants.{Yes, First, NotWhole}
+use Rattle.rail_model.specs.declared.types.BlockAsk.TheVariants.{Yes, First, NotWhole}
 use Rattle.move_claim.specs.declared.cells.Cell.{Cell}
 use Rattle.move_claim.specs.declared.cells.Cell.TheVariants.{Point, Count, Position, Table as TableCell}
 use Rattle.move_claim.specs.Cells.{number_in}

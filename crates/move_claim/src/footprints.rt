@@ -6,8 +6,8 @@ use crate::claims::Claim;
 use crate::deciding::decide_steps;
 use crate::filling::{cells_needed, zones_needed};
 use crate::granting::owe_effects;
-use crate::{BlockAsk, Cell, Known, Owed};
-use rail_model::{Ask, Layout, Table, last_of};
+use crate::{Cell, Known, Owed};
+use rail_model::{Ask, BlockAsk, Layout, Table, last_of};
 use std::marker::Model;
 use zone_locks::ZoneSet;
 
@@ -36,7 +36,7 @@ impl<'a> Model for Footprint<'a> {
 impl<'a> Footprint<'a> {
     ghost use Rattle.std.specs.Prelude.{◌≡◌, ◌<◌, ◌≤◌};
     ghost use Rattle.rail_model.specs.Table.{trains};
-    ghost use Rattle.move_claim.specs.declared.answers.BlockAsk.TheVariants.{Yes};
+    ghost use Rattle.rail_model.specs.declared.types.BlockAsk.TheVariants.{Yes};
     ghost use Rattle.move_claim.specs.Cells.{number_in};
     ghost use Rattle.move_claim.specs.Claims.{cells_of, claim_of, footprint_of, nothing_claimed};
     ghost use Rattle.rail_model.specs.Ways.{IsOn};

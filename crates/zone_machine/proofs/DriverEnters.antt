@@ -8,8 +8,8 @@ use Rattle.rail_model.specs.declared.types.Reply.TheVariants.{Driver}
 use Rattle.rail_model.specs.declared.types.Entry.{Entry}
 use Rattle.rail_model.specs.Yard.{control}
 use Rattle.rail_model.proofs.Firsts.{then_some-none}
-use Rattle.move_claim.specs.declared.answers.BlockAsk.{BlockAsk}
-use Rattle.move_claim.specs.declared.answers.BlockAsk.TheVariants as block
+use Rattle.rail_model.specs.declared.types.BlockAsk.{BlockAsk}
+use Rattle.rail_model.specs.declared.types.BlockAsk.TheVariants as block
 use Rattle.move_claim.specs.declared.cells.Cell.{Cell}
 use Rattle.move_claim.specs.declared.cells.Cell.TheVariants.{Table as TableCell}
 use Rattle.move_claim.specs.Cells.{number_of, number_in}
@@ -19,7 +19,8 @@ use Rattle.zone_machine.specs.declared.steps.Step.TheVariants.{Block}
 use Rattle.zone_machine.specs.declared.steps.NotAllowed.TheVariants as no
 use Rattle.zone_machine.specs.World.{Setup, Actor, World, actor, trains_of, yard_after}
 use Rattle.zone_machine.specs.Needs.{table_of, zones}
-use Rattle.zone_machine.specs.Entries.{known_table, own_claim, answer, block_entries, driver_after}
+use Rattle.rail_model.specs.Blocks.{block_entries}
+use Rattle.zone_machine.specs.Entries.{known_table, own_claim, answer, driver_after}
 use Rattle.zone_machine.specs.Entered.{driver_told}
 use Rattle.zone_machine.specs.Steps.{checks, refusal, room_for, append_checks, after_driver}
 use Rattle.zone_machine.specs.Sound.{Sound, IsSetup, Is}

@@ -5,9 +5,10 @@ use Rattle.std.proofs.lemmas.Int.{ints}
 use Rattle.rail_model.specs.Layout.{IsLayout, Link, zone}
 use Rattle.rail_model.specs.Table.{Table, IsTable, IsSection, IsMission, mission, section as section_of, trains, last, point, share}
 use Rattle.rail_model.specs.Yard.{offer}
+use Rattle.rail_model.proofs.MissionTests.{Decides-mission}
 use Rattle.rail_model.proofs.MoveTests.{Decides-legal}
 use Rattle.rail_model.proofs.NameTests.{are_names}
-use Rattle.move_claim.specs.Claims.{IsOn}
+use Rattle.rail_model.specs.Ways.{IsOn}
 use Rattle.zone_machine.specs.Sound.{IsSetup}
 use Rattle.zone_machine.proofs.Samples.{detour}
 
@@ -49,8 +50,8 @@ laid_out = record {
     joined (suc (suc k)) link there = absurd (cc there)
 
 one_mission : (t i : ℕ) → t < 2 → i < 1 → IsMission (mission (way t) i)
-one_mission zero zero low lt = record { some_point = lit≤ tt; few_places = lit≤ tt }
-one_mission (suc zero) zero low lt = record { some_point = lit≤ tt; few_places = lit≤ tt }
+one_mission zero zero low lt = (Decides-mission (mission (way 0) 0)).0 refl
+one_mission (suc zero) zero low lt = (Decides-mission (mission (way 1) 0)).0 refl
 one_mission (suc (suc t)) i low lt = absurd (omega (arith, low))
 one_mission t (suc i) low lt = absurd (omega (arith, lt))
 
@@ -113,8 +114,7 @@ detour_is_setup = record {
   tables = record { some = lit< tt; few = lit≤ tt; same = same };
   formed = formed;
   on = on;
-  opening = record { in_range = lit< tt; tried = lit< tt; legal = (Decides-legal (way 0) (0 ∷ [])).0 refl; moves = lit≤ tt };
-  answered = lit≤ tt;
+  opening = record { in_range = lit< tt; tried = lit< tt; answered = lit≤ tt; legal = (Decides-legal (way 0) (0 ∷ [])).0 refl; moves = lit≤ tt };
 }
   where
     same : (t : ℕ) → t < 2 → trains (way t) ≡ trains (way 0)

@@ -2,7 +2,7 @@
 use Rattle.std.specs.Prelude.{ℕ, ◌+◌, List, [], true, if◌then◌else◌}
 use Rattle.rail_model.specs.declared.types.Tried.{Tried}
 use Rattle.rail_model.specs.Table.{Table}
-use Rattle.move_claim.specs.declared.answers.BlockAsk.{BlockAsk}
+use Rattle.rail_model.specs.declared.types.BlockAsk.{BlockAsk}
 use Rattle.move_claim.specs.Cells.{number_in}
 use Rattle.move_claim.specs.Claims.{Footprint}
 use Rattle.move_claim.specs.Deciding.{effects}

@@ -6,15 +6,16 @@ ghost use Rattle.move_claim.specs.Cells.{number_in};
 ghost use Rattle.move_claim.specs.Deciding.{decided, one_ask as one_answer};
 ghost use Rattle.move_claim.specs.Small.{AreSmall};
 ghost use Rattle.zone_machine.specs.Entered.{driver_told};
-ghost use Rattle.zone_machine.specs.Entries.{answer, block_entries};
+ghost use Rattle.rail_model.specs.Blocks.{block_entries};
+ghost use Rattle.zone_machine.specs.Entries.{answer};
 ghost use Rattle.zone_machine.specs.declared.steps.Step.TheVariants.{Block as BlockStep};
 ghost use Rattle.zone_machine.specs.Steps.{after_driver, refusal as cause_of};
 ghost use Rattle.zone_machine.specs.World.{actor};
 
 use crate::Core;
 use crate::machine::Row;
-use move_claim::{BlockAsk, Cell, Footprint};
-use rail_model::{Ask, Entry, HasTable, Reply};
+use move_claim::{Cell, Footprint};
+use rail_model::{Ask, BlockAsk, Entry, HasTable, Reply};
 
 /// What is told of a block of one step.
 pub(crate) fn one_ask(reply: BlockAsk) -> Ask
