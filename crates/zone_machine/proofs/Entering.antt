@@ -1,0 +1,31 @@
+-- What the loops of an append find and add.
+use Rattle.std.proofs.Common.{◌≡◌, ℕ, ◌<◌, List, [], ◌∷◌, map, Bool, true, false, cond, Some, None, refl, sym, ap, ◌∙◌}
+use Rattle.std.specs.Prelude.{find, is_none, option_map}
+use Rattle.rail_model.specs.Checks.{below}
+use Rattle.move_claim.specs.declared.cells.Cell.{Cell}
+use Rattle.move_claim.specs.declared.cells.Cell.TheVariants.{Position}
+use Rattle.move_claim.specs.Cells.{number_of, first_unknown}
+use Rattle.move_claim.proofs.Finding.{found, nothing_found}
+
+find-map : (t : Cell → Bool) (f : ℕ → Cell) (xs : List ℕ) → find t (map f xs) ≡ option_map f (find (λ i. t (f i)) xs)
+find-map t f [] = refl
+find-map t f (x ∷ xs) = go (t (f x)) (find-map t f xs)
+  where
+    go : (b : Bool) → find t (map f xs) ≡ option_map f (find (λ i. t (f i)) xs)
+        → cond b (Some (f x)) (find t (map f xs)) ≡ option_map f (cond b (Some x) (find (λ i. t (f i)) xs))
+    go true e = refl
+    go false e = e
+
+module _ (known : List (Cell × ℕ)) where
+  -- whether the position of a train isn't known
+  abbrev pub is_unknown : ℕ → Bool
+  is_unknown i = is_none (number_of (Position i) known)
+
+  pub unknown_found : (n s : ℕ) → s < n → ((j : ℕ) → j < s → is_unknown j ≡ false) → is_unknown s ≡ true
+      → Some (Position s) ≡ first_unknown (map (λ (i : ℕ). Position i) (below n)) known
+  unknown_found n s lt before is =
+      sym (find-map (λ c. is_none (number_of c known)) (λ (i : ℕ). Position i) (below n) ∙ ap (option_map (λ (i : ℕ). Position i)) (found is_unknown n s lt before is))
+
+  pub none_unknown : (n : ℕ) → ((j : ℕ) → j < n → is_unknown j ≡ false) → None ≡ first_unknown (map (λ (i : ℕ). Position i) (below n)) known
+  none_unknown n none =
+      sym (find-map (λ c. is_none (number_of c known)) (λ (i : ℕ). Position i) (below n) ∙ ap (option_map (λ (i : ℕ). Position i)) (nothing_found is_unknown n none))

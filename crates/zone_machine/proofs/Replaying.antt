@@ -1,0 +1,56 @@
+-- A history that is replayed entry by entry.
+use Rattle.std.proofs.Common.{◌≡◌, ℕ, zero, suc, ◌+◌, ◌-◌, ◌<◌, List, [], ◌∷◌, ◌++◌, length, get_or, drop, drop-cons, Bool, true, false, cond, None, sym, ◌∙◌, append_assoc, subst, arith}
+use Rattle.std.specs.Prelude.{option_to_list, slice_get}
+use Rattle.rail_model.specs.declared.types.Entry.{Entry}
+use Rattle.rail_model.specs.declared.types.Line.{Line}
+use Rattle.rail_model.specs.Lines.{journal_of, line_of}
+use Rattle.rail_model.specs.Table.{Table, Mission, mission, last_of, last, point}
+use Rattle.rail_model.specs.Yard.{Yard, IsHistory, after, after_entry}
+use Rattle.table_exchange.specs.Tables.{AreTables, Stands}
+use Rattle.zone_machine.specs.World.{Setup}
+use Rattle.table_exchange.proofs.Histories.{stands_history}
+
+-- The entries that are left are right from here on, and lead with the lines so far to where the whole history does.
+pub record Replayed (S : Setup) (history left : List Entry) (yard : Yard) (lines : List Line) : Type 0 where
+  pub stands : Stands S.tables yard
+  pub right : IsHistory S.tables yard left
+  pub leads : after yard left ≡ after S.opening history
+  pub told : lines ++ journal_of S.tables yard left ≡ journal_of S.tables S.opening history
+
+module _ (S : Setup) (are : AreTables S.tables) (history : List Entry) where
+  -- one entry more
+  one_replayed : (e : Entry) (left : List Entry) (y z : Yard) (lines more : List Line) → Replayed S history (e ∷ left) y lines
+      → z ≡ after_entry y e → more ≡ lines ++ option_to_list (line_of S.tables y e) → Replayed S history left z more
+  one_replayed e left y z lines more r z_is more_is =
+      subst (λ (x : Yard). Replayed S history left x more) (sym z_is)
+      (subst (λ (l : List Line). Replayed S history left (after_entry y e) l) (sym more_is) (record {
+        stands = stands_history S.tables y (e ∷ []) are r.stands (r.right.0, tt);
+        right = r.right.1;
+        leads = r.leads;
+        told = append_assoc lines _ _ ∙ r.told;
+      }))
+
+  -- the entry of this place is replayed
+  pub next_replayed : (items : List Entry) (i : ℕ) (e : Entry) → i < length items → (y z : Yard) (lines more : List Line)
+      → Replayed S history (drop i items) y lines → z ≡ after_entry y (get_or items i e) → more ≡ lines ++ option_to_list (line_of S.tables y (get_or items i e))
+      → Replayed S history (drop (i + 1) items) z more
+  next_replayed items i e lt y z lines more r z_is more_is =
+      let one : suc i ≡ i + 1 = omega arith in
+      subst (λ k. Replayed S history (drop k items) z more) one
+      (one_replayed (get_or items i e) (drop (suc i) items) y z lines more (subst (λ l. Replayed S history l y lines) (drop-cons items i e lt) r) z_is more_is)
+
+-- a train that isn't at its last place stands at a point
+pub has_point : (T : Table) (i k : ℕ) → k < last T i → point T i k ≡ None → ⊥
+has_point T i k lt none = absent (mission T i).points k (before_last (mission T i) lt) none
+  where
+    before_last : (m : Mission) → k < last_of m → k < length m.points
+    before_last m lt = go m.exits lt
+      where
+        go : (b : Bool) → k < cond b (length m.points) (length m.points - 1) → k < length m.points
+        go true h = h
+        go false h = omega arith
+
+    absent : (xs : List ℕ) (k : ℕ) → k < length xs → slice_get xs k ≡ None → ⊥
+    absent [] k lt none = omega arith
+    absent (x ∷ xs) zero lt none = cc none
+    absent (x ∷ xs) (suc k) lt none = absent xs k (omega arith) none
