@@ -24,7 +24,9 @@ repair --rounds 10000 --budget 1: Repair 1 10000 0
 sim: Simulate 0 0 0
 gen: Generate 0 2 0
 gen --trains 32 --seed 4294967295: Generate 4294967295 32 0
-drill --seed 7 --trains=0 --workers 0: Drill 7 0 0";
+drill --seed 7 --trains=0 --workers 0: Drill 7 0 0
+weave: Weave 0 0 0
+weave --steps=1000000 --seed 7: Weave 7 1000000 0";
 
 // The first line is empty: one empty word.
 const REFUSED: &str = "
@@ -86,7 +88,10 @@ gen --trains 33
 gen --workers 0
 drill --workers 1
 drill --rounds 3
-weave";
+weave --steps 1000001
+weave --rounds 3
+weave --workers 0
+weaves";
 
 // An order with its numbers in the order of its fields.
 struct Parts {
@@ -111,6 +116,7 @@ fn parts_of(order: Order) -> Parts {
             trains,
             workers,
         } => ("Drill", [seed, trains, workers]),
+        Order::Weave { seed, steps } => ("Weave", [seed, steps, 0]),
     };
     Parts { name, numbers }
 }

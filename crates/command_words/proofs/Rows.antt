@@ -81,7 +81,7 @@ not_its_own : map asked (codes "check --rounds 3" ∷ codes "make --rounds 3" �
 unfolding clap_on_literals leaf words number_of
 not_its_own = refl
 
-other_words : map asked (codes "run --round 3" ∷ codes "ru" ∷ codes "RUN" ∷ codes "run extra" ∷ codes "run --rounds" ∷ codes "run -" ∷ codes "run --=3" ∷ codes "" ∷ codes "weave" ∷ []) ≡ None ∷ None ∷ None ∷ None ∷ None ∷ None ∷ None ∷ None ∷ None ∷ []
+other_words : map asked (codes "run --round 3" ∷ codes "ru" ∷ codes "RUN" ∷ codes "run extra" ∷ codes "run --rounds" ∷ codes "run -" ∷ codes "run --=3" ∷ codes "" ∷ codes "weaves" ∷ []) ≡ None ∷ None ∷ None ∷ None ∷ None ∷ None ∷ None ∷ None ∷ None ∷ []
 unfolding clap_on_literals leaf words number_of
 other_words = refl
 
@@ -102,3 +102,12 @@ more_out_of_ranges = refl
 more_not_its_own : map asked (codes "derive --rounds 3" ∷ codes "repair --most 2" ∷ codes "sim --seed 1" ∷ codes "gen --workers 0" ∷ codes "drill --rounds 3" ∷ []) ≡ None ∷ None ∷ None ∷ None ∷ None ∷ []
 unfolding clap_on_literals leaf words number_of
 more_not_its_own = refl
+
+-- A weave has a seed and a number of turns, which has an end to its range.
+weaves : map asked (codes "weave" ∷ codes "weave --seed 7 --steps 1000" ∷ []) ≡ Some (order.Weave 0 0) ∷ Some (order.Weave 7 1000) ∷ []
+unfolding clap_on_literals leaf words number_of
+weaves = refl
+
+no_weaves : map asked (codes "weave --steps 1000001" ∷ codes "weave --workers 0" ∷ codes "gen --steps 1" ∷ []) ≡ None ∷ None ∷ None ∷ []
+unfolding clap_on_literals leaf words number_of
+no_weaves = refl

@@ -27,6 +27,10 @@ workers = option (codes "workers") 0 most_workers 0
 abbrev pub rounds : NumberOption
 rounds = option (codes "rounds") 0 1000000 1000
 
+-- how many turns a weave makes
+abbrev pub steps : NumberOption
+steps = option (codes "steps") 0 1000000 0
+
 -- how many nodes a certificate has at most
 abbrev pub budget : NumberOption
 budget = option (codes "budget") 1 1000000 1000000
@@ -39,7 +43,7 @@ most = option (codes "most") 2 8 2
 abbrev pub repair_rounds : NumberOption
 repair_rounds = option (codes "rounds") 0 10000 1000
 
--- what the draws of a made document begin with
+-- what the draws of a made document or of a weave begin with
 abbrev pub seed : NumberOption
 seed = option (codes "seed") 0 4294967295 0
 

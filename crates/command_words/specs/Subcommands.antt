@@ -1,7 +1,7 @@
 -- The subcommands: the options of each, and what it asks for.
 use Rattle.std.specs.Prelude.{List, [], ◌∷◌, codes, Option, Some, option_and_then}
 use Rattle.clap.specs.Words.{Row, Text}
-use Rattle.command_words.specs.Options.{NumberOption, Takes, number, workers, rounds, budget, most, repair_rounds, seed, trains}
+use Rattle.command_words.specs.Options.{NumberOption, Takes, number, workers, rounds, budget, most, repair_rounds, seed, steps, trains}
 use Rattle.command_words.specs.declared.orders.Order.{Order}
 use Rattle.command_words.specs.declared.orders.Order.TheVariants as order
 
@@ -109,6 +109,17 @@ drill = record {
     Some (order.Drill s n w);
 }
 
+-- makes turns of a document's trains and control, each by the one that is drawn, and finishes the run
+abbrev pub weave : Subcommand
+weave = record {
+  name = codes "weave";
+  options = seed ∷ steps ∷ [];
+  order = λ given. do
+    s ← number seed given
+    k ← number steps given
+    Some (order.Weave s k);
+}
+
 -- Each number of the order is one that its option takes.
 abbrev pub HasItsNumbers : Order → Type 0
 HasItsNumbers (order.Run w r) = Takes workers w × Takes rounds r
@@ -118,4 +129,5 @@ HasItsNumbers (order.Derive m b) = Takes most m × Takes budget b
 HasItsNumbers (order.Repair b r) = Takes budget b × Takes repair_rounds r
 HasItsNumbers (order.Generate s n) = Takes seed s × Takes trains n
 HasItsNumbers (order.Drill s n w) = Takes seed s × Takes trains n × Takes workers w
+HasItsNumbers (order.Weave s k) = Takes seed s × Takes steps k
 HasItsNumbers _ = Unit {0}

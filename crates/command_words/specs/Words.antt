@@ -26,7 +26,7 @@ section_makers = sub.derive ∷ sub.repair ∷ []
 
 -- what tries a run, on a document or on a made one
 abbrev pub trials : List Subcommand
-trials = sub.simulate ∷ sub.generate ∷ sub.drill ∷ []
+trials = sub.simulate ∷ sub.generate ∷ sub.drill ∷ sub.weave ∷ []
 
 -- all of them
 abbrev pub subcommands : List Subcommand

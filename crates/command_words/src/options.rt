@@ -13,6 +13,8 @@ const MOST_ROUNDS: u32 = 1_000_000;
 
 const DEFAULT_ROUNDS: u32 = 1000;
 
+const MOST_STEPS: u32 = 1_000_000;
+
 const MOST_NODES: u32 = 1_000_000;
 
 const LEAST_RING: u32 = 2;
@@ -37,6 +39,13 @@ pub(crate) fn rounds(matches: &ArgMatches<'_>) -> Option<u32>
     ensures within { IfSome result (spec.Takes spec.rounds) }
 {
     number(matches, "rounds", 0, MOST_ROUNDS, DEFAULT_ROUNDS)
+}
+
+pub(crate) fn steps(matches: &ArgMatches<'_>) -> Option<u32>
+    ensures exact { result ≡ spec.number spec.steps (rows_of (found_of matches.now)) }
+    ensures within { IfSome result (spec.Takes spec.steps) }
+{
+    number(matches, "steps", 0, MOST_STEPS, 0)
 }
 
 pub(crate) fn budget(matches: &ArgMatches<'_>) -> Option<u32>

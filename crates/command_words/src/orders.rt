@@ -48,6 +48,12 @@ pub enum Order {
         trains: u32,
         workers: u32,
     },
+    /// Make so many turns of a document's trains and control, each by the one that is drawn from a seed, and finish
+    /// the run on one thread.
+    Weave {
+        seed: u32,
+        steps: u32,
+    },
 }
 
 /// Why there is no order for the words.

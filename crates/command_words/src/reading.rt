@@ -4,7 +4,7 @@ ghost use Rattle.clap.specs.Words.{found_of, rows_of, subcommand_rows_of};
 ghost use Rattle.command_words.specs.Subcommands as sub;
 ghost use Rattle.command_words.specs.Words as spec;
 
-use crate::options::{budget, most, repair_rounds, rounds, seed, trains, workers};
+use crate::options::{budget, most, repair_rounds, rounds, seed, steps, trains, workers};
 use crate::orders::{Order, WordsRefused};
 use crate::table::command;
 use clap::ArgMatches;
@@ -60,6 +60,7 @@ fn order_called(name: &str, matches: &ArgMatches<'_>) -> Option<Order>
         "sim" => Some(Order::Simulate),
         "gen" => generate(matches),
         "drill" => drill(matches),
+        "weave" => weave(matches),
         _ => None,
     }
 }
@@ -129,4 +130,13 @@ fn drill(matches: &ArgMatches<'_>) -> Option<Order>
         trains,
         workers,
     })
+}
+
+fn weave(matches: &ArgMatches<'_>) -> Option<Order>
+    ensures exact { result ≡ sub.weave.order (rows_of (found_of matches.now)) }
+    ensures within { IfSome result sub.HasItsNumbers }
+{
+    let seed = seed(matches)?;
+    let steps = steps(matches)?;
+    Some(Order::Weave { seed, steps })
 }

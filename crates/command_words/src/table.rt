@@ -69,7 +69,8 @@ fn with_trials<'a>(alloc: Global, command: Command<'a>) -> Result<Command<'a>, A
 {
     let command = with_subcommand(command, simulate(alloc))?;
     let command = with_subcommand(command, generate(alloc)?)?;
-    with_subcommand(command, drill(alloc)?)
+    let command = with_subcommand(command, drill(alloc)?)?;
+    with_subcommand(command, weave(alloc)?)
 }
 
 #[tactic(auto, unfolding(crate::specs::Words::leaf))]
@@ -126,6 +127,14 @@ fn drill<'a>(alloc: Global) -> Result<Command<'a>, AllocError>
     let command = with_option(alloc, Command::new(alloc, "drill"), "seed")?;
     let command = with_option(alloc, command, "trains")?;
     with_option(alloc, command, "workers")
+}
+
+#[tactic(auto, unfolding(crate::specs::Words::leaf))]
+fn weave<'a>(alloc: Global) -> Result<Command<'a>, AllocError>
+    ensures { IfOk result (Is (spec.leaf sub.weave)) }
+{
+    let command = with_option(alloc, Command::new(alloc, "weave"), "seed")?;
+    with_option(alloc, command, "steps")
 }
 
 #[tactic(auto, unfolding(crate::specs::Words::leaf))]
