@@ -2,7 +2,7 @@
 use Rattle.std.proofs.Common.{◌≡◌, ◌⊎◌, ℕ, List, Some, refl, sym, subst, inl, inr}
 use Rattle.std.specs.Prelude.{Err}
 use Rattle.command_words.specs.declared.orders.Order.{Order}
-use Rattle.command_words.specs.declared.orders.Order.TheVariants.{Run, Resume, Check, Verify, Migrate, Make, Derive, Repair, Simulate, Generate, Drill}
+use Rattle.command_words.specs.declared.orders.Order.TheVariants.{Run, Resume, Check, Verify, Migrate, Make, Derive, Repair, Simulate, Generate, Drill, Weave}
 use Rattle.layout_json.specs.Doc.{Doc, table_at}
 use Rattle.ats_run.specs.declared.failure.Failure.{Failure}
 use Rattle.ats_run.specs.declared.failure.Failure.TheVariants as failure
@@ -70,6 +70,7 @@ never (Repair b r) input e o h = elim h [ inl none ↦ never_no_doc input e o no
 never Simulate input e o h = outside (IsUnchecked input) (λ n. n) (λ n. n) (λ n. n) (λ n. n) e o h
 never (Generate s n) input e o h = never_unmade (generated s n) full_budget e o h
 never (Drill s n w) input e o h = never_unmade (generated s n) full_budget e o h
+never (Weave s k) input e o h = outside (IsUnchecked input) (λ n. n) (λ n. n) (λ n. n) (λ n. n) e o h
 
 -- what a command comes to on the bytes that were read is the cause of the end of its call
 pub answered : (call : Call) (order : Order) (bytes : List ℕ) (e : Failure) → call.order ≡ Some order → IsRead call order

@@ -9,7 +9,7 @@ use Rattle.cert_maker.specs.Rule.{Makes}
 use Rattle.cert_maker.specs.declared.made.Made.TheVariants.{Cert as cert, Stuck as found, Spent as spent}
 use Rattle.cert_maker.proofs.Spelled.{makes_one}
 use Rattle.command_words.specs.declared.orders.Order.{Order}
-use Rattle.command_words.specs.declared.orders.Order.TheVariants.{Run, Resume, Check, Verify, Migrate, Make, Derive, Repair, Simulate, Generate, Drill}
+use Rattle.command_words.specs.declared.orders.Order.TheVariants.{Run, Resume, Check, Verify, Migrate, Make, Derive, Repair, Simulate, Generate, Drill, Weave}
 use Rattle.move_journal.specs.declared.faults.BadText.TheVariants.{NoEnd}
 use Rattle.layout_json.specs.Doc.{Doc}
 use Rattle.layout_json.specs.Reading.{doc_of}
@@ -119,6 +119,7 @@ not_refused (Repair b r) input good e h = not_repaired input b r good.1 e h
 not_refused Simulate input good e h = not_unchecked input good.1 e h
 not_refused (Generate s n) input good e h = not_unmade (generated s n) full_budget good.1 e h
 not_refused (Drill s n w) input good e h = not_unmade (generated s n) full_budget good.1 e h
+not_refused (Weave s k) input good e h = not_unchecked input good.1 e h
 
 -- what a call knows of a good input
 pub record IsGoodCall (call : Call) (order : Order) (input : List ℕ) : Type 0 where

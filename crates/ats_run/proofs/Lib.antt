@@ -28,3 +28,5 @@ mod Samples
 pub mod Simulated
 mod TableRows
 mod Writing
+pub mod Woven
+pub mod WeaveRows

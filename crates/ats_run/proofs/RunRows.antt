@@ -2,7 +2,7 @@
 use Rattle.std.proofs.Common.{◌≡◌, ℕ, ◌≤◌, List, [], ◌∷◌, ◌++◌, codes, Some, None, Ok, refl, sym, ap, arith, lit<, lit≤, inr}
 use Rattle.std.specs.Fmt.{digits}
 use Rattle.std.proofs.lemmas.List.Elements.{All-nil, All-cons}
-use Rattle.command_words.specs.declared.orders.Order.TheVariants.{Run, Resume, Check, Verify}
+use Rattle.command_words.specs.declared.orders.Order.TheVariants.{Run, Resume, Check, Verify, Weave}
 use Rattle.rail_model.specs.declared.types.Line.{Line}
 use Rattle.rail_model.specs.declared.types.Line.TheVariants.{Move}
 use Rattle.rail_model.specs.Table.{last, place}
@@ -90,6 +90,11 @@ by_a_worker = tt
 run : (input : List ℕ) → doc_of input ≡ Ok good → Comes (Run 0 5) input (Ok run_text)
 unfolding is_run
 run input read = (good, read, (is_run (read-is-formed input good read).is, is_round_robin))
+
+-- a run that begins with no turn is the round robin's
+woven : (input : List ℕ) → doc_of input ≡ Ok good → Comes (Weave 7 0) input (Ok run_text)
+unfolding is_run
+woven input read = (good, read, (is_run (read-is-formed input good read).is, record { later = lines; round = round; all = refl }))
 
 -- the journal that was just printed
 are_printable : ArePrintable (names_of good) lines

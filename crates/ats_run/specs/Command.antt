@@ -1,7 +1,7 @@
 -- What each command comes to on the bytes of its input: the bytes that it prints, or the refusal that it tells.
 use Rattle.std.specs.Prelude.{◌≡◌, ◌≢◌, ◌⊎◌, ℕ, List, Result, Ok, Err}
 use Rattle.command_words.specs.declared.orders.Order.{Order}
-use Rattle.command_words.specs.declared.orders.Order.TheVariants.{Run, Resume, Check, Verify, Migrate, Make, Derive, Repair, Simulate, Generate, Drill}
+use Rattle.command_words.specs.declared.orders.Order.TheVariants.{Run, Resume, Check, Verify, Migrate, Make, Derive, Repair, Simulate, Generate, Drill, Weave}
 use Rattle.move_journal.specs.declared.faults.BadText.{BadText}
 use Rattle.move_journal.specs.declared.faults.BadText.TheVariants.{NoEnd}
 use Rattle.move_journal.specs.declared.faults.BadLine.{BadLine}
@@ -23,6 +23,7 @@ use Rattle.ats_run.specs.Making.{tables_in, IsMade, IsUnmade}
 use Rattle.ats_run.specs.Migrating.{IsMigratedText}
 use Rattle.ats_run.specs.Repairing.{IsRepaired, IsUnrepaired}
 use Rattle.ats_run.specs.Simulating.{IsSimulated}
+use Rattle.ats_run.specs.Weaving.{IsWoven}
 
 -- The bytes are a document, of which the fact holds.
 abbrev pub IsDocWith : List ℕ → (Doc → Type 0) → Type 0
@@ -108,3 +109,5 @@ Comes (Generate seed trains) input (Ok written) = IsDocWith (generated seed trai
 Comes (Generate seed trains) input (Err e) = IsUnmadeInput (generated seed trains) full_budget e
 Comes (Drill seed trains workers) input (Ok written) = IsDrilledInput workers (generated seed trains) written
 Comes (Drill seed trains workers) input (Err e) = IsUnmadeInput (generated seed trains) full_budget e
+Comes (Weave seed turns) input (Ok written) = IsDocWith input (λ D. (run : IsRun D written) × IsWoven D seed turns run.journal.lines)
+Comes (Weave seed turns) input (Err e) = IsUnchecked input e

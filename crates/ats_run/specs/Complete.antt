@@ -1,7 +1,7 @@
 -- Inputs that a command takes: where no device fails, its answer is its text, or there was no memory.
 use Rattle.std.specs.Prelude.{◌≡◌, ◌⊎◌, ℕ, ◌≤◌, List, length, Ok}
 use Rattle.command_words.specs.declared.orders.Order.{Order}
-use Rattle.command_words.specs.declared.orders.Order.TheVariants.{Run, Resume, Check, Verify, Migrate, Make, Derive, Repair, Simulate, Generate, Drill}
+use Rattle.command_words.specs.declared.orders.Order.TheVariants.{Run, Resume, Check, Verify, Migrate, Make, Derive, Repair, Simulate, Generate, Drill, Weave}
 use Rattle.rail_model.specs.Certificate.{Tree}
 use Rattle.rail_model.specs.State.{Legal}
 use Rattle.rail_model.specs.Yard.{opening}
@@ -56,6 +56,7 @@ IsMakeable seed trains = IsDocWith (generated seed trains) (λ D. AreMakeable (t
 abbrev pub Suits : Order → List ℕ → Type 0
 Suits (Run workers rounds) input = IsAcceptedInput input
 Suits Simulate input = IsAcceptedInput input
+Suits (Weave seed turns) input = IsAcceptedInput input
 Suits Check input = IsAcceptedInput input
 Suits Verify input = IsJournalInput input IsWholeText
 Suits (Resume workers rounds) input = IsJournalInput input (λ D given. IsWholeText D given ⊎ IsRightFront D given)

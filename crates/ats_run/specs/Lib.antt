@@ -15,3 +15,4 @@ pub mod Repairing
 pub mod Report
 pub mod Simulating
 pub mod Starting
+pub mod Weaving

@@ -15,6 +15,7 @@ use crate::resuming::resume;
 use crate::running::run;
 use crate::sectioning::derive;
 use crate::simulating::simulate;
+use crate::weaving::weave;
 use command_words::Order;
 use std::alloc::Global;
 use std::thread::Threads;
@@ -41,5 +42,6 @@ pub fn answer(
         Order::Simulate => simulate(rt, alloc, input),
         Order::Generate { seed, trains } => generate(alloc, seed, trains),
         Order::Drill { seed, trains, .. } => drill(rt, alloc, seed, trains),
+        Order::Weave { seed, steps } => weave(rt, alloc, input, seed, steps),
     }
 }

@@ -18,6 +18,7 @@ mod simulating;
 mod starting;
 mod status;
 mod top;
+mod weaving;
 
 pub use failure::Failure;
 pub use status::{Status, code};

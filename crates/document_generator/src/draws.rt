@@ -13,7 +13,7 @@ const MODULUS: u32 = 65537;
 
 /// Numbers drawn one after the other, from a seed on.
 #[derive(Drop)]
-pub(crate) struct Draws {
+pub struct Draws {
     last: u32,
 }
 
@@ -26,7 +26,8 @@ impl Model for Draws {
 }
 
 impl Draws {
-    pub(crate) fn new(seed: u32) -> Self
+    /// The numbers that are drawn from a seed.
+    pub fn new(seed: u32) -> Self
         ensures { result ≡ drawn_of seed }
     {
         Draws {
@@ -35,7 +36,7 @@ impl Draws {
     }
 
     /// The next number.
-    pub(crate) fn draw(&mut self) -> u32
+    pub fn draw(&mut self) -> u32
         ensures drawn { result ≡ next_draw self.old }
         ensures last { self.new ≡ next_draw self.old }
     {

@@ -9,4 +9,5 @@ mod pairs;
 mod sections;
 mod ways;
 
+pub use draws::Draws;
 pub use generator::generate;
