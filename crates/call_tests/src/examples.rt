@@ -76,6 +76,8 @@ fn what_is_written_ends_well(rt: HostRuntime) -> Result<(), Fail> {
         ("make", PASSING_LOOP, LOOP_MADE),
         ("migrate", FIRST_PATH, FIRST_PATH_LATER),
         ("sim", PASSING_LOOP, LOOP_TIMED),
+        ("weave --seed 7 --steps 1000", FIRST_PATH, FIRST_PATH_RUN),
+        ("weave --steps 0", PASSING_LOOP, LOOP_RUN),
     ] {
         assert!(rt;
             is_answered(&rt, alloc, words, &[input], (0, written, ""))?,
