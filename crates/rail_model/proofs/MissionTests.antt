@@ -1,6 +1,6 @@
 -- The tests of missions say what the definitions say.
-use Rattle.std.proofs.Common.{◌≡◌, ◌∙◌, ℕ, zero, suc, ◌+◌, ◌<◌, ◌==◌, Bool, true, false, not, ◌&&◌, List, [], ◌∷◌, length, zip, All, get_or, slice_get, slice_index_or, Some, Decides, refl, sym, ap, subst, arith}
-use Rattle.std.specs.Prelude.{◌≢◌, nat_le, nat_lt}
+use Rattle.std.proofs.Common.{◌≡◌, ◌∙◌, ℕ, zero, suc, ◌+◌, ◌<◌, ◌==◌, true, false, not, ◌&&◌, List, [], ◌∷◌, length, zip, get_or, slice_get, Some, Decides, refl, sym, ap, subst, arith}
+use Rattle.std.specs.Prelude.{◌≢◌, nat_lt}
 use Rattle.std.specs.List.{list_all}
 use Rattle.std.proofs.lemmas.Bool.Decides.{Decides-and, Decides-not, Decides-eqb, Decides-ltb, Decides-like, Decides-by_and}
 use Rattle.std.proofs.lemmas.List.{get_or_default}

@@ -1,7 +1,7 @@
 -- Rows of missions, and of the missions and tables of a layout.
 use Rattle.std.proofs.Common.{◌≡◌, ℕ, zero, suc, ◌+◌, ◌<◌, true, false, List, [], ◌∷◌, Some, refl, subst, arith, lit<, lit≤, inl, inr}
-use Rattle.std.specs.Prelude.{codes, slice_get}
-use Rattle.rail_model.specs.Layout.{Layout, Link, AreLinked}
+use Rattle.std.specs.Prelude.{slice_get}
+use Rattle.rail_model.specs.Layout.{AreLinked}
 use Rattle.rail_model.specs.Table.{Mission, IsMission}
 use Rattle.rail_model.specs.Ways.{IsMissionOf, IsOn}
 use Rattle.rail_model.specs.Checks.{is_mission, are_missions}

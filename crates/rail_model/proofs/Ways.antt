@@ -1,10 +1,10 @@
 -- What the ways of a table and of a layout's missions keep.
-use Rattle.std.proofs.Common.{◌≡◌, ℕ, ◌+◌, ◌<◌, ◌≤◌, List, length, get_or, slice_get, slice_index_or, Some, false, [], refl, arith, ap, sym, ◌∙◌, inl, inr}
-use Rattle.std.specs.Prelude.{◌≢◌, ◌⊎◌}
+use Rattle.std.proofs.Common.{◌≡◌, ℕ, ◌+◌, ◌<◌, ◌≤◌, List, length, get_or, slice_get, Some, false, [], refl, arith, ap, sym, ◌∙◌, inl, inr}
+use Rattle.std.specs.Prelude.{◌≢◌}
 use Rattle.std.proofs.lemmas.List.{get_or_past}
 use Rattle.std.proofs.lemmas.Option.{slice_get-get_or}
 use Rattle.std.proofs.lemmas.Bool.{cases_lt}
-use Rattle.rail_model.specs.Layout.{Layout, Link, AreLinked, IsLayout}
+use Rattle.rail_model.specs.Layout.{Layout, AreLinked, IsLayout}
 use Rattle.rail_model.specs.Table.{Mission, Table, trains, mission, point, IsMission, AreMissions, IsTable}
 use Rattle.rail_model.specs.Ways.{IsMissionOf, AreMissionsOf, IsOn}
 

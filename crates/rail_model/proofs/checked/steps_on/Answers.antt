@@ -1,4 +1,4 @@
-use Rattle.std.proofs.Common.{◌≡◌, ◌∙◌, ◌==◌, ℕ, List, zip, not, sym, ap}
+use Rattle.std.proofs.Common.{◌∙◌, ◌==◌, ℕ, List, zip, not, sym, ap}
 use Rattle.std.specs.List.{list_all}
 use Rattle.rail_model.specs.Checks.{steps_on}
 use Rattle.rail_model.proofs.MissionTests.{steps-zipped}

@@ -1,7 +1,6 @@
-use Rattle.std.proofs.Common.{◌≡◌, ◌∙◌, true, false, sym, ap, refl, subst, List}
+use Rattle.std.proofs.Common.{◌∙◌, sym, ap, refl}
 use Rattle.std.proofs.lemmas.Bool.Decides.{not_from_Decides}
 use Rattle.rail_model.specs.Checks.{are_missions}
-use Rattle.rail_model.specs.Table.{Mission, AreMissions}
 use Rattle.rail_model.proofs.MissionTests.{Decides-missions, missions_pass}
 use Rattle.rail_model.proofs.lists.Missions.checked.Goals as goal
 
