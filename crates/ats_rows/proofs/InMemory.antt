@@ -49,7 +49,7 @@ served_weaker asked held left rest Taken Other same f d = (
   d.1,
   (λ reads. (same ∙ (d.2 reads).0, (d.2 reads).1)),
   on_weaker d.0 held (λ input. (written : List ℕ) × Comes d.0 input (Ok written) × Taken written)
-  (λ input. (written : List ℕ) × Comes d.0 input (Ok written) × Other written) (λ input k. (k.0, k.1, f k.0 k.2)) d.3,
+      (λ input. (written : List ℕ) × Comes d.0 input (Ok written) × Other written) (λ input k. (k.0, k.1, f k.0 k.2)) d.3,
 )
 
 -- what an empty sink has taken was written

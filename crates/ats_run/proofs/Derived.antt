@@ -1,6 +1,6 @@
 -- Tables with the sections of their rings.
 use Rattle.std.proofs.Common.{◌≡◌, ℕ, ◌+◌, ◌<◌, ◌≤◌, List, [], ◌∷◌, ◌++◌, length, map, take, get_or, slice_get, All, Some, sym, ◌∙◌, ap, subst, arith}
-use Rattle.std.specs.Prelude.{◌≤ℤ◌, Ok}
+use Rattle.std.specs.Prelude.{Ok}
 use Rattle.std.proofs.lemmas.List.{get_or-map, length-map, take_more}
 use Rattle.rail_model.specs.Table.{Table, Mission, Section, Connection, IsTable, IsConnection}
 use Rattle.rail_model.specs.State.{Legal}

@@ -1,5 +1,5 @@
 -- Sections that forbid stays are light.
-use Rattle.std.proofs.Common.{◌≡◌, ℕ, ◌-◌, ◌<◌, ◌≤◌, List, [], ◌∷◌, All, length, Option, Some, None, sym, ap, subst, arith}
+use Rattle.std.proofs.Common.{◌≡◌, ℕ, ◌-◌, ◌<◌, ◌≤◌, List, [], All, length, Option, Some, None, sym, ap, subst, arith}
 use Rattle.std.specs.Prelude.{pos, ◌≤ℤ◌, map, get_or}
 use Rattle.std.proofs.lemmas.Int.{ints}
 use Rattle.std.proofs.lemmas.List.{length-map}

@@ -1,5 +1,5 @@
 -- Worked rows: whom a drawn number means, and turns up to an entry.
-use Rattle.std.proofs.Common.{◌≡◌, ℕ, List, [], ◌∷◌, map, refl}
+use Rattle.std.proofs.Common.{◌≡◌, [], ◌∷◌, map, refl}
 use Rattle.rail_model.specs.declared.types.Ask.TheVariants.{Yes}
 use Rattle.rail_model.specs.declared.types.Reply.TheVariants.{Driver}
 use Rattle.rail_model.specs.Yard.{control}

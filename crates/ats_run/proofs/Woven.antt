@@ -1,5 +1,5 @@
 -- Runs that begin with drawn turns.
-use Rattle.std.proofs.Common.{◌≡◌, ℕ, zero, suc, ◌+◌, ◌-◌, ◌<◌, ◌≤◌, List, [], ◌∷◌, ◌++◌, length, get_or, map, Some, None, Result, Ok, Err, refl, sym, ◌∙◌, ap, ap₂, subst, arith}
+use Rattle.std.proofs.Common.{◌≡◌, ℕ, suc, ◌+◌, ◌-◌, ◌<◌, ◌≤◌, List, [], ◌∷◌, length, get_or, map, Some, None, Result, Ok, Err, refl, sym, ◌∙◌, ap, ap₂, subst, arith}
 use Rattle.std.specs.Prelude.{Option}
 use Rattle.rail_model.specs.declared.types.Line.{Line}
 use Rattle.rail_model.specs.Table.{Table, trains, point}
@@ -23,7 +23,7 @@ use Rattle.zone_machine.specs.Program.{next}
 use Rattle.zone_machine.specs.Weave.{first_world, plain_of}
 use Rattle.zone_machine.specs.Calls.{Steps}
 use Rattle.document_generator.specs.Draws.{next_draw, drawn_of}
-use Rattle.layout_json.specs.Doc.{Doc, IsDoc, table_at, offers_of, names_of}
+use Rattle.layout_json.specs.Doc.{Doc, IsDoc, offers_of, names_of}
 use Rattle.ats_run.specs.Certificates.{AreAccepted}
 use Rattle.ats_run.specs.Headline.{IsRun}
 use Rattle.ats_run.specs.Weaving.{IsWoven, core_of, woven, after_turn, drawn_actor, drawn_world}

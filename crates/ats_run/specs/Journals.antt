@@ -1,5 +1,5 @@
 -- Inputs of a document and a journal, and what is said of them.
-use Rattle.std.specs.Prelude.{◌≡◌, ◌≢◌, ◌⊎◌, ℕ, ◌+◌, ◌-◌, List, ◌++◌, length, take, drop, codes, decimal}
+use Rattle.std.specs.Prelude.{◌≡◌, ◌≢◌, ◌⊎◌, ℕ, ◌+◌, List, ◌++◌, length, take, drop, codes, decimal}
 use Rattle.memchr.specs.Find.{OccursAt}
 use Rattle.rail_model.specs.declared.types.Line.{Line as Step}
 use Rattle.rail_model.specs.Move.{IsFirst}

@@ -1,5 +1,5 @@
 -- A run that begins with turns of its trains and its control, each of the one that is drawn.
-use Rattle.std.specs.Prelude.{◌≡◌, ℕ, zero, suc, ◌+◌, ◌-◌, ◌%◌, ◌==◌, List, ◌++◌, if◌then◌else◌, Option, Some, None, Result, Ok, Err}
+use Rattle.std.specs.Prelude.{◌≡◌, ℕ, zero, suc, ◌+◌, ◌-◌, ◌%◌, ◌==◌, List, ◌++◌, if◌then◌else◌, Some, None, Ok, Err}
 use Rattle.rail_model.specs.declared.types.Line.{Line}
 use Rattle.rail_model.specs.Table.{trains}
 use Rattle.rail_model.specs.Yard.{opening, offer, control}

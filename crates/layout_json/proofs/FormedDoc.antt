@@ -1,5 +1,5 @@
 -- A document that members make is formed: its parts fit together, and the start is legal.
-use Rattle.std.proofs.Common.{◌≡◌, ◌∙◌, ℕ, ◌≤◌, Bool, false, not, ◌==◌, List, [], ◌∷◌, length, map, All, None, Ok, refl, sym, ap, subst, arith}
+use Rattle.std.proofs.Common.{◌≡◌, ◌∙◌, ℕ, ◌≤◌, not, ◌==◌, List, [], ◌∷◌, length, map, All, None, Ok, refl, sym, ap, subst, arith}
 use Rattle.std.specs.Prelude.{option_map}
 use Rattle.std.specs.Bool.{then_some}
 use Rattle.std.proofs.lemmas.Bool.{eqb-true, not-false}

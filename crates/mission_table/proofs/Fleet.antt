@@ -1,5 +1,5 @@
 -- The missions of all trains, one after another.
-use Rattle.std.proofs.Common.{◌≡◌, ◌∙◌, ℕ, zero, suc, ◌+◌, ◌<◌, ◌≤◌, Bool, true, false, not, ◌==◌, ◌||◌, List, [], ◌∷◌, ◌++◌, length, map, zip, take, get_or, slice_index_or, Option, Some, None, Result, Ok, Err, String, Vec, Global, refl, sym, ap, subst, arith}
+use Rattle.std.proofs.Common.{◌≡◌, ◌∙◌, ℕ, zero, suc, ◌+◌, ◌<◌, ◌≤◌, Bool, true, false, not, ◌==◌, ◌||◌, List, [], ◌∷◌, ◌++◌, length, map, zip, take, get_or, slice_index_or, Option, Some, None, Result, Ok, Err, String, Vec, Global, refl, sym, ap, arith}
 use Rattle.std.specs.Prelude.{nat_lt}
 use Rattle.std.proofs.lemmas.Bool.Decides.{nat_tests}
 use Rattle.std.proofs.lemmas.List.{length-map, get_or-map}
@@ -7,7 +7,7 @@ use Rattle.rail_model.specs.Layout.{Layout, point_names}
 use Rattle.track_layout.specs.Making.{number_in}
 use Rattle.rail_model.specs.Table.{Mission, last_of}
 use Rattle.rail_model.specs.Turns.{first_of, unless}
-use Rattle.rail_model.proofs.Firsts.{unless-ok, unless-err, first_below-found, first_below-next, first_below-none, first_of-before, first_of-after, option_or-none, then_some-none}
+use Rattle.rail_model.proofs.Firsts.{unless-ok, unless-err, first_below-found, first_below-next, first_of-before, first_of-after, option_or-none, then_some-none}
 use Rattle.std.specs.Bool.{then_some}
 use Rattle.std.specs.Option.{option_or}
 use Rattle.mission_table.specs.Seen.{names_seen, ways_seen}

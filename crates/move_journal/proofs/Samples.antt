@@ -1,7 +1,7 @@
 -- The first path, on which the worked rows and the tests stand: T0 goes from A over B to C.
 use Rattle.std.proofs.Common.{◌≡◌, ℕ, zero, suc, ◌+◌, ◌<◌, ◌≤◌, [], ◌∷◌, get_or, false, refl, ap, codes, lit<, lit≤, arith, inl, inr}
 use Rattle.std.proofs.lemmas.List.Elements.{All-nil, All-cons}
-use Rattle.rail_model.specs.Table.{Table, trains}
+use Rattle.rail_model.specs.Table.{Table}
 use Rattle.rail_model.specs.Names.{Names, IsNames, IsName, IsNameByte, AreNames}
 
 abbrev pub names : Names

@@ -3,7 +3,7 @@ use Rattle.std.proofs.Common.{◌≡◌, ℕ, zero, suc, ◌+◌, ◌<◌, ◌�
 use Rattle.std.specs.Prelude.{codes, ◌≢◌, slice_get, slice_index_or}
 use Rattle.std.proofs.lemmas.Int.{ints}
 use Rattle.rail_model.specs.Layout.{IsLayout, Link, zone}
-use Rattle.rail_model.specs.Table.{Table, IsTable, IsSection, IsMission, mission, section as section_of, trains, last, point, share}
+use Rattle.rail_model.specs.Table.{Table, IsTable, IsSection, IsMission, mission, section as section_of, trains, last, share}
 use Rattle.rail_model.specs.Yard.{offer}
 use Rattle.rail_model.proofs.MissionTests.{Decides-mission}
 use Rattle.rail_model.proofs.MoveTests.{Decides-legal}

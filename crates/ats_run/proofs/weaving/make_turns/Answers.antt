@@ -8,5 +8,5 @@ loop-turn-preserved g c =
       c.make_turn.ensures.setup ∙ so_far.0,
       c.make_turn.ensures.sound,
       turned_here c.args.core.now.setup c.loop-turn.core.setup c.args.trains c.args.turns c.loop-turn._turn c.loop-turn.draws c.draw.result c.draw.new.self c.drawn_actor-actor.result
-      c.loop-turn.core.world c.make_turn.new.core.world _ c.loop-turn-test.true so_far.0 c.draw.ensures.drawn c.draw.ensures.last c.drawn_actor-actor.ensures so_far.2 c.make_turn.ensures.world,
+          c.loop-turn.core.world c.make_turn.new.core.world _ c.loop-turn-test.true so_far.0 c.draw.ensures.drawn c.draw.ensures.last c.drawn_actor-actor.ensures so_far.2 c.make_turn.ensures.world,
     )
