@@ -1,4 +1,4 @@
--- Where none of its calls is to fail, no device is told to have failed.
+-- Where none of its calls is to fail, no device is said to have failed.
 use Rattle.std.proofs.Common.{◌≡◌, ℕ, ◌<◌, List, [], length, sym, ◌∙◌, subst, arith, refl, inl, inr}
 use Rattle.clap.specs.Words.{Text}
 use Rattle.ats_io.specs.Memory.{HasMade}

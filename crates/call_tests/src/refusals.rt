@@ -1,4 +1,4 @@
-// What is told of documents and journals that are refused. Each row is a part of an input, and the words for it.
+// What is printed for documents and journals that are refused. Each row is a part of an input, and the words for it.
 use crate::examples::documents::{FIRST_PATH, PASSING_LOOP};
 use crate::examples::{SURE, joined, line};
 use ats_rows::play;
