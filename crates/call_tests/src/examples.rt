@@ -6,17 +6,57 @@ use std::test::Fail;
 use std::thread::Threads;
 
 pub(crate) mod documents;
-pub(crate) mod journals;
 
-use documents::{
-    BAD_MOVE, BAD_WAIT, CONNECTED, CORRIDOR, CORRIDOR_MARKED, EXITS, FIRST_PATH, FIRST_PATH_LATER,
-    GENERATED, GOES_ON, HEAD_ON, LOOP_MADE, NAMED_TWICE, NEVER_LEGAL, ONE_NODE_MORE, PASSING_LOOP,
-    SHARES, UNMARKED_CORRIDOR,
-};
-use journals::{
-    CONNECTED_RUN, CORRIDOR_RUN, CORRIDOR_TIMED, EXITS_RUN, FIRST_PATH_RUN, GOES_ON_RUN,
-    LOOP_BEGUN, LOOP_RUN, LOOP_TIMED, NEVER_LEGAL_RUN, SHARES_RUN,
-};
+use documents::document_called;
+
+// A call in each line: its words; its document, and where it has one its journal; and its exit code and what it writes, if that is 0, or
+// tells. `/` ends a line of a journal or an answer, and `+` names a document.
+const CALLS: &str = "\
+run: first-path => 0 1 move T0 A B/2 move T0 B C/end moves=2 tables=0/
+run --rounds 5: first-path => 0 1 move T0 A B/2 move T0 B C/end moves=2 tables=0/
+check: first-path => 0 accepted tables=1 nodes=3/
+run: named-twice => 0 1 move T0 A B/2 move T0 B C/end moves=2 tables=0/
+run: passing-loop => 0 1 move T0 W L1/2 move T1 E L2/3 move T0 L1 E/4 move T1 L2 W/end moves=4 tables=0/
+check: passing-loop => 0 accepted tables=1 nodes=11/
+make: passing-loop => 0 +loop-made
+migrate: first-path => 0 +first-path-later
+sim: passing-loop => 0 0 move T0 W L1/0 move T1 E L2/1 move T0 L1 E/1 move T1 L2 W/end moves=4 tables=0 last=1/
+weave --seed 7 --steps 1000: first-path => 0 1 move T0 A B/2 move T0 B C/end moves=2 tables=0/
+weave --steps 0: passing-loop => 0 1 move T0 W L1/2 move T1 E L2/3 move T0 L1 E/4 move T1 L2 W/end moves=4 tables=0/
+derive --most 2: unmarked-corridor => 0 +corridor-marked
+repair: unmarked-corridor => 0 +corridor-marked
+repair: long-corridor => 0 +long-corridor-repaired
+gen --seed 2 --trains 2:  => 0 +generated
+drill --seed 2:  => 0 trains=2 moves=4 tables=0 nodes=9/
+run: corridor => 0 1 move T0 A M/2 move T0 M N/3 move T0 N B/4 move T1 C N/5 move T1 N M/6 move T1 M D/end moves=6 tables=0/
+sim: corridor => 0 0 move T0 A M/1 move T0 M N/2 move T0 N B/2 move T1 C N/3 move T1 N M/4 move T1 M D/end moves=6 tables=0 last=4/
+run: never-legal => 0 1 move T0 A M/2 kept 1 over 0 1/3 move T0 M N/4 move T0 N B/5 move T1 C N/6 move T1 N M/7 move T1 M D/end moves=6 tables=0/
+run: goes-on => 0 1 move T0 A B/2 move T0 B C/3 table 1/4 move T0 C D/end moves=3 tables=1/
+run: exits => 0 1 move T0 A B/2 move T0 B -/3 move T1 C B/4 move T1 B -/end moves=4 tables=0/
+run: shares => 0 1 move T0 A M/2 move T0 M B/3 move T1 C N/4 move T1 N D/end moves=4 tables=0/
+run: connected => 0 1 move T1 C D/2 move T0 A B/end moves=2 tables=0/
+run: same-point => 0 1 move T0 A B/2 move T0 B A/3 kept 1 differs T0 1/4 move T0 A C/end moves=3 tables=0/
+sim: loop-of-threes => 0 0 move T0 W L1/0 move T1 E L2/3 move T0 L1 E/3 move T1 L2 W/end moves=4 tables=0 last=3/
+verify: passing-loop 1 move T0 W L1/2 move T1 E L2/3 move T0 L1 E/4 move T1 L2 W/end moves=4 tables=0/ => 0 ok moves=4 tables=0/
+verify: passing-loop 1 move T0 W L1/2 move T1 E L2/ => 9 ats: 73 NoEnd/
+resume: passing-loop 1 move T0 W L1/2 move T1 E L2/ => 0 1 move T0 W L1/2 move T1 E L2/3 move T0 L1 E/4 move T1 L2 W/end moves=4 tables=0/
+resume: passing-loop 1 move T0 W L1/2 move T1 E L2/3 move T0 L1 E/4 move T1 L2 W/end moves=4 tables=0/ => 0 1 move T0 W L1/2 move T1 E L2/3 move T0 L1 E/4 move T1 L2 W/end moves=4 tables=0/
+resume: passing-loop 2 move T0 W L1/ => 9 ats: 72 Number line=1/
+: first-path => 1 ats: 201 Words/
+run --workers 17: first-path => 1 ats: 201 Words/
+--help: first-path => 1 ats: 201 Words/
+run:  => 3 ats: 101 NotJson/
+verify: passing-loop => 9 ats: 70 NoJournal/
+run: head-on => 3 ats: 41 Short table=0 missing=1/
+run: one-node-more => 3 ats: 42 Over table=0 used=11/
+repair: connected => 3 ats: 210 Connected table=0/
+check: bad-move => 4 ats: 56 MovePoint table=0 index=4 train=0 other=1/
+check: bad-wait => 4 ats: 59 MoveWait table=0 index=2 train=0 connection=0/
+make --budget 8: passing-loop => 5 ats: 205 Spent table=0 nodes=8/
+make: head-on => 6 ats: 206 Stuck table=0 at=0,0/
+make: unmarked-corridor => 6 ats: 206 Stuck table=0 at=1,1/
+repair: head-on => 3 ats: 112 StartIllegal 34 Over section=0 count=2 limit=1/
+repair --rounds 2: long-corridor => 5 ats: 209 Rounds table=0 rounds=2 at=1,1/";
 
 pub(crate) const SURE: Faults<'static> = Faults {
     most: 4096,
@@ -33,6 +73,14 @@ pub(crate) fn joined(alloc: Global, parts: &[&str]) -> Result<Vec<u8>, AllocErro
     Ok(bytes)
 }
 
+// The text after what is there, with the ends of its lines.
+pub(crate) fn push_lines(bytes: &mut Vec<u8>, text: &str) -> Result<(), AllocError> {
+    for byte in text.bytes() {
+        bytes.push(if byte == b'/' { b'\n' } else { byte })?;
+    }
+    Ok(())
+}
+
 // The words of a command line, parted by spaces.
 pub(crate) fn line(alloc: Global, words: &str) -> Result<Vec<String>, AllocError> {
     let mut line = Vec::new(alloc);
@@ -43,195 +91,93 @@ pub(crate) fn line(alloc: Global, words: &str) -> Result<Vec<String>, AllocError
 }
 
 // Whether this was told, and nothing else.
-pub(crate) fn is_told(played: &Played, told: &str) -> bool {
-    matches!(&played.told, Some(bytes) if bytes.as_slice() == told.as_bytes())
+pub(crate) fn is_told(played: &Played, told: &[u8]) -> bool {
+    matches!(&played.told, Some(bytes) if bytes.as_slice() == told)
 }
 
-// Whether a call by devices that never fail ends with this exit code, has written this, and told that.
-pub(crate) fn is_answered(
-    rt: &(impl Threads + Sync),
-    alloc: Global,
-    words: &str,
-    input: &[&str],
-    (exit_code, written, told): (u8, &str, &str),
-) -> Result<bool, AllocError> {
-    let played = play(rt, alloc, &line(alloc, words)?, joined(alloc, input)?, SURE)?;
-    Ok(
-        code(played.status) == exit_code
-            && played.written.as_slice() == written.as_bytes()
-            && is_told(&played, told),
-    )
+// The input that a row names: a document, if any, and a journal after it.
+fn input_called(alloc: Global, input: &str) -> Result<Vec<u8>, Fail> {
+    let mut bytes = Vec::new(alloc);
+    let (name, journal) = input.split_once(' ').unwrap_or((input, ""));
+    if name.is_empty() {
+        return Ok(bytes);
+    }
+    push_lines(&mut bytes, document_called(name).ok_or("a document")?)?;
+    if !journal.is_empty() {
+        push_lines(&mut bytes, "/journal/")?;
+        push_lines(&mut bytes, journal)?;
+    }
+    Ok(bytes)
+}
+
+// The answer that a row names.
+fn answer_called(alloc: Global, answer: &str) -> Result<Vec<u8>, Fail> {
+    let mut bytes = Vec::new(alloc);
+    if let Some(name) = answer.strip_prefix('+') {
+        push_lines(&mut bytes, document_called(name).ok_or("a document")?)?;
+        bytes.push(b'\n')?;
+    } else {
+        push_lines(&mut bytes, answer)?;
+    }
+    Ok(bytes)
+}
+
+// Whether a call by devices that never fail ends as its row says.
+fn is_answered(rt: &(impl Threads + Sync), alloc: Global, row: &str) -> Result<bool, Fail> {
+    let (words, rest) = row.split_once(": ").ok_or("words")?;
+    let (input, rest) = rest.split_once(" => ").ok_or("an input")?;
+    let (exit_code, answer) = rest.split_once(' ').ok_or("an exit code")?;
+    let input = input_called(alloc, input)?;
+    let answer = answer_called(alloc, answer)?;
+    let played = play(rt, alloc, &line(alloc, words)?, input, SURE)?;
+    let is_text = if exit_code == "0" {
+        played.written.as_slice() == answer.as_slice() && is_told(&played, b"")
+    } else {
+        played.written.is_empty() && is_told(&played, answer.as_slice())
+    };
+    Ok(is_text && exit_code.parse::<u32>().ok() == Some(u32::from(code(played.status))))
 }
 
 #[test]
-fn what_is_written_ends_well(rt: HostRuntime) -> Result<(), Fail> {
+fn calls_end_as_their_rows_say(rt: HostRuntime) -> Result<(), Fail> {
     let alloc = rt.alloc();
-    for (words, input, written) in [
-        ("run", FIRST_PATH, FIRST_PATH_RUN),
-        ("run --rounds 5", FIRST_PATH, FIRST_PATH_RUN),
-        ("check", FIRST_PATH, "accepted tables=1 nodes=3\n"),
-        ("run", NAMED_TWICE, FIRST_PATH_RUN),
-        ("run", PASSING_LOOP, LOOP_RUN),
-        ("check", PASSING_LOOP, "accepted tables=1 nodes=11\n"),
-        ("make", PASSING_LOOP, LOOP_MADE),
-        ("migrate", FIRST_PATH, FIRST_PATH_LATER),
-        ("sim", PASSING_LOOP, LOOP_TIMED),
-        ("weave --seed 7 --steps 1000", FIRST_PATH, FIRST_PATH_RUN),
-        ("weave --steps 0", PASSING_LOOP, LOOP_RUN),
-    ] {
-        assert!(rt;
-            is_answered(&rt, alloc, words, &[input], (0, written, ""))?,
-            "{words}"
-        );
+    for row in CALLS.split('\n') {
+        assert!(rt; is_answered(&rt, alloc, row)?, "{row}");
     }
     Ok(())
 }
 
-#[test]
-fn sections_are_made_and_documents_drawn(rt: HostRuntime) -> Result<(), Fail> {
-    let alloc = rt.alloc();
-    for (words, input, written) in [
-        ("derive --most 2", UNMARKED_CORRIDOR, CORRIDOR_MARKED),
-        ("repair", UNMARKED_CORRIDOR, CORRIDOR_MARKED),
-        ("gen --seed 2 --trains 2", "", GENERATED),
-        ("drill --seed 2", "", "trains=2 moves=4 tables=0 nodes=9\n"),
-    ] {
-        assert!(rt;
-            is_answered(&rt, alloc, words, &[input], (0, written, ""))?,
-            "{words}"
-        );
-    }
-    Ok(())
-}
-
-#[test]
-fn tables_exits_shares_and_connections_count(rt: HostRuntime) -> Result<(), Fail> {
-    let alloc = rt.alloc();
-    for (words, input, written) in [
-        ("run", CORRIDOR, CORRIDOR_RUN),
-        ("sim", CORRIDOR, CORRIDOR_TIMED),
-        ("run", NEVER_LEGAL, NEVER_LEGAL_RUN),
-        ("run", GOES_ON, GOES_ON_RUN),
-        ("run", EXITS, EXITS_RUN),
-        ("run", SHARES, SHARES_RUN),
-        ("run", CONNECTED, CONNECTED_RUN),
-    ] {
-        assert!(rt;
-            is_answered(&rt, alloc, words, &[input], (0, written, ""))?,
-            "{words}"
-        );
-    }
-    Ok(())
-}
-
-#[test]
-fn a_journal_is_verified_and_gone_on_from(rt: HostRuntime) -> Result<(), Fail> {
-    let alloc = rt.alloc();
-    for (words, journal, answer) in [
-        ("verify", LOOP_RUN, (0, "ok moves=4 tables=0\n", "")),
-        ("verify", LOOP_BEGUN, (9, "", "ats: 73 NoEnd\n")),
-        ("resume", LOOP_BEGUN, (0, LOOP_RUN, "")),
-        ("resume", LOOP_RUN, (0, LOOP_RUN, "")),
-        (
-            "resume",
-            "2 move T0 W L1\n",
-            (9, "", "ats: 72 Number line=1\n"),
-        ),
-    ] {
-        let input = [PASSING_LOOP, "\njournal\n", journal];
-        assert!(rt; is_answered(&rt, alloc, words, &input, answer)?, "{words}");
-    }
-    Ok(())
-}
-
-#[test]
-fn what_is_refused_is_told(rt: HostRuntime) -> Result<(), Fail> {
-    let alloc = rt.alloc();
-    for (words, input, exit_code, told) in [
-        ("", FIRST_PATH, 1, "ats: 201 Words\n"),
-        ("run --workers 17", FIRST_PATH, 1, "ats: 201 Words\n"),
-        ("--help", FIRST_PATH, 1, "ats: 201 Words\n"),
-        ("run", "", 3, "ats: 101 NotJson\n"),
-        ("verify", PASSING_LOOP, 9, "ats: 70 NoJournal\n"),
-        ("run", HEAD_ON, 3, "ats: 41 Short table=0 missing=1\n"),
-        ("run", ONE_NODE_MORE, 3, "ats: 42 Over table=0 used=11\n"),
-        ("repair", CONNECTED, 3, "ats: 210 Connected table=0\n"),
-    ] {
-        assert!(rt;
-            is_answered(&rt, alloc, words, &[input], (exit_code, "", told))?,
-            "{words}"
-        );
-    }
-    Ok(())
-}
-
-#[test]
-fn what_is_stuck_is_told(rt: HostRuntime) -> Result<(), Fail> {
-    let alloc = rt.alloc();
-    for (words, input, exit_code, told) in [
-        (
-            "check",
-            BAD_MOVE,
-            4,
-            "ats: 56 MovePoint table=0 index=4 train=0 other=1\n",
-        ),
-        (
-            "check",
-            BAD_WAIT,
-            4,
-            "ats: 59 MoveWait table=0 index=2 train=0 connection=0\n",
-        ),
-        (
-            "make --budget 8",
-            PASSING_LOOP,
-            5,
-            "ats: 205 Spent table=0 nodes=8\n",
-        ),
-        ("make", HEAD_ON, 6, "ats: 206 Stuck table=0 at=0,0\n"),
-        (
-            "make",
-            UNMARKED_CORRIDOR,
-            6,
-            "ats: 206 Stuck table=0 at=1,1\n",
-        ),
-        (
-            "repair",
-            HEAD_ON,
-            3,
-            "ats: 112 StartIllegal 34 Over section=0 count=2 limit=1\n",
-        ),
-    ] {
-        assert!(rt;
-            is_answered(&rt, alloc, words, &[input], (exit_code, "", told))?,
-            "{words}"
-        );
-    }
-    Ok(())
-}
-
-// The document is read in calls of sixteen bytes; its text takes four calls of sixteen.
+// The document of the first path is read in calls of sixteen bytes; its journal takes four calls of sixteen.
 #[test]
 fn a_device_that_fails_ends_the_call(rt: HostRuntime) -> Result<(), Fail> {
     let alloc = rt.alloc();
-    let all = FIRST_PATH.len();
+    let text = document_called("first-path")
+        .ok_or("a document")?
+        .as_bytes();
+    let journal = b"1 move T0 A B\n2 move T0 B C\nend moves=2 tables=0\n".as_slice();
     for (reads, writes, status, given, taken) in [
         (&[0u64] as &[u64], &[] as &[u64], Status::ReadFault, 0, 0),
         (&[11], &[], Status::ReadFault, 176, 0),
-        (&[], &[0], Status::WriteFault, all, 0),
-        (&[], &[1], Status::WriteFault, all, 16),
-        (&[], &[3], Status::WriteFault, all, 48),
-        (&[], &[4], Status::Done, all, 49),
+        (&[], &[0], Status::WriteFault, text.len(), 0),
+        (&[], &[1], Status::WriteFault, text.len(), 16),
+        (&[], &[3], Status::WriteFault, text.len(), 48),
+        (&[], &[4], Status::Done, text.len(), 49),
     ] {
         let faults = Faults {
             most: 16,
             reads,
             writes,
         };
-        let input = joined(alloc, &[FIRST_PATH])?;
-        let played = play(&rt, alloc, &line(alloc, "run")?, input, faults)?;
+        let played = play(
+            &rt,
+            alloc,
+            &line(alloc, "run")?,
+            Vec::from_slice(alloc, text)?,
+            faults,
+        )?;
         assert!(rt; played.status == status);
-        assert!(rt; Some(played.written.as_slice()) == FIRST_PATH_RUN.as_bytes().get(..taken));
-        assert!(rt; Some(played.left.as_slice()) == FIRST_PATH.as_bytes().get(given..));
+        assert!(rt; Some(played.written.as_slice()) == journal.get(..taken));
+        assert!(rt; Some(played.left.as_slice()) == text.get(given..));
     }
     Ok(())
 }
@@ -245,7 +191,7 @@ fn an_input_has_a_greatest_length(rt: HostRuntime) -> Result<(), Fail> {
     ] {
         let spaces = vec![in alloc; b' '; length]?;
         let played = play(&rt, alloc, &line(alloc, "check")?, spaces, SURE)?;
-        assert!(rt; played.status == Status::Refused && is_told(&played, told));
+        assert!(rt; played.status == Status::Refused && is_told(&played, told.as_bytes()));
     }
     Ok(())
 }

@@ -1,13 +1,13 @@
 // What is printed for documents and journals that are refused. Each row is a part of an input, and the words for it.
-use crate::examples::documents::{FIRST_PATH, PASSING_LOOP};
-use crate::examples::{SURE, joined, line};
+use crate::examples::documents::document_called;
+use crate::examples::{SURE, is_told, joined, line, push_lines};
 use ats_rows::play;
 use refusal_lines::push_many;
 use std::alloc::{AllocError, Global};
 use std::test::Fail;
 use std::thread::Threads;
 
-// Members behind those of the first path, in whose place they come.
+// Members after those of the first path, in whose place they come.
 const MEMBERS: &str = r#""version":9 => 103 Version value=9
 "version":"1" => 102 Shape member=version
 "start":7 => 102 Shape member=start
@@ -58,7 +58,7 @@ const NODES_IN_A_SECTION: &str = "\
 const ENTERING: &str =
     r#"{"version":1,"points":[["A",0],["B",0],["C",0],["D",0]],"links":[["A","B"],["C","D"]],"zones":1,"trains":["T0","T1"],"start":[0,0],"tables":[{"missions":[["A","B"],["C","D"]],"sections":[{"limit":1,"changes":[[0,1],[1,0]]}],"certificate":["#;
 
-// Journals of the first path with a second table behind its first move; `/` ends a line.
+// Journals of the first path with a second table after its first move; `/` ends a line.
 const JOURNALS: &str = "\
 1 move T0 A B/ => 73 NoEnd
  => 73 NoEnd
@@ -97,22 +97,13 @@ fn is_refused(
 ) -> Result<bool, AllocError> {
     let played = play(rt, alloc, &line(alloc, words)?, input, SURE)?;
     let wanted = joined(alloc, &["ats: ", told, "\n"])?;
-    let is_told = matches!(&played.told, Some(bytes) if bytes.as_slice() == wanted.as_slice());
-    Ok(is_told && played.written.is_empty())
-}
-
-// The text behind what is there, with the ends of its lines.
-fn push_lines(input: &mut Vec<u8>, text: &str) -> Result<(), AllocError> {
-    for byte in text.bytes() {
-        input.push(if byte == b'/' { b'\n' } else { byte })?;
-    }
-    Ok(())
+    Ok(played.written.is_empty() && is_told(&played, wanted.as_slice()))
 }
 
 #[test]
 fn documents_are_refused(rt: HostRuntime) -> Result<(), Fail> {
     let alloc = rt.alloc();
-    let head = without(FIRST_PATH, 1);
+    let head = without(document_called("first-path").ok_or("a document")?, 1);
     for row in MEMBERS.split('\n') {
         let (members, told) = row.split_once(" => ").ok_or("words")?;
         let input = joined(alloc, &[head, ",", members, "}"])?;
@@ -124,7 +115,7 @@ fn documents_are_refused(rt: HostRuntime) -> Result<(), Fail> {
 #[test]
 fn certificates_are_refused(rt: HostRuntime) -> Result<(), Fail> {
     let alloc = rt.alloc();
-    let head = without(PASSING_LOOP, 1);
+    let head = without(document_called("passing-loop").ok_or("a document")?, 1);
     let table = r#","tables":[{"missions":[["W","L1","E"],["E","L2","W"]],"certificate":["#;
     for row in NODES.split('\n') {
         let (nodes, told) = row.split_once(" => ").ok_or("words")?;
@@ -143,7 +134,7 @@ fn certificates_are_refused(rt: HostRuntime) -> Result<(), Fail> {
 #[test]
 fn journals_are_refused(rt: HostRuntime) -> Result<(), Fail> {
     let alloc = rt.alloc();
-    let head = without(FIRST_PATH, 1);
+    let head = without(document_called("first-path").ok_or("a document")?, 1);
     for row in JOURNALS.split('\n') {
         let (journal, told) = row.split_once(" => ").ok_or("words")?;
         let mut input = joined(alloc, &[head, ",", TWO_TABLES, "\njournal\n"])?;

@@ -1,8 +1,6 @@
 // Circular waits of worked missions, and the sections that are made of missions.
 ghost use Rattle.std.specs.Prelude.{◌≡◌, ◌<◌, ◌≤◌, ◌∷◌, IfOk, length, false};
 
-use crate::examples::documents::{LONG_CORRIDOR, LONG_CORRIDOR_REPAIRED};
-use crate::examples::is_answered;
 use rail_model::{Mission, Missions};
 use ring_sections::{Rings, mark_rings, rings};
 use std::alloc::{AllocError, Global};
@@ -67,23 +65,5 @@ fn circular_waits_are_counted(rt: HostRuntime) -> Result<(), Fail> {
     let alloc = rt.alloc();
     let many = Rings::Many { count: 65 };
     assert_eq!(rt; rings(alloc, &ladder(alloc)?, 2).err(), Some(many));
-    Ok(())
-}
-
-#[test]
-fn a_long_corridor_takes_three_rounds(rt: HostRuntime) -> Result<(), Fail> {
-    let alloc = rt.alloc();
-    for (words, answer) in [
-        ("repair", (0, LONG_CORRIDOR_REPAIRED, "")),
-        (
-            "repair --rounds 2",
-            (5, "", "ats: 209 Rounds table=0 rounds=2 at=1,1\n"),
-        ),
-    ] {
-        assert!(rt;
-            is_answered(&rt, alloc, words, &[LONG_CORRIDOR], answer)?,
-            "{words}"
-        );
-    }
     Ok(())
 }

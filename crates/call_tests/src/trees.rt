@@ -1,7 +1,5 @@
 // Certificates of worked examples: read, checked by both checks, and made again.
-use crate::examples::documents::{
-    BAD_MOVE, BAD_WAIT, CONNECTED, CORRIDOR, EXITS, FIRST_PATH, PASSING_LOOP, SHARES,
-};
+use crate::examples::documents::document_called;
 use cert_checker::{accept, check, check_par};
 use cert_maker::{Made, make};
 use cert_tree::{Cert, CertRefused, count, preorder, tree};
@@ -13,7 +11,8 @@ use std::test::Fail;
 use std::thread::Threads;
 
 // A document with a table.
-fn read(alloc: Global, text: &str) -> Result<Doc, Fail> {
+fn read(alloc: Global, name: &str) -> Result<Doc, Fail> {
+    let text = document_called(name).ok_or("a text")?;
     Ok(document(alloc, text.as_bytes()).ok().ok_or("a document")?)
 }
 
@@ -26,8 +25,8 @@ fn cert_of(alloc: Global, doc: &Doc) -> Result<Cert, Fail> {
 }
 
 // Whether both checks take the certificate of a document's first table.
-fn is_good(rt: &(impl Abort + Threads + Sync), alloc: Global, text: &str) -> Result<bool, Fail> {
-    let doc = read(alloc, text)?;
+fn is_good(rt: &(impl Abort + Threads + Sync), alloc: Global, name: &str) -> Result<bool, Fail> {
+    let doc = read(alloc, name)?;
     let cert = cert_of(alloc, &doc)?;
     if tables_of(&doc) == 0 {
         return Err("a table".into());
@@ -40,11 +39,11 @@ fn is_good(rt: &(impl Abort + Threads + Sync), alloc: Global, text: &str) -> Res
 #[test]
 fn both_checks_take_good_certificates(rt: HostRuntime) -> Result<(), Fail> {
     let alloc = rt.alloc();
-    for text in [FIRST_PATH, PASSING_LOOP, CORRIDOR, EXITS, SHARES, CONNECTED] {
-        assert!(rt; is_good(&rt, alloc, text)?, "{text}");
+    for name in "first-path passing-loop corridor exits shares connected".split(' ') {
+        assert!(rt; is_good(&rt, alloc, name)?, "{name}");
     }
-    for text in [BAD_MOVE, BAD_WAIT] {
-        assert!(rt; !is_good(&rt, alloc, text)?, "{text}");
+    for name in "bad-move bad-wait".split(' ') {
+        assert!(rt; !is_good(&rt, alloc, name)?, "{name}");
     }
     Ok(())
 }
@@ -52,7 +51,7 @@ fn both_checks_take_good_certificates(rt: HostRuntime) -> Result<(), Fail> {
 #[test]
 fn a_table_is_accepted_or_comes_back(rt: HostRuntime) -> Result<(), Fail> {
     let alloc = rt.alloc();
-    let doc = read(alloc, PASSING_LOOP)?;
+    let doc = read(alloc, "passing-loop")?;
     let cert = cert_of(alloc, &doc)?;
     if tables_of(&doc) == 0 {
         return Err("a table".into());
@@ -69,8 +68,8 @@ fn a_table_is_accepted_or_comes_back(rt: HostRuntime) -> Result<(), Fail> {
 }
 
 // Whether the certificate that is made for a document's first table is its own.
-fn makes_its_own(alloc: Global, text: &str) -> Result<bool, Fail> {
-    let doc = read(alloc, text)?;
+fn makes_its_own(alloc: Global, name: &str) -> Result<bool, Fail> {
+    let doc = read(alloc, name)?;
     if tables_of(&doc) == 0 {
         return Err("a table".into());
     }
@@ -84,17 +83,17 @@ fn makes_its_own(alloc: Global, text: &str) -> Result<bool, Fail> {
 #[test]
 fn certificates_are_made_by_the_rule(rt: HostRuntime) -> Result<(), Fail> {
     let alloc = rt.alloc();
-    for text in [FIRST_PATH, EXITS, SHARES, CONNECTED] {
-        assert!(rt; makes_its_own(alloc, text)?, "{text}");
+    for name in "first-path exits shares connected".split(' ') {
+        assert!(rt; makes_its_own(alloc, name)?, "{name}");
     }
-    assert!(rt; !makes_its_own(alloc, PASSING_LOOP)?);
+    assert!(rt; !makes_its_own(alloc, "passing-loop")?);
     Ok(())
 }
 
 #[test]
 fn a_tree_has_its_nodes(rt: HostRuntime) -> Result<(), Fail> {
     let alloc = rt.alloc();
-    let cert = cert_of(alloc, &read(alloc, PASSING_LOOP)?)?;
+    let cert = cert_of(alloc, &read(alloc, "passing-loop")?)?;
     assert_eq!(rt; count(&cert), 11);
     assert_eq!(rt; preorder(alloc, &cert)?.as_slice(), cert.as_slice());
     Ok(())

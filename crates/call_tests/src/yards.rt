@@ -2,9 +2,7 @@
 ghost use Rattle.std.specs.Prelude.{◌≡◌, IfOk};
 ghost use Rattle.rail_model.specs.Table.{trains};
 
-use crate::examples::documents::{FIRST_PATH, LOOP_OF_THREES, SAME_POINT};
-use crate::examples::is_answered;
-use crate::examples::journals::{FIRST_PATH_RUN, LOOP_OF_THREES_TIMED, SAME_POINT_RUN};
+use crate::examples::documents::document_called;
 use cert_checker::{Accepted, accept};
 use cert_tree::tree;
 use layout_json::{Doc, after_of, document, names_of, nodes_of, start_of, table_of, tables_of};
@@ -15,6 +13,12 @@ use rail_model::{Ask, Tried, copy_table, trains_of};
 use std::alloc::Global;
 use std::test::Fail;
 use table_exchange::in_force;
+
+// The document of the first path.
+fn first_path(alloc: Global) -> Result<Doc, Fail> {
+    let text = document_called("first-path").ok_or("a text")?;
+    Ok(document(alloc, text.as_bytes()).ok().ok_or("a document")?)
+}
 
 // The first table of a document, which its certificate shows to be live.
 fn accepted(alloc: Global, doc: &Doc) -> Result<Accepted, Fail>
@@ -43,9 +47,7 @@ fn told<A: CheckedTable>(yard: &mut PlainYard<'_, A>, train: u32) -> Option<Ask>
 #[test]
 fn a_yard_answers_question_by_question(rt: HostRuntime) -> Result<(), Fail> {
     let alloc = rt.alloc();
-    let doc = document(alloc, FIRST_PATH.as_bytes())
-        .ok()
-        .ok_or("a document")?;
+    let doc = first_path(alloc)?;
     let tables = [accepted(alloc, &doc)?];
     let begun = begin(alloc, start_of(&doc))?;
     if judge(in_force(&tables, begun.yard()), start_of(&doc)).is_err() {
@@ -66,9 +68,7 @@ fn a_yard_answers_question_by_question(rt: HostRuntime) -> Result<(), Fail> {
 #[test]
 fn a_journal_is_read_and_written(rt: HostRuntime) -> Result<(), Fail> {
     let alloc = rt.alloc();
-    let doc = document(alloc, FIRST_PATH.as_bytes())
-        .ok()
-        .ok_or("a document")?;
+    let doc = first_path(alloc)?;
     let names = names_of(&doc);
     let journal = read(alloc, names, MANY_LINES.as_bytes())
         .ok()
@@ -98,19 +98,3 @@ const MANY_LINES: &str = "\
 5 move T0 C -
 end moves=2 tables=1
 ";
-
-#[test]
-fn runs_of_worked_examples(rt: HostRuntime) -> Result<(), Fail> {
-    let alloc = rt.alloc();
-    for (words, input, written) in [
-        ("run", FIRST_PATH, FIRST_PATH_RUN),
-        ("run", SAME_POINT, SAME_POINT_RUN),
-        ("sim", LOOP_OF_THREES, LOOP_OF_THREES_TIMED),
-    ] {
-        assert!(rt;
-            is_answered(&rt, alloc, words, &[input], (0, written, ""))?,
-            "{words}"
-        );
-    }
-    Ok(())
-}
