@@ -1,5 +1,5 @@
 -- A loop that takes a step for each item, up to the first refusal.
-use Rattle.std.proofs.Common.{◌≡◌, ℕ, ◌+◌, ◌<◌, ◌≤◌, List, [], ◌∷◌, ◌++◌, drop, map, Result, Ok, Err, refl, sym, ap, ◌∙◌, append_assoc}
+use Rattle.std.proofs.Common.{◌≡◌, ℕ, ◌+◌, List, [], ◌∷◌, ◌++◌, drop, map, Result, Ok, Err, refl, sym, ap, ◌∙◌, append_assoc}
 use Rattle.rail_model.specs.Turns.{in_turn}
 use Rattle.document_shapes.specs.Each.{each_from}
 

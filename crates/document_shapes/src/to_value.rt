@@ -87,11 +87,11 @@ impl ToValue for Node {
 
     fn to_value(&self, alloc: Global) -> Result<Value, AllocError> {
         match *self {
-            Node::Split { train, place } => json!(in alloc; [0u32, train, place]),
-            Node::Clash { first, second } => json!(in alloc; [1u32, first, second]),
-            Node::Overfull { section } => json!(in alloc; [2u32, section]),
-            Node::Arrived => json!(in alloc; [3u32]),
-            Node::Move { train } => json!(in alloc; [4u32, train]),
+            Node::Split { train, place } => list_value(alloc, &[0, train, place]),
+            Node::Clash { first, second } => list_value(alloc, &[1, first, second]),
+            Node::Overfull { section } => list_value(alloc, &[2, section]),
+            Node::Arrived => list_value(alloc, &[3]),
+            Node::Move { train } => list_value(alloc, &[4, train]),
         }
     }
 }
@@ -104,7 +104,10 @@ impl ToValue for Connection {
     ghost reads = { λ d k. part.connection d ≡ Some k };
 
     fn to_value(&self, alloc: Global) -> Result<Value, AllocError> {
-        json!(in alloc; [self.train(), self.place(), self.other(), self.reached()])
+        list_value(
+            alloc,
+            &[self.train(), self.place(), self.other(), self.reached()],
+        )
     }
 }
 
