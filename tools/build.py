@@ -23,7 +23,7 @@ ROOT = os.path.dirname(os.path.dirname(os.path.abspath(__file__)))
 LOG = f"{ROOT}/out/build.log"
 # What matters of the log of a crate that isn't proved.
 TELLING = re.compile(r"error|not proved|no proof|could not tell|killed|^rt: ")
-MOST_TELLING = 12
+MOST_TELLING = 9
 
 
 def toolchain():
@@ -53,7 +53,7 @@ class Build:
         known = measured()
         rate = sum(known.values()) / max(1, sum(self.lines(it) for it in self.crates if it.name in known))
         self.seconds = {it.name: known.get(it.name, rate * self.lines(it)) for it in self.crates}
-        self.running, self.done, self.took = [], [], {}
+        self.running, self.done, self.took, self.failed = [], [], {}, False
         self.lanes = int(os.environ.get("RT_JOBS") or rt.processors())
 
     def lines(self, crate):
@@ -76,7 +76,14 @@ class Build:
         times = f"{clock(time.time() - self.began)} gone, about {clock(self.left())} left"
         print(f"{count:>8}  {times}: {crate.name} is proved ({clock(seconds)}); now {names}", flush=True)
 
-    def fail(self, crate, said):
+    def fail(self, crate, said, status):
+        if status < 0:
+            print(f"The check of {crate} was stopped by signal {-status}, and says nothing of it. What is proved is kept: run ./build again.", flush=True)
+            return
+        if self.failed:
+            print(f"{crate} isn't proved either.", flush=True)
+            return
+        self.failed = True
         lines = [it for it in said.splitlines() if TELLING.search(it)] or said.splitlines()[-MOST_TELLING:]
         print(f"{crate} ISN'T PROVED, so there is no program. The whole log is {LOG}; what matters of it:", flush=True)
         for line in lines[:MOST_TELLING]:
@@ -89,7 +96,7 @@ class Build:
         with self.printing:
             self.running.append(crate.name)
         with tempfile.TemporaryFile("w+", errors="replace") as crate.out:
-            is_proved = crate.build_rlib(["--jobs", str(jobs)], anew=False) == 0
+            status = crate.build_rlib(["--jobs", str(jobs)], anew=False)
             crate.out.seek(0)
             said = crate.out.read()
         with self.printing:
@@ -97,11 +104,11 @@ class Build:
             with open(LOG, "a") as log:
                 log.write(f"== {crate.name}\n{said}")
             self.took[crate.name] = time.time() - began
-            if is_proved:
+            if status == 0:
                 self.report(crate, time.time() - began)
             else:
-                self.fail(crate.name, said)
-        return is_proved
+                self.fail(crate.name, said, status)
+        return status == 0
 
     def prove_all(self):
         held = self.rt.rtlib.lock(self.crates)
@@ -124,7 +131,7 @@ class Build:
         with open(LOG, "a") as log:
             log.write(f"== ats\n{ran.stderr}{ran.stdout}")
         if ran.returncode:
-            self.fail("ats", ran.stderr)
+            self.fail("ats", ran.stderr, ran.returncode)
         return ran.returncode == 0
 
 
@@ -134,7 +141,8 @@ def main():
     os.makedirs(f"{ROOT}/out", exist_ok=True)
     open(LOG, "w").close()
     build = Build(rt)
-    print(f"{len(build.crates)} crates are proved on {build.lanes} processors, and the program is built of them. The toolchain's log: out/build.log", flush=True)
+    print(f"{len(build.crates)} crates are proved on {build.lanes} processors, and the program is built of them, in some {round(build.left() / 60)} minutes.", flush=True)
+    print("The toolchain's log: out/build.log", flush=True)
     if not build.prove_all() or not build.compile():
         return 1
     print(f"The program is built, in {clock(time.time() - build.began)}. Next: ./ats run < examples/first-path.json", flush=True)
