@@ -53,7 +53,7 @@ class Build:
         known = measured()
         rate = sum(known.values()) / max(1, sum(self.lines(it) for it in self.crates if it.name in known))
         self.seconds = {it.name: known.get(it.name, rate * self.lines(it)) for it in self.crates}
-        self.running, self.done, self.took, self.failed = [], [], {}, False
+        self.running, self.done, self.took, self.failed = {}, [], {}, []
         self.lanes = int(os.environ.get("RT_JOBS") or rt.processors())
 
     def lines(self, crate):
@@ -63,7 +63,8 @@ class Build:
         """The seconds that are likely left: by the longest chain of crates, or by all that there is to do."""
         share = sum(self.took.values()) / max(1, sum(self.seconds[it] for it in self.took))
         speed = share if len(self.took) > 2 else 1
-        to_do = {it: self.seconds[it.name] for it in self.crates if it.name not in self.done}
+        gone = {name: (time.time() - began) / speed for name, began in self.running.items()}
+        to_do = {it: max(0, self.seconds[it.name] - gone.get(it.name, 0)) for it in self.crates if it.name not in self.done}
         chains = {}
         for it in sorted(to_do, key=lambda it: len(it.below())):
             chains[it] = to_do[it] + max([chains[dep] for dep in it.below() if dep in chains], default=0)
@@ -73,17 +74,17 @@ class Build:
         self.done.append(crate.name)
         names = ", ".join(self.running) or "nothing"
         count = f"{len(self.done)} of {len(self.crates) + 1}"
-        times = f"{clock(time.time() - self.began)} gone, about {clock(self.left())} left"
+        times = f"{clock(time.time() - self.began)} gone" + ("" if self.failed else f", about {clock(self.left())} left")
         print(f"{count:>8}  {times}: {crate.name} is proved ({clock(seconds)}); now {names}", flush=True)
 
     def fail(self, crate, said, status):
+        self.failed.append(crate)
         if status < 0:
             print(f"The check of {crate} was stopped by signal {-status}, and says nothing of it. What is proved is kept: run ./build again.", flush=True)
             return
-        if self.failed:
+        if len(self.failed) > 1:
             print(f"{crate} isn't proved either.", flush=True)
             return
-        self.failed = True
         lines = [it for it in said.splitlines() if TELLING.search(it)] or said.splitlines()[-MOST_TELLING:]
         print(f"{crate} ISN'T PROVED, so there is no program. The whole log is {LOG}; what matters of it:", flush=True)
         for line in lines[:MOST_TELLING]:
@@ -94,13 +95,13 @@ class Build:
             return False
         began = time.time()
         with self.printing:
-            self.running.append(crate.name)
+            self.running[crate.name] = began
         with tempfile.TemporaryFile("w+", errors="replace") as crate.out:
             status = crate.build_rlib(["--jobs", str(jobs)], anew=False)
             crate.out.seek(0)
             said = crate.out.read()
         with self.printing:
-            self.running.remove(crate.name)
+            del self.running[crate.name]
             with open(LOG, "a") as log:
                 log.write(f"== {crate.name}\n{said}")
             self.took[crate.name] = time.time() - began
@@ -144,6 +145,7 @@ def main():
     print(f"{len(build.crates)} crates are proved on {build.lanes} processors, and the program is built of them, in some {round(build.left() / 60)} minutes.", flush=True)
     print("The toolchain's log: out/build.log", flush=True)
     if not build.prove_all() or not build.compile():
+        print(f"The program isn't built: {', '.join(build.failed)}, as is said above.", flush=True)
         return 1
     print(f"The program is built, in {clock(time.time() - build.began)}. Next: ./ats run < examples/first-path.json", flush=True)
     print("The tests, the must-fail edits and every proof from nothing: .ci/run", flush=True)
