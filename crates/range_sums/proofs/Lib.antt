@@ -10,3 +10,4 @@ pub mod Searched
 pub mod Summed
 pub mod Tight
 pub mod Growing
+pub mod Shared

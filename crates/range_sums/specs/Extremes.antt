@@ -1,8 +1,8 @@
 -- The rows of shares that the check looks up: by section, by span of places, by train.
-use Rattle.std.specs.Prelude.{◌≡◌, ℕ, ◌+◌, ◌-◌, ◌*◌, ◌<◌, ◌≤◌, ℤ, pos, List, [], length, slice_index, slice_index_or}
+use Rattle.std.specs.Prelude.{◌≡◌, ℕ, ◌+◌, ◌-◌, ◌*◌, ◌<◌, ◌≤◌, ℤ, pos, List, [], ◌∷◌, length, slice_index, slice_index_or}
 use Rattle.std.specs.Int.{int_min, int_max}
 use Rattle.rail_model.specs.Sums.{least, greatest}
-use Rattle.rail_model.specs.Table.{Table, trains, last, share}
+use Rattle.rail_model.specs.Table.{Table, IsTable, trains, last, share}
 use Rattle.range_sums.specs.declared.extremes.Extremes.{Extremes}
 use Rattle.range_sums.specs.Each.{IsEach}
 
@@ -67,17 +67,29 @@ pub record IsPick (levels : List Level) (more picked : ℕ) : Type 0 where
   pub within : (level_at levels picked).width ≤ more + 1
   pub covers : more + 1 ≤ 2 * (level_at levels picked).width
 
--- The levels of a train, and by the length of a span the level to take.
+-- Train i has no share of the section at any place.
+abbrev pub IsQuiet : Table → ℕ → ℕ → Type 0
+IsQuiet T i s = (k : ℕ) → k ≤ last T i → share T i s k ≡ pos 0
+
+-- Of the sections from one number on, up to `to`, these and no others may have a share of train i, in order.
+abbrev pub AreShared : Table → ℕ → ℕ → ℕ → List ℕ → Type 0
+AreShared T i from to [] = (from ≤ to) × ((s : ℕ) → from ≤ s → s < to → IsQuiet T i s)
+AreShared T i from to (x ∷ later) = (from ≤ x) × (x < to) × ((s : ℕ) → from ≤ s → s < x → IsQuiet T i s) × AreShared T i (x + 1) to later
+
+-- The levels of a train, by the length of a span the level to take, and the sections that the train may have a share of.
 pub record TrainShares : Type 0 where
   pub levels : List Level
   pub picks : List ℕ
+  pub sections : List ℕ
 
 abbrev pub no_shares : TrainShares
-no_shares = record { levels = []; picks = [] }
+no_shares = record { levels = []; picks = []; sections = [] }
 
 pub record IsTrainShares (T : Table) (i : ℕ) (S : TrainShares) : Type 0 where
+  pub formed : IsTable T
   pub levels : IsLevels T i S.levels
   pub picks : IsEach (λ more picked. IsPick S.levels more picked) (last T i + 1) 0 S.picks
+  pub sections : AreShared T i 0 (length T.sections) S.sections
 
 -- The shares of all trains.
 abbrev pub IsShares : Table → List TrainShares → Type 0

@@ -76,7 +76,7 @@ is_tight T B i r =
 
 -- What is listed once of a table.
 pub record Lists : Type 0 where
-  pub ways : List (List (List Spot))
+  pub ways : List (List Spot)
   pub shares : List TrainShares
   pub rises : List (List Rise)
 

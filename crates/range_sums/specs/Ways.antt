@@ -1,6 +1,6 @@
 -- Where other trains may stand in a train's way.
-use Rattle.std.specs.Prelude.{◌≡◌, ◌≢◌, ◌<◌, ◌+◌, ◌==◌, ℕ, zero, suc, nat_le, Bool, ◌&&◌, if◌then◌else◌, List, [], ◌∷◌, ◌++◌, Some, None}
-use Rattle.rail_model.specs.Table.{Table, trains, last, point}
+use Rattle.std.specs.Prelude.{◌≡◌, ◌≢◌, ◌<◌, ◌+◌, ◌==◌, ℕ, zero, suc, nat_le, Bool, not, ◌&&◌, if◌then◌else◌, List, [], ◌∷◌, ◌++◌, Some, slice_index_or}
+use Rattle.rail_model.specs.Table.{Table, IsTable, trains, last, point}
 use Rattle.rail_model.specs.Certificate.{Range, range, IsIn}
 use Rattle.rail_model.specs.Checks.{same_point}
 use Rattle.range_sums.specs.declared.ways.Spot.{Spot}
@@ -16,22 +16,27 @@ abbrev pub column : Table → ℕ → ℕ → ℕ → List Spot
 column T q j zero = []
 column T q j (suc b) = column T q j b ++ (if is_at T q j b then record { train = j; place = b } ∷ [] else [])
 
--- those of the trains below n other than train i, train by train
-abbrev pub spots : Table → ℕ → ℕ → ℕ → List Spot
-spots T i q zero = []
-spots T i q (suc j) = spots T i q j ++ (if j == i then [] else column T q j (last T j + 1))
+-- those of the trains below n, train by train
+abbrev pub spots : Table → ℕ → ℕ → List Spot
+spots T q zero = []
+spots T q (suc j) = spots T q j ++ column T q j (last T j + 1)
 
--- the spots at the point behind the place a of train i
-abbrev pub spots_ahead : Table → ℕ → ℕ → List Spot
-spots_ahead T i a = elim (point T i (a + 1)) [ None ↦ [] | Some q ↦ spots T i q (trains T) ]
+-- For each point the spots at it. Points are below 512.
+pub record AreWays (T : Table) (ways : List (List Spot)) : Type 0 where
+  pub formed : IsTable T
+  pub each_point : IsEach (λ q row. row ≡ spots T q (trains T)) 512 [] ways
 
--- For each train and place the spots ahead.
-abbrev pub AreWays : Table → List (List (List Spot)) → Type 0
-AreWays T ways = IsEach (λ i rows. IsEach (λ a row. row ≡ spots_ahead T i a) (last T i + 1) [] rows) (trains T) [] ways
+-- The new rows are the old ones with some spots of each point behind them.
+abbrev pub AreLonger : (ℕ → List Spot) → List (List Spot) → List (List Spot) → Type 0
+AreLonger more old new = IsEach (λ q row. row ≡ slice_index_or old q [] ++ more q) 512 [] new
 
 -- whether the spot is in the range of its train
 abbrev pub is_covered : List Range → Spot → Bool
 is_covered B s = nat_le (range B s.train).lo s.place && nat_le s.place (range B s.train).hi
+
+-- whether the spot is one of another train than i, in that train's range
+abbrev pub is_rival : List Range → ℕ → Spot → Bool
+is_rival B i s = not (s.train == i) && is_covered B s
 
 -- Train j is another one and may stand at the point behind the place a of train i.
 abbrev pub IsInWay : Table → List Range → ℕ → ℕ → ℕ → Type 0

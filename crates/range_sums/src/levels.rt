@@ -1,11 +1,13 @@
 // The shares of each train, as rows from which the row of any span is joined.
-ghost use Rattle.std.specs.Prelude.{◌≡◌, ℕ, ◌+◌, ◌-◌, ◌*◌, ◌<◌, ◌≤◌, [], length, IfOk, slice_index, slice_index_or};
+ghost use Rattle.std.specs.Prelude.{◌≡◌, ℕ, ◌+◌, ◌-◌, ◌*◌, ◌<◌, ◌≤◌, [], pos, ◌<ℤ◌, length, IfOk, OnOk, IsTrue, ◌↔◌, slice_index, slice_index_or};
+ghost use Rattle.rail_model.specs.Sums.{greatest};
 ghost use Rattle.rail_model.specs.Table.{IsTable, trains, last, share};
-ghost use Rattle.range_sums.specs.Extremes.{IsExtremes, IsRow, IsLevel, IsLevels, IsPick, IsTrainShares, IsShares, level_at, no_shares, reach};
+ghost use Rattle.range_sums.specs.Extremes.{IsExtremes, IsRow, IsLevel, IsLevels, IsPick, AreShared, IsTrainShares, IsShares, level_at, no_shares, reach};
 
 use crate::extremes::{Extremes, Row, first_row, joined_row, next_row};
 use crate::ranges::Span;
-use rail_model::{Table, last_of, trains_of};
+use crate::shares::greatest_share;
+use rail_model::{Table, last_of, sections_of, trains_of};
 use std::alloc::{AllocError, Global};
 use std::marker::Model;
 
@@ -115,11 +117,55 @@ fn pick(table: &Table, train: u32, levels: &[Level], more: u32) -> u8
     unreachable!()
 }
 
-/// The rows of one train: all levels, and for each number of places more than one the level to take.
+// Whether a train has a share of a section at some place.
+fn has_share(table: &Table, train: u32, section: u32) -> bool
+    requires train { train < trains table.now }
+    requires section { section < length table.now.sections }
+    ensures { IsTrue result ↔ (pos 0 <ℤ greatest (share table.now train section) 0 (last table.now train)) }
+{
+    let all = Span::new(0, last_of(table, train));
+    greatest_share(table, train, section, all) > 0
+}
+
+// Adds a section, where the train has a share of it.
+fn add_shared(
+    table: &Table,
+    train: u32,
+    section: u32,
+    sections: &mut Vec<u32>,
+) -> Result<(), AllocError>
+    requires formed { IsTable table.now }
+    requires train { train < trains table.now }
+    requires section { section < length table.now.sections }
+    requires before { AreShared table.now train 0 section sections.old.items }
+    ensures { OnOk result (AreShared table.now train 0 (section + 1) sections.new.items) }
+{
+    if !has_share(table, train, section) {
+        return Ok(());
+    }
+    sections.push(section)?;
+    Ok(())
+}
+
+// The sections that a train has a share of at some place, in order.
+fn shared_sections(alloc: Global, table: &Table, train: u32) -> Result<Vec<u32>, AllocError>
+    requires { train < trains table.now }
+    ensures { IfOk result (λ sections. AreShared table.now train 0 (length table.now.sections) sections.items) }
+{
+    let mut sections = Vec::new(alloc);
+    for section in 0..sections_of(table) {
+        add_shared(table, train, section, &mut sections)?;
+    }
+    Ok(sections)
+}
+
+/// The rows of one train: all levels, for each number of places more than one the level to take, and the sections that the train may
+/// have a share of.
 #[derive(Drop)]
 pub struct TrainShares {
     levels: Vec<Level>,
     picks: Vec<u8>,
+    sections: Vec<u32>,
 }
 
 impl Model for TrainShares {
@@ -127,7 +173,7 @@ impl Model for TrainShares {
 
     ghost Value = { SharesValue };
 
-    ghost view = { λ s. record { levels = s.levels.items; picks = s.picks.items } };
+    ghost view = { λ s. record { levels = s.levels.items; picks = s.picks.items; sections = s.sections.items } };
 }
 
 impl TrainShares {
@@ -142,7 +188,19 @@ impl TrainShares {
         for more in 0..last + 1 {
             picks.push(pick(table, train, &levels, more))?;
         }
-        Ok(TrainShares { levels, picks })
+        let sections = shared_sections(alloc, table, train)?;
+        Ok(TrainShares {
+            levels,
+            picks,
+            sections,
+        })
+    }
+
+    /// The sections that the train may have a share of, in order.
+    pub fn sections(&self) -> &[u32]
+        ensures { result.now ≡ self.now.sections }
+    {
+        &self.sections
     }
 
     // The level for a span.

@@ -23,4 +23,4 @@ pub use ranges::{Ranges, Span, full_box};
 pub use rises::{Rise, Rises, TrainRises, first_without_room};
 pub use shares::{greatest_share, least_share};
 pub use sums::{RangeSums, Sum, is_overfull};
-pub use ways::{Block, Spot, Spots, TrainWays, Ways, first_in_way};
+pub use ways::{Block, Spot, Spots, Ways, first_in_way};

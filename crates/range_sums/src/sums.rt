@@ -88,7 +88,8 @@ fn move_sums(
     let old_back = rows.back(table, train, old);
     let front = rows.front(table, train, span);
     let back = rows.back(table, train, span);
-    for section in 0..sections_of(table) {
+    let sections = rows.sections();
+    for &section in sections {
         let before = old_front.cell(section).joined(old_back.cell(section));
         let after = front.cell(section).joined(back.cell(section));
         sums[section as usize] = moved(sums[section as usize], before, after);

@@ -1,10 +1,10 @@
-// The spots at which other trains may stand in a train's way, listed once for a table.
+// The places of all trains by their points, listed once for a table, and where another train may stand in a train's way.
 ghost use Rattle.std.specs.Prelude.{MatchOption, Some, ◌≡◌, ℕ, ◌+◌, ◌<◌, ◌≤◌, ◌++◌, ◌==◌, ◌^◌, ◌∷◌, if◌then◌else◌, [], find, length, All, IfOk, OnOk, IsTrue, ◌↔◌, option_map, slice_index_or};
-ghost use Rattle.rail_model.specs.Table.{trains, last, point};
+ghost use Rattle.rail_model.specs.Table.{IsTable, trains, last, point};
 ghost use Rattle.rail_model.specs.Move.{IsFirstOrNone};
 ghost use Rattle.rail_model.specs.Certificate.{IsBox, MayBlock};
 ghost use Rattle.range_sums.specs.Each.{IsEach};
-ghost use Rattle.range_sums.specs.Ways.{column, is_at, spots as spots_of, spots_ahead as spots_ahead_of, AreWays, is_covered as is_covered_of, IsInWay};
+ghost use Rattle.range_sums.specs.Ways.{column, is_at, AreWays, AreLonger, is_covered as is_covered_of, is_rival as is_rival_of, IsInWay};
 
 use crate::Ranges;
 use rail_model::{Table, has_point, last_of, point_of, trains_of};
@@ -33,135 +33,85 @@ impl Model for Spots {
     ghost view = { λ s. s.items.items };
 }
 
-/// For each place of a train the spots ahead.
-#[derive(Drop)]
-pub struct TrainWays {
-    places: Vec<Spots>,
-}
-
-impl Model for TrainWays {
-    ghost use Rattle.std.specs.Prelude.{List};
-    ghost use Rattle.range_sums.specs.declared.ways.Spot.{Spot as SpotValue};
-
-    ghost Value = { List (List SpotValue) };
-
-    ghost view = { λ w. w.places.items };
-}
-
-/// For each train and place the spots of other trains at the point behind it.
+/// For each point the spots at it.
 #[derive(Drop)]
 pub struct Ways {
-    trains: Vec<TrainWays>,
+    points: Vec<Spots>,
 }
 
 impl Model for Ways {
     ghost use Rattle.std.specs.Prelude.{List};
     ghost use Rattle.range_sums.specs.declared.ways.Spot.{Spot as SpotValue};
 
-    ghost Value = { List (List (List SpotValue)) };
+    ghost Value = { List (List SpotValue) };
 
-    ghost view = { λ w. w.trains.items };
+    ghost view = { λ w. w.points.items };
 }
 
 impl Ways {
     ghost use Rattle.std.specs.Prelude.{length, slice_index_or, []};
 
-    // The spots ahead of a train's place.
-    fn ahead(&self, train: u32, place: u32) -> &[Spot]
-        requires train { train < length self.now }
-        requires place { place < length (slice_index_or self.now train []) }
-        ensures { result.now ≡ slice_index_or (slice_index_or self.now train []) place [] }
+    // The spots at a point.
+    fn at(&self, point: u32) -> &[Spot]
+        requires { point < length self.now }
+        ensures { result.now ≡ slice_index_or self.now point [] }
     {
-        &self.trains[train as usize].places[place as usize].items
+        &self.points[point as usize].items
     }
 }
 
-// Adds a place of a train, where its point is the wanted one.
-fn add_spot(
-    table: &Table,
-    at: u32,
-    train: u32,
-    place: u32,
-    spots: &mut Vec<Spot>,
-) -> Result<(), AllocError>
-    requires { train < trains table.now }
-    ensures { OnOk result (spots.new.items ≡ spots.old.items ++ (if is_at table.now at train place then record { train = train; place = place } ∷ [] else [])) }
+// For each point no spots.
+fn no_spots(alloc: Global) -> Result<Vec<Spots>, AllocError>
+    ensures { IfOk result (λ points. IsEach (λ _ row. row ≡ []) 512 [] points.items) }
 {
-    if !has_point(table, train, place, at) {
-        return Ok(());
-    }
-    spots.push(Spot { train, place })?;
-    Ok(())
-}
-
-// Adds the places of another train with a point.
-fn add_train(
-    table: &Table,
-    at: u32,
-    train: u32,
-    other: u32,
-    spots: &mut Vec<Spot>,
-) -> Result<(), AllocError>
-    requires { other < trains table.now }
-    ensures { OnOk result (spots.new.items ≡ spots.old.items ++ (if other == train then [] else column table.now at other (last table.now other + 1))) }
-{
-    if other == train {
-        return Ok(());
-    }
-    let places = last_of(table, other) + 1;
-    for place in 0..places {
-        add_spot(table, at, other, place, spots)?;
-    }
-    Ok(())
-}
-
-// The places of all other trains with a point.
-fn spots_at(alloc: Global, table: &Table, train: u32, at: u32) -> Result<Spots, AllocError>
-    ensures { IfOk result (λ spots. spots ≡ spots_of table.now train at (trains table.now)) }
-{
-    let mut items = Vec::new(alloc);
-    for other in 0..trains_of(table) {
-        add_train(table, at, train, other, &mut items)?;
-    }
-    Ok(Spots { items })
-}
-
-// The spots at the point behind a place.
-fn spots_ahead(alloc: Global, table: &Table, train: u32, place: u32) -> Result<Spots, AllocError>
-    requires train { train < trains table.now }
-    requires place { place < 2 ^ 31 }
-    ensures { IfOk result (λ spots. spots ≡ spots_ahead_of table.now train place) }
-{
-    match point_of(table, train, place + 1) {
-        Some(at) => spots_at(alloc, table, train, at),
-        None => Ok(Spots {
+    let mut points = Vec::new(alloc);
+    for _point in 0..512u32 {
+        points.push(Spots {
             items: Vec::new(alloc),
-        }),
+        })?;
     }
+    Ok(points)
 }
 
-// The spots ahead of each place of a train.
-fn train_ways(alloc: Global, table: &Table, train: u32) -> Result<TrainWays, AllocError>
-    requires { train < trains table.now }
-    ensures { IfOk result (IsEach (λ place row. row ≡ spots_ahead_of table.now train place) (last table.now train + 1) []) }
+// Adds a place of a train to the spots at its point.
+fn add_spot(table: &Table, train: u32, place: u32, points: &mut [Spots]) -> Result<(), AllocError>
+    requires formed { IsTable table.now }
+    requires train { train < trains table.now }
+    requires many { length points.old ≡ 512 }
+    ensures { OnOk result (AreLonger (λ q. if is_at table.now q train place then record { train = train; place = place } ∷ [] else []) points.old points.new) }
 {
-    let count = last_of(table, train) + 1;
-    let mut places = Vec::new(alloc);
-    for place in 0..count {
-        places.push(spots_ahead(alloc, table, train, place)?)?;
+    match point_of(table, train, place) {
+        Some(at) => {
+            let spots = &mut points[at as usize];
+            spots.items.push(Spot { train, place })?;
+            Ok(())
+        }
+        None => Ok(()),
     }
-    Ok(TrainWays { places })
 }
 
-/// The spots ahead of each place of each train.
+// Adds the places of a train.
+fn add_train(table: &Table, train: u32, points: &mut [Spots]) -> Result<(), AllocError>
+    requires train { train < trains table.now }
+    requires many { length points.old ≡ 512 }
+    ensures { OnOk result (AreLonger (λ q. column table.now q train (last table.now train + 1)) points.old points.new) }
+{
+    let places = last_of(table, train) + 1;
+    for place in 0..places {
+        add_spot(table, train, place, points)?;
+    }
+    Ok(())
+}
+
+/// The spots at each point.
 pub(crate) fn ways_of(alloc: Global, table: &Table) -> Result<Ways, AllocError>
     ensures { IfOk result (AreWays table.now) }
 {
-    let mut all = Vec::new(alloc);
+    let mut points = no_spots(alloc)?;
     for train in 0..trains_of(table) {
-        all.push(train_ways(alloc, table, train)?)?;
+        add_train(table, train, &mut points)?;
     }
-    Ok(Ways { trains: all })
+    Ok(Ways { points })
 }
 
 // Whether a spot is in the range of its train.
@@ -172,13 +122,21 @@ fn is_covered(ranges: &Ranges, spot: Spot) -> bool
     ranges.span(spot.train).contains(spot.place)
 }
 
-// The first spot that is in the range of its train.
-fn first_covered(spots: &[Spot], ranges: &Ranges) -> Option<Spot>
+// Whether a spot is one of another train, in that train's range.
+fn is_rival(ranges: &Ranges, train: u32, spot: Spot) -> bool
+    requires { spot.train < length ranges.now }
+    ensures { result ≡ is_rival_of ranges.now train spot }
+{
+    spot.train != train && is_covered(ranges, spot)
+}
+
+// The first spot of another train that is in that train's range.
+fn first_covered(spots: &[Spot], ranges: &Ranges, train: u32) -> Option<Spot>
     requires { All (λ s. s.train < length ranges.now) spots.now }
-    ensures { result ≡ find (is_covered_of ranges.now) spots.now }
+    ensures { result ≡ find (is_rival_of ranges.now train) spots.now }
 {
     for &spot in spots {
-        if is_covered(ranges, spot) {
+        if is_rival(ranges, train, spot) {
             return Some(spot);
         }
     }
@@ -193,7 +151,10 @@ fn first_spot(ways: &Ways, table: &Table, ranges: &Ranges, train: u32, place: u3
     requires place { place ≤ last table.now train }
     ensures { IsFirstOrNone (IsInWay table.now ranges.now train place) (option_map (λ s. s.train) result) }
 {
-    first_covered(ways.ahead(train, place), ranges)
+    match point_of(table, train, place + 1) {
+        Some(at) => first_covered(ways.at(at), ranges, train),
+        None => None,
+    }
 }
 
 /// The first other train that may stand at the point behind a place of a train.

@@ -1,6 +1,6 @@
-use Rattle.std.specs.Prelude.{slice_set}
-use Rattle.range_sums.proofs.Summed.{IsMoving}
+use Rattle.std.proofs.Common.{drop}
+use Rattle.range_sums.proofs.Shared.{IsNarrowing}
 use Rattle.range_sums.proofs.sums.move_sums.Given as goal
 
 abbrev pub invariant-loop-section : goal.invariant-loop-section
-invariant-loop-section l = IsMoving l.table l.ranges (slice_set l.ranges l.train l.fn.span) l.section l.sums
+invariant-loop-section l = IsNarrowing l.table l.ranges l.train l.fn.span (drop l.section-index l.sections) l.sums
