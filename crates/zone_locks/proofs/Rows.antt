@@ -1,7 +1,7 @@
 -- Worked rows: sets of zones, and who holds a zone.
-use Rattle.std.proofs.Common.{◌≡◌, [], ◌∷◌, true, false, Some, None, refl}
+use Rattle.std.proofs.Common.{◌≡◌, zero, suc, [], ◌∷◌, true, false, Some, None, refl, arith}
 use Rattle.std.specs.Prelude.{find, nat_le, not}
-use Rattle.zone_locks.specs.Zones.{members, has, with_zone, without, holder}
+use Rattle.zone_locks.specs.Zones.{members, has, with_zone, without, holder, EndsAt}
 
 flags : members 0 (false ∷ true ∷ false ∷ true ∷ true ∷ []) ≡ 1 ∷ 3 ∷ 4 ∷ []
 flags = refl
@@ -47,3 +47,13 @@ driver_0 = refl
 
 control : holder 33 ≡ Some 32
 control = refl
+
+-- a set that ends after its last zone, and one that doesn't end before it
+ends : EndsAt 2 (false ∷ true ∷ false ∷ [])
+ends zero le = absurd (omega arith)
+ends (suc zero) le = absurd (omega arith)
+ends (suc (suc zero)) le = refl
+ends (suc (suc (suc z))) le = refl
+
+ends_later : EndsAt 1 (false ∷ true ∷ false ∷ []) → ⊥
+ends_later e = cc (e 1 (omega arith))

@@ -26,7 +26,7 @@ use Rattle.zone_machine.specs.Cores.{CoreValue, IsCore}
 use Rattle.zone_machine.proofs.Acting.{passed, there, is_row, allowed_here}
 use Rattle.zone_machine.proofs.Allowed.{Passes}
 use Rattle.zone_machine.proofs.ControlAppends.{is_told}
-use Rattle.zone_machine.proofs.ControlAsked.{IsTold}
+use Rattle.zone_machine.specs.ControlAsked.{IsTold}
 
 -- what is due, as the code asks for it
 pub same_due : (T : Table) (p : List ℕ) (moves after : ℕ) (due arrived : Bool) → IsTrue due ↔ ((after ≤ moves) ⊎ IsTrue arrived) → IsTrue arrived ↔ Arrived T p

@@ -7,15 +7,20 @@ ghost use Rattle.move_claim.specs.Deciding.{decided, one_ask as one_answer};
 ghost use Rattle.move_claim.specs.Small.{AreSmall};
 ghost use Rattle.zone_machine.specs.Entered.{driver_told};
 ghost use Rattle.rail_model.specs.Blocks.{block_entries};
-ghost use Rattle.zone_machine.specs.Entries.{answer};
+ghost use Rattle.move_claim.specs.Claims.{claim_of, footprint_of};
+ghost use Rattle.zone_machine.specs.Entries.{answer, known_table};
+ghost use Rattle.zone_machine.specs.Keeping.{AreKept};
+ghost use Rattle.zone_machine.specs.Needs.{table_of};
 ghost use Rattle.zone_machine.specs.declared.steps.Step.TheVariants.{Block as BlockStep};
 ghost use Rattle.zone_machine.specs.Steps.{after_driver, refusal as cause_of};
 ghost use Rattle.zone_machine.specs.World.{actor};
 
 use crate::Core;
+use crate::kept_needs::{Kept, kept_for};
 use crate::machine::Row;
 use move_claim::{Cell, Footprint};
 use rail_model::{Ask, BlockAsk, Entry, HasTable, Reply};
+use std::mem::replace;
 
 /// What is told of a block of one step.
 pub(crate) fn one_ask(reply: BlockAsk) -> Ask
@@ -79,6 +84,41 @@ fn tell_driver(row: &mut Row, needs: &Footprint, told: BlockAsk)
 }
 
 impl<'a, A: HasTable> Core<'a, A> {
+    // Adds the entries of a driver's next steps under this table, which need this, and gives what it is told of them.
+    fn enter(&mut self, number: u32, steps: u32, table: u32, needs: &Footprint) -> BlockAsk
+        requires cause { cause_of self.old.setup number self.old.world (BlockStep steps) ≡ None }
+        requires table { table ≡ known_table (actor self.old.world number) }
+        requires needs { needs.now ≡ footprint_of self.old.setup.layout (table_of self.old.setup table) (claim_of (table_of self.old.setup table) number (actor self.old.world number).position steps) }
+        ensures told { result ≡ answer self.old.setup number (actor self.old.world number) steps }
+        ensures world { self.new.world ≡ after_driver self.old.setup number self.old.world (actor self.old.world number) steps }
+        ensures setup { self.new.setup ≡ self.old.setup }
+    {
+        let row = &self.rows[number as usize];
+        let told = needs.decide_block(&row.known);
+        push_entries(&mut self.history, number, needs.steps(), told);
+        self.words[0] = self.history.len() as u64;
+        tell_driver(&mut self.rows[number as usize], needs, told);
+        told
+    }
+
+    // The same, by what is kept for the driver, or else by what its steps need.
+    fn enter_by(&mut self, kept: &[Kept<'a>], number: u32, steps: u32) -> BlockAsk
+        requires kept { AreKept self.old.setup kept.now }
+        requires cause { cause_of self.old.setup number self.old.world (BlockStep steps) ≡ None }
+        ensures told { result ≡ answer self.old.setup number (actor self.old.world number) steps }
+        ensures world { self.new.world ≡ after_driver self.old.setup number self.old.world (actor self.old.world number) steps }
+        ensures setup { self.new.setup ≡ self.old.setup }
+    {
+        let row = &self.rows[number as usize];
+        let place = row.position;
+        let table = row.known.number(Cell::Table).unwrap_or(0);
+        if let Some(needs) = kept_for(kept, number, table, place, steps) {
+            return self.enter(number, steps, table, needs);
+        }
+        let needs = self.needs(number, place, table, steps);
+        self.enter(number, steps, table, &needs)
+    }
+
     /// Adds the entries of a driver's next steps, and gives what it is told of them.
     pub(crate) fn enter_steps(&mut self, number: u32, steps: u32) -> BlockAsk
         requires { cause_of self.old.setup number self.old.world (BlockStep steps) ≡ None }
@@ -86,13 +126,9 @@ impl<'a, A: HasTable> Core<'a, A> {
         ensures world { self.new.world ≡ after_driver self.old.setup number self.old.world (actor self.old.world number) steps }
         ensures setup { self.new.setup ≡ self.old.setup }
     {
-        let row = &self.rows[number as usize];
-        let table = row.known.number(Cell::Table).unwrap_or(0);
-        let needs = self.needs(number, row.position, table, steps);
-        let told = needs.decide_block(&row.known);
-        push_entries(&mut self.history, number, needs.steps(), told);
-        self.words[0] = self.history.len() as u64;
-        tell_driver(&mut self.rows[number as usize], &needs, told);
+        let kept = replace(&mut self.kept, Vec::new(self.alloc));
+        let told = self.enter_by(&kept, number, steps);
+        self.kept = kept;
         told
     }
 }

@@ -25,8 +25,6 @@ use move_claim::{Cell, Known, Owed};
 use rail_model::{
     Entry, HasTable, Layout, Reply, Standing, State, Table, Tried, sections_of, trains_of, zones_of,
 };
-use std::alloc::Global;
-use std::mem::replace;
 use table_exchange::{NotNow, admit, all_arrived, due};
 use zone_locks::ZoneSet;
 
@@ -43,24 +41,15 @@ pub(crate) fn unknown_position(known: &Known, trains: u32) -> Option<Cell>
     None
 }
 
-// Writes the known positions of the trains.
-fn write_positions(places: &mut Vec<u32>, known: &Known)
-    requires { length places.old.items ≤ 32 }
-    ensures { places.new.items ≡ map (λ i. number_in known.now (Position i)) (below (length places.old.items)) }
-{
-    for train in 0..places.len() as u32 {
-        places[train as usize] = known.number(Cell::Position { train }).unwrap_or(0);
-    }
-}
-
-// The known positions take the place of earlier ones.
-fn note_positions(alloc: Global, positions: &mut State, known: &Known)
+/// The known positions take the place of earlier ones.
+pub fn note_positions(positions: &mut State, known: &Known)
     requires { length positions.old ≤ 32 }
     ensures { positions.new ≡ map (λ i. number_in known.now (Position i)) (below (length positions.old)) }
 {
-    let mut places = replace(positions, State::from(Vec::new(alloc))).into_vec();
-    write_positions(&mut places, known);
-    *positions = State::from(places);
+    for train in 0..positions.len() as u32 {
+        let place = known.number(Cell::Position { train }).unwrap_or(0);
+        positions.set(train, place);
+    }
 }
 
 // How many places the trains have passed.
@@ -76,8 +65,8 @@ fn sum_of(state: &State) -> u64
     total
 }
 
-// The moves that led from the opening to some positions.
-fn moves_to(opening: &Standing, positions: &State) -> u32
+/// The moves that led from the opening to some positions.
+pub fn moves_to(opening: &Standing, positions: &State) -> u32
     requires trains { (length opening.now.positions ≤ 32) × (length positions.now ≤ 32) }
     requires small { sum positions.now + opening.now.moves - sum opening.now.positions < 2 ^ 32 }
     ensures { result ≡ sum positions.now + opening.now.moves - sum opening.now.positions }
@@ -97,8 +86,8 @@ fn told(admitted: Result<(), NotNow>) -> Tried
     }
 }
 
-// What the control is told of the next table.
-fn tell<A: HasTable>(table: &Table, next: &A, positions: &State, moves: u32) -> Tried
+/// What the control is told of the next table.
+pub fn tell<A: HasTable>(table: &Table, next: &A, positions: &State, moves: u32) -> Tried
     requires same { trains (A.offer next.now).table ≡ trains table.now }
     requires legal { Legal table.now positions.now }
     ensures { result ≡ (if is_due table.now positions.now moves (A.offer next.now).after then admitted table.now (A.offer next.now).table positions.now else Early moves) }
@@ -122,8 +111,8 @@ fn owe_exchange(new: &Table, number: u32, positions: &State, owed: &mut Owed)
     }
 }
 
-// Owes what changes where the control was told this, and nothing else.
-fn owe_told(new: &Table, number: u32, positions: &State, told: Tried, owed: &mut Owed)
+/// Owes what changes where the control was told this, and nothing else.
+pub fn owe_told(new: &Table, number: u32, positions: &State, told: Tried, owed: &mut Owed)
     requires { told ≡ Exchanged → Legal new.now positions.now }
     ensures { owed.new ≡ (if exchanges told then exchange_effects new.now number positions.now else []) }
 {
@@ -133,8 +122,8 @@ fn owe_told(new: &Table, number: u32, positions: &State, told: Tried, owed: &mut
     }
 }
 
-// The last table that has its answer, after the control was told this of the next one.
-fn last_answered(position: u32, told: Tried) -> u32
+/// The last table that has its answer, after the control was told this of the next one.
+pub fn last_answered(position: u32, told: Tried) -> u32
     requires { position + 1 < 2 ^ 32 }
     ensures { result ≡ (if answers told then position + 1 else position) }
 {
@@ -211,7 +200,7 @@ impl<'a, A: HasTable> Core<'a, A> {
     {
         let tables = self.tables;
         let row = &mut self.rows[CONTROL as usize];
-        note_positions(self.alloc, &mut self.positions, &row.known);
+        note_positions(&mut self.positions, &row.known);
         let table = row.known.number(Cell::Table).unwrap_or(0);
         let next = &tables[row.position as usize + 1];
         let moves = moves_to(&self.opening, &self.positions);

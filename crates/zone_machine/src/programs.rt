@@ -1,5 +1,5 @@
 // The step that each actor's program makes next.
-ghost use Rattle.std.specs.Prelude.{◌≡◌, ◌<◌, ℕ, [], ◌∷◌, map, not, ◌==◌, option_map, is_none, is_some, slice_get, if◌then◌else◌, true, false, Some, None};
+ghost use Rattle.std.specs.Prelude.{◌≡◌, ◌<◌, ℕ, [], ◌∷◌, map, find, not, ◌==◌, option_map, is_none, is_some, slice_get, if◌then◌else◌, true, false, Some, None};
 ghost use Rattle.std.specs.Option.{option_or};
 ghost use Rattle.std.specs.List.Sorted.{IsStrictlyIncreasing};
 ghost use Rattle.rail_model.specs.Checks.{below};
@@ -12,12 +12,15 @@ ghost use Rattle.zone_machine.specs.declared.steps.Step.TheVariants.{Release, Ta
 ghost use Rattle.zone_machine.specs.World.{trains_of as trains_in};
 ghost use Rattle.zone_machine.specs.Steps.{first_zone as least};
 ghost use Rattle.zone_machine.specs.Program.{rest_of, zones_left, next as step_after, next_aboard as step_aboard};
+ghost use Rattle.move_claim.specs.Claims.{claim_of, footprint_of};
+ghost use Rattle.zone_machine.specs.Needs.{table_of};
 
 use crate::control::unknown_position;
+use crate::kept_needs::kept_for;
 use crate::machine::Row;
 use crate::refusals::first_zone;
 use crate::{CONTROL, Core, Stage, Step};
-use move_claim::{Cell, Known};
+use move_claim::{Cell, Footprint, Known};
 use rail_model::{HasTable, trains_of, zones_of};
 use zone_locks::ZoneSet;
 
@@ -42,17 +45,18 @@ fn release_or(held: &ZoneSet, step: Step) -> Step
     }
 }
 
-// Whether the zones that are held begin those that are needed.
-fn has_begun(held: &ZoneSet, needed: &ZoneSet) -> bool
+// Whether the zones that are held begin those that are needed, of which this one is the first that isn't held.
+fn has_begun(held: &ZoneSet, needed: &ZoneSet, missing: Option<u32>) -> bool
     requires held { IsStrictlyIncreasing held.now }
     requires needed { IsStrictlyIncreasing needed.now }
+    requires missing { missing ≡ find (λ z. not (has z held.now)) needed.now }
     requires low { (z : ℕ) → has z needed.now ≡ true → z < 16 }
     ensures { result ≡ is_some (rest_of held.now needed.now) }
 {
     if held.first_outside(needed).is_some() {
         return false;
     }
-    match needed.first_outside(held) {
+    match missing {
         Some(zone) => held.first_from(zone).is_none(),
         None => true,
     }
@@ -66,8 +70,9 @@ fn zone_step(held: &ZoneSet, needed: &ZoneSet) -> Option<Step>
     ensures { result ≡ option_or (if is_none (rest_of held.now needed.now) then option_map (λ z. Release z) (least held.now) else None)
         (option_map (λ z. Take z) (least (zones_left held.now needed.now))) }
 {
-    if has_begun(held, needed) {
-        needed.first_outside(held).map(|zone| Step::Take { zone })
+    let missing = needed.first_outside(held);
+    if has_begun(held, needed, missing) {
+        missing.map(|zone| Step::Take { zone })
     } else {
         first_zone(held).map(|zone| Step::Release { zone })
     }
@@ -121,6 +126,27 @@ impl<'a, A: HasTable> Core<'a, A> {
         cell_step(self.first_unread(&row.known))
     }
 
+    // The next step of a driver that neither owes a cell nor is closing, glanced at this table and needs this.
+    fn next_by(&self, number: u32, row: &Row, table: u32, needs: &Footprint) -> Step
+        requires there { slice_get self.now.world.actors number ≡ Some row.now }
+        requires train { number < trains_in self.now.setup }
+        requires paid { row.now.owed ≡ [] }
+        requires still { row.now.closing ≡ false }
+        requires glance { row.now.glance ≡ Some table }
+        requires needs { needs.now ≡ footprint_of self.now.setup.layout (table_of self.now.setup table) (claim_of (table_of self.now.setup table) number row.now.position 1) }
+        ensures { Some result ≡ step_aboard self.now.setup number row.now }
+    {
+        // What holds of the core is known from here on.
+        let _ = &self.layout;
+        if let Some(step) = release_if(knows_other(&row.known, table), &row.held) {
+            return step;
+        }
+        if let Some(step) = zone_step(&row.held, needs.zones()) {
+            return step;
+        }
+        cell_step(row.known.first_unknown(needs.cells()))
+    }
+
     // The next step of a driver that neither owes a cell nor is closing.
     fn next_of_driver(&self, number: u32, row: &Row) -> Step
         requires there { slice_get self.now.world.actors number ≡ Some row.now }
@@ -134,14 +160,12 @@ impl<'a, A: HasTable> Core<'a, A> {
         let Some(table) = row.glance else {
             return release_or(&row.held, Step::Glance);
         };
-        if let Some(step) = release_if(knows_other(&row.known, table), &row.held) {
-            return step;
+        let place = row.position;
+        if let Some(needs) = kept_for(&self.kept, number, table, place, 1) {
+            return self.next_by(number, row, table, needs);
         }
-        let needs = self.needs(number, row.position, table, 1);
-        if let Some(step) = zone_step(&row.held, needs.zones()) {
-            return step;
-        }
-        cell_step(row.known.first_unknown(needs.cells()))
+        let needs = self.needs(number, place, table, 1);
+        self.next_by(number, row, table, &needs)
     }
 
     // The next step of an actor that is aboard.

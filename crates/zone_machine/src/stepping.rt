@@ -3,7 +3,7 @@ ghost use Rattle.std.specs.Prelude.{◌≡◌, ℕ, None, Some, true, slice_get,
 ghost use Rattle.rail_model.specs.Turns.{first_of};
 ghost use Rattle.zone_machine.specs.Calls.{Steps};
 ghost use Rattle.zone_machine.specs.Sound.{IsActor, IsSetup, Sound};
-ghost use Rattle.zone_machine.specs.declared.steps.Step.TheVariants.{Append as AppendStep, Block as BlockStep};
+ghost use Rattle.zone_machine.specs.declared.steps.Step.TheVariants.{Append as AppendStep, Block as BlockStep, Glance as GlanceStep};
 ghost use Rattle.zone_machine.specs.declared.steps.NotAllowed.TheVariants.{Held};
 ghost use Rattle.zone_machine.specs.Steps.{checks, first_zone as least, is_in_place as in_place, outcome, refusal as cause_of, step_of};
 ghost use Rattle.zone_machine.specs.World.{Setup, actor};
@@ -130,6 +130,18 @@ impl<'a, A: HasTable> Core<'a, A> {
         Seen::Block { ticket, reply }
     }
 
+    // An actor glances at the table's number, and what a driver needs under that table is kept.
+    fn glance_and_keep(&mut self, number: u32) -> Seen
+        requires { cause_of self.old.setup number self.old.world GlanceStep ≡ None }
+        ensures seen { result ≡ (outcome self.old.setup number self.old.world (actor self.old.world number) GlanceStep).0 }
+        ensures world { self.new.world ≡ (outcome self.old.setup number self.old.world (actor self.old.world number) GlanceStep).1 }
+        ensures setup { self.new.setup ≡ self.old.setup }
+    {
+        let seen = self.glance(number);
+        self.keep(number);
+        seen
+    }
+
     // Makes a step that is allowed.
     fn make(&mut self, number: u32, step: Step) -> Seen
         requires { cause_of self.old.setup number self.old.world step ≡ None }
@@ -139,7 +151,7 @@ impl<'a, A: HasTable> Core<'a, A> {
     {
         match step {
             Step::Board => self.board(number),
-            Step::Glance => self.glance(number),
+            Step::Glance => self.glance_and_keep(number),
             Step::Take { zone } => self.take(number, zone),
             Step::Read { cell } => self.read(number, cell),
             Step::Append => self.append(number),

@@ -26,7 +26,7 @@ moves_to-moves-requires-clause-trains g c =
     let row = c.row.inside in
     let a : Actor = record { stage = row.stage; held = row.held; known = row.known; owed = row.owed; closing = row.closing; claimed = row.claimed; glance = row.glance; position = row.position } in
     let t = told_at _ c.args.self.now c.self.invariant.0 c.self.view_is c.requires c.index_mut-row.result.now a c.index_mut-row.ensures.value c.row.view_is in
-    let positions_are : c.note_positions.new.positions ≡ known_positions S a = c.note_positions.ensures ∙ ap (λ n. map (λ i. number_in row.known (Position i)) (below n)) c.self.invariant.1.1 in
+    let positions_are : c.note_positions.new.positions ≡ known_positions S a = c.note_positions.ensures ∙ ap (λ n. map (λ i. number_in row.known (Position i)) (below n)) c.self.invariant.1.1.0 in
     let each = ap (λ (ps : List ℕ). length ps) positions_are ∙ t.one_each in
     let few = t.few_trains in
     (t.few_places, omega arith)
@@ -38,7 +38,7 @@ moves_to-moves-requires-clause-small g c =
     let row = c.row.inside in
     let a : Actor = record { stage = row.stage; held = row.held; known = row.known; owed = row.owed; closing = row.closing; claimed = row.claimed; glance = row.glance; position = row.position } in
     let t = told_at _ c.args.self.now c.self.invariant.0 c.self.view_is c.requires c.index_mut-row.result.now a c.index_mut-row.ensures.value c.row.view_is in
-    let positions_are : c.note_positions.new.positions ≡ known_positions S a = c.note_positions.ensures ∙ ap (λ n. map (λ i. number_in row.known (Position i)) (below n)) c.self.invariant.1.1 in
+    let positions_are : c.note_positions.new.positions ≡ known_positions S a = c.note_positions.ensures ∙ ap (λ n. map (λ i. number_in row.known (Position i)) (below n)) c.self.invariant.1.1.0 in
     let few : moves_to S c.note_positions.new.positions ≤ 4064 = subst (λ ps. moves_to S ps ≤ 4064) (sym positions_are) t.few_moves in
     omega arith
 
@@ -92,7 +92,7 @@ tell-told-requires-clause-legal g c =
     let row = c.row.inside in
     let a : Actor = record { stage = row.stage; held = row.held; known = row.known; owed = row.owed; closing = row.closing; claimed = row.claimed; glance = row.glance; position = row.position } in
     let t = told_at _ c.args.self.now c.self.invariant.0 c.self.view_is c.requires c.index_mut-row.result.now a c.index_mut-row.ensures.value c.row.view_is in
-    let positions_are : c.note_positions.new.positions ≡ known_positions S a = c.note_positions.ensures ∙ ap (λ n. map (λ i. number_in row.known (Position i)) (below n)) c.self.invariant.1.1 in
+    let positions_are : c.note_positions.new.positions ≡ known_positions S a = c.note_positions.ensures ∙ ap (λ n. map (λ i. number_in row.known (Position i)) (below n)) c.self.invariant.1.1.0 in
     let table_is : c.unwrap_or-table.result ≡ known_table a = c.unwrap_or-table.ensures ∙ ap (λ (o : Option ℕ). unwrap_or o 0) c.number.ensures in
     let long = length-map c.self.inside.tables.now g.A.HasTable.offer in
     let here = t.table in
@@ -109,7 +109,7 @@ tell_control-requires-clause-legal g c =
     let row = c.row.inside in
     let a : Actor = record { stage = row.stage; held = row.held; known = row.known; owed = row.owed; closing = row.closing; claimed = row.claimed; glance = row.glance; position = row.position } in
     let t = told_at _ c.args.self.now c.self.invariant.0 c.self.view_is c.requires c.index_mut-row.result.now a c.index_mut-row.ensures.value c.row.view_is in
-    let positions_are : c.note_positions.new.positions ≡ known_positions S a = c.note_positions.ensures ∙ ap (λ n. map (λ i. number_in row.known (Position i)) (below n)) c.self.invariant.1.1 in
+    let positions_are : c.note_positions.new.positions ≡ known_positions S a = c.note_positions.ensures ∙ ap (λ n. map (λ i. number_in row.known (Position i)) (below n)) c.self.invariant.1.1.0 in
     let table_is : c.unwrap_or-table.result ≡ known_table a = c.unwrap_or-table.ensures ∙ ap (λ (o : Option ℕ). unwrap_or o 0) c.number.ensures in
     let long = length-map c.self.inside.tables.now g.A.HasTable.offer in
     let here = t.table in
@@ -129,7 +129,7 @@ invariant_of-self g c =
     let row = c.row.inside in
     let a : Actor = record { stage = row.stage; held = row.held; known = row.known; owed = row.owed; closing = row.closing; claimed = row.claimed; glance = row.glance; position = row.position } in
     let t = told_at _ c.args.self.now c.self.invariant.0 c.self.view_is c.requires c.index_mut-row.result.now a c.index_mut-row.ensures.value c.row.view_is in
-    let positions_are : c.note_positions.new.positions ≡ known_positions S a = c.note_positions.ensures ∙ ap (λ n. map (λ i. number_in row.known (Position i)) (below n)) c.self.invariant.1.1 in
+    let positions_are : c.note_positions.new.positions ≡ known_positions S a = c.note_positions.ensures ∙ ap (λ n. map (λ i. number_in row.known (Position i)) (below n)) c.self.invariant.1.1.0 in
     let table_is : c.unwrap_or-table.result ≡ known_table a = c.unwrap_or-table.ensures ∙ ap (λ (o : Option ℕ). unwrap_or o 0) c.number.ensures in
     let long = length-map c.self.inside.tables.now g.A.HasTable.offer in
     let here = t.table in
@@ -146,7 +146,7 @@ invariant_of-self g c =
     let make : Actor → World = λ x. after_control S control world x in
     let last_is = control_world S world a c.table.result.now (g.A.HasTable.offer c.index-tables-row.result) c.note_positions.new.positions c.moves_to-moves.result c.tell-told.result old_is next_is positions_are c.moves_to-moves.ensures c.tell-told.ensures c.len.result c.push_reserved.new.self.items c.tell_control.new.row c.push_reserved.ensures.items word_is row_is in (
       leaves_as _ c.args.self.now control Append c.self.invariant.0 c.self.view_is c.requires c.index_mut-row.result.now a c.index_mut-row.ensures.value c.row.view_is make refl _ last_is,
-      (search rules, ap (λ (ps : List ℕ). length ps) positions_are ∙ t.one_each),
+      (search rules, (ap (λ (ps : List ℕ). length ps) positions_are ∙ t.one_each, c.self.invariant.1.1.1)),
     )
 
 pub returns-clause-told : goal.returns-clause-told
@@ -156,7 +156,7 @@ returns-clause-told g c =
     let row = c.row.inside in
     let a : Actor = record { stage = row.stage; held = row.held; known = row.known; owed = row.owed; closing = row.closing; claimed = row.claimed; glance = row.glance; position = row.position } in
     let t = told_at _ c.args.self.now c.self.invariant.0 c.self.view_is c.requires c.index_mut-row.result.now a c.index_mut-row.ensures.value c.row.view_is in
-    let positions_are : c.note_positions.new.positions ≡ known_positions S a = c.note_positions.ensures ∙ ap (λ n. map (λ i. number_in row.known (Position i)) (below n)) c.self.invariant.1.1 in
+    let positions_are : c.note_positions.new.positions ≡ known_positions S a = c.note_positions.ensures ∙ ap (λ n. map (λ i. number_in row.known (Position i)) (below n)) c.self.invariant.1.1.0 in
     let table_is : c.unwrap_or-table.result ≡ known_table a = c.unwrap_or-table.ensures ∙ ap (λ (o : Option ℕ). unwrap_or o 0) c.number.ensures in
     let long = length-map c.self.inside.tables.now g.A.HasTable.offer in
     let here = t.table in
@@ -176,7 +176,7 @@ returns-clause-world g c =
     let row = c.row.inside in
     let a : Actor = record { stage = row.stage; held = row.held; known = row.known; owed = row.owed; closing = row.closing; claimed = row.claimed; glance = row.glance; position = row.position } in
     let t = told_at _ c.args.self.now c.self.invariant.0 c.self.view_is c.requires c.index_mut-row.result.now a c.index_mut-row.ensures.value c.row.view_is in
-    let positions_are : c.note_positions.new.positions ≡ known_positions S a = c.note_positions.ensures ∙ ap (λ n. map (λ i. number_in row.known (Position i)) (below n)) c.self.invariant.1.1 in
+    let positions_are : c.note_positions.new.positions ≡ known_positions S a = c.note_positions.ensures ∙ ap (λ n. map (λ i. number_in row.known (Position i)) (below n)) c.self.invariant.1.1.0 in
     let table_is : c.unwrap_or-table.result ≡ known_table a = c.unwrap_or-table.ensures ∙ ap (λ (o : Option ℕ). unwrap_or o 0) c.number.ensures in
     let long = length-map c.self.inside.tables.now g.A.HasTable.offer in
     let here = t.table in

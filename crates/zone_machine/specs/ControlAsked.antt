@@ -1,4 +1,4 @@
--- What the code asks of the control that adds its entry.
+-- What holds of the control where the core lets it add its entry.
 use Rattle.std.specs.Prelude.{◌≡◌, ◌+◌, ◌<◌, ◌≤◌, length}
 use Rattle.rail_model.specs.declared.types.Tried.TheVariants.{Exchanged}
 use Rattle.rail_model.specs.Table.{trains}

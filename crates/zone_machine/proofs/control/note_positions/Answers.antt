@@ -2,9 +2,9 @@ use Rattle.std.proofs.Common.{length, arith}
 use Rattle.std.proofs.lemmas.List.FromFn.{fill_by_all}
 use Rattle.move_claim.specs.declared.cells.Cell.TheVariants.{Position}
 use Rattle.move_claim.specs.Cells.{number_in}
-use Rattle.zone_machine.proofs.control.write_positions.Goals as goal
+use Rattle.zone_machine.proofs.control.note_positions.Goals as goal
 
 pub returns : goal.returns
 returns c =
-    fill_by_all (λ i. number_in c.args.known.now (Position i)) c.loop-train.places.items (length c.args.places.now.items) 0 c.loop-train.invariant.one_each
+    fill_by_all (λ i. number_in c.args.known.now (Position i)) c.loop-train.positions (length c.args.positions.now) 0 c.loop-train.invariant.one_each
     (λ k lt. c.loop-train.invariant.written k (omega arith))
