@@ -1,0 +1,5 @@
+pub mod Counted
+pub mod Heads
+pub mod Histories
+pub mod Next
+mod Rows
