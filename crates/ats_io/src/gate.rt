@@ -1,5 +1,5 @@
-// Where a pass calls out while it works, so that a test can hold it there. No call of this repository takes a gate: it is kept for callers
-// that run trains by threads, each thread a pass that takes zones, reads and writes numbers, and gives the zones back.
+// Where a pass of a shared yard calls out while it takes zones, reads and writes numbers and gives the zones back, so that a test can hold
+// it there.
 
 /// A moment of a pass at the shared yard.
 #[derive(Clone, Copy, Debug, PartialEq, Eq)]

@@ -43,7 +43,7 @@ pub struct WriteFault;
 ///
 /// # Errors
 ///
-/// More bytes than that; a fault of the source; want of memory.
+/// More bytes than that; a fault of the source; out of memory.
 pub fn read_all<S: Source>(alloc: Global, source: &mut S, limit: usize) -> Result<Vec<u8>, ReadAll>
     ensures bytes { IfOk result (λ bytes. IfSome (S.left source.old) (λ all. bytes.items ≡ all)) }
     ensures end { OnOk result (IsAtEnd (S.left source.new)) }

@@ -1,0 +1,93 @@
+-- What a request for a block leaves of its driver.
+use Rattle.std.proofs.Common.{◌≡◌, ℕ, suc, ◌+◌, ◌<◌, ◌≤◌, ◌^◌, List, length, true, sym, ap, ◌∙◌, subst, arith, length-append}
+use Rattle.std.proofs.lemmas.List.{length-replicate}
+use Rattle.atomic_table.specs.Seated.{TableId}
+use Rattle.rail_model.specs.declared.types.BlockAsk.{BlockAsk}
+use Rattle.rail_model.specs.declared.types.BlockAsk.TheVariants as block
+use Rattle.rail_model.specs.declared.types.Ask.TheVariants.{Yes}
+use Rattle.rail_model.specs.declared.types.Reply.{Reply}
+use Rattle.rail_model.specs.declared.types.Reply.TheVariants.{Driver}
+use Rattle.rail_model.specs.Table.{Table, trains}
+use Rattle.rail_model.specs.Yard.{offer}
+use Rattle.zone_locks.specs.Zones.{has}
+use Rattle.move_claim.specs.declared.claims.Claim.{Claim}
+use Rattle.move_claim.specs.Claims.{zones_of}
+use Rattle.zone_yard.specs.declared.requests.Attempt.{Attempt}
+use Rattle.zone_yard.specs.declared.requests.Attempt.TheVariants.{Told, Busy}
+use Rattle.zone_yard.specs.Setup.{Setup, SharedYard, IsLegalHistory}
+use Rattle.zone_yard.specs.Passes.{told, receipts_from}
+use Rattle.zone_yard.specs.Blocks.{replies_of, granted_steps}
+use Rattle.zone_yard.specs.Asked.{Asked}
+use Rattle.zone_yard.specs.Views.{pass_of}
+use Rattle.zone_yard.specs.Tells.{Sat}
+use Rattle.zone_yard.specs.Aboard.{IsDriver, IsPass, IsIdle}
+use Rattle.zone_yard.specs.Attempts.{Since, IsToldBlock, Asks}
+use Rattle.zone_yard.proofs.BlockEntries.{told_long}
+use Rattle.zone_yard.proofs.Entered.{length-receipts}
+use Rattle.zone_yard.proofs.Replied.{same_claim}
+
+-- an answer to some steps has no more replies than steps
+few_replies : (n most : ℕ) (answer : BlockAsk) → n ≤ most → 1 ≤ most → length (replies_of n answer) ≤ most
+few_replies n most block.Yes le some = let long = length-replicate n (Driver Yes) in omega (arith, le, long)
+few_replies n most (block.First ask) le some = some
+few_replies n most (block.NotWhole step ask) le some = some
+
+module _ (id : TableId) (train position entries : ℕ) (old new : Sat) (driver : IsDriver train position entries old) where
+  pass : IsPass train position entries old
+  pass = driver.pass
+
+  pub driver_told : (asked steps ticket : ℕ) (answer : BlockAsk) → 1 ≤ asked → length old.0.mine + asked ≤ old.0.setup.calls → IsToldBlock id asked answer steps ticket old new
+      → IsDriver train (position + granted_steps steps answer) (entries + length (replies_of steps answer)) new
+  driver_told asked steps ticket answer some room h =
+      let e = h.0.entered in
+      let replies : List Reply = replies_of steps answer in
+      let made : new.0.setup ≡ old.0.setup = ap (λ (y : SharedYard). y.setup) e.yard in
+      let long : length new.0.mine ≡ length old.0.mine + length replies =
+      ap length e.mine ∙ (length-append old.0.mine (receipts_from ticket (told old.0.number replies))
+      ∙ ap (λ n. length old.0.mine + n) (length-receipts ticket (told old.0.number replies) ∙ told_long old.0.number replies)) in
+      let few : length replies ≤ asked = (let r = h.0.remain in few_replies steps asked answer (omega (arith, r)) some) in
+      record {
+        pass = record {
+          aboard = h.1.aboard;
+          number_is = e.number ∙ pass.number_is;
+          idle = subst (λ a. IsIdle (a + granted_steps steps answer) new.0.actor) pass.idle.stands h.1.idle;
+          made = long ∙ ap (λ n. n + length replies) pass.made;
+          room = subst (λ (S : Setup). entries + length replies ≤ S.calls) (sym made) (let was = pass.made in omega (arith, few, room, was));
+          few_calls = subst (λ (S : Setup). S.calls < 2 ^ 32) (sym made) pass.few_calls;
+          legal = subst (λ (S : Setup). IsLegalHistory S new.0.seen) (sym made) e.legal;
+          slots = h.1.slots ∙ pass.slots;
+        };
+        named = subst (λ (S : Setup). train < trains (offer S.tables 0).table) (sym made) driver.named;
+      }
+
+  pub driver_tried : Since old new → IsDriver train position entries new
+  driver_tried s = subst (IsDriver train position entries) (sym s.now) record {
+    pass = record {
+      aboard = pass.aboard;
+      number_is = pass.number_is;
+      idle = record { stage = pass.idle.stage; held = pass.idle.held; known = pass.idle.known; owed = pass.idle.owed; still = pass.idle.still; stands = pass.idle.stands };
+      made = pass.made;
+      room = pass.room;
+      few_calls = pass.few_calls;
+      legal = pass.legal;
+      slots = pass.slots;
+    };
+    named = driver.named;
+  }
+
+  -- what contracts see of it
+  pub asks_asked : (asked : ℕ) (attempt : Attempt) → 1 ≤ asked → length old.0.mine + asked ≤ old.0.setup.calls → Asks id asked old attempt new
+      → Asked asked (pass_of id old.0) attempt (pass_of id new.0)
+  asks_asked asked (Told answer steps ticket) some room h = h.0
+  asks_asked asked (Busy zone holder) some room t =
+      let T : Table = (offer old.0.setup.tables t.table).table in
+      record {
+        earlier = t.earlier;
+        glanced = t.table;
+        tries = t.tries;
+        another = λ same. t.another.1 (ap suc same);
+        listed = t.listed;
+        needed = subst (λ (c : Claim). has zone (zones_of old.0.setup.layout T c) ≡ true) (same_claim (pass_of id old.0) asked asked (omega (arith, some, room)) (omega (arith, room)) T) t.needed;
+        rest = ap (λ (m : Sat). pass_of id m.0) t.since.now;
+        free = (ap (λ (m : Sat). m.0.actor.held) t.since.now ∙ pass.idle.held, ap (λ (m : Sat). m.0.actor.owed) t.since.now ∙ pass.idle.owed);
+      }

@@ -1,0 +1,37 @@
+-- No train is further than place 127.
+use Rattle.std.proofs.Common.{◌≡◌, ◌≢◌, ℕ, ◌+◌, ◌<◌, ◌≤◌, ◌^◌, List, sym, ap, ◌∙◌, subst, arith, ne_eqb}
+use Rattle.atomic_table.specs.Seated.{TableId}
+use Rattle.rail_model.specs.declared.types.BlockAsk.{BlockAsk}
+use Rattle.rail_model.specs.declared.types.Entry.{Entry}
+use Rattle.rail_model.specs.Table.{trains}
+use Rattle.rail_model.specs.Yard.{Yard, offer, control}
+use Rattle.table_exchange.proofs.Histories.{stands_history}
+use Rattle.zone_machine.specs.Sound.{IsSetup as IsCoreSetup}
+use Rattle.zone_yard.specs.Setup.{Setup, core, state_after, IsLegalHistory}
+use Rattle.zone_yard.specs.Passes.{standing}
+use Rattle.zone_yard.specs.Blocks.{granted_steps}
+use Rattle.zone_yard.specs.Tells.{Sat}
+use Rattle.zone_yard.specs.Attempts.{IsToldBlock}
+
+pub low_place : (S : Setup) (H : List Entry) (p : ℕ) → IsCoreSetup (core S) → IsLegalHistory S H → p < trains (offer S.tables 0).table
+    → standing (state_after S H) p ≤ 127
+low_place S H p made legal train =
+    let y : Yard = state_after S H in
+    let stands = stands_history S.tables S.opening.yard H made.tables made.opening legal in
+    let formed = made.formed y.table stands.in_range in
+    let few = (made.formed 0 made.tables.some).few_trains in
+    let same = made.tables.same y.table stands.in_range in
+    let there : p < trains (offer S.tables y.table).table = omega (arith, train, same) in
+    let driver : p ≢ control = λ e. absurd (omega (arith, e, train, few)) in
+    let reached = stands.legal.in_range p there in
+    let short = (formed.missions p there).few_places in
+    rw (ne_eqb p control driver) (omega (arith, reached, short))
+
+-- a driver that was told this is no further than that
+pub low_told : (S : Setup) (id : TableId) (asked steps ticket p position : ℕ) (answer : BlockAsk) (old new : Sat) → IsCoreSetup (core S) → old.0.setup ≡ S → old.0.number ≡ p
+    → p < trains (offer old.0.setup.tables 0).table → old.0.actor.position ≡ position → IsToldBlock id asked answer steps ticket old new → position + granted_steps steps answer < 2 ^ 32
+low_told S id asked steps ticket p position answer old new made same number train at h =
+    let low = low_place old.0.setup new.0.seen p (subst (λ (T : Setup). IsCoreSetup (core T)) (sym same) made) h.0.entered.legal train in
+    let is : position + granted_steps steps answer ≡ standing (state_after old.0.setup new.0.seen) p =
+    ap (λ a. a + granted_steps steps answer) (sym at) ∙ (sym h.1.idle.stands ∙ (h.0.entered.stands ∙ ap (standing (state_after old.0.setup new.0.seen)) (h.0.entered.number ∙ number))) in
+    omega (arith, low, is)

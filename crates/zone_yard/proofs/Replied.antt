@@ -1,0 +1,88 @@
+-- From what a request was told to its reply.
+use Rattle.std.proofs.Common.{◌≡◌, ℕ, zero, suc, ◌-◌, ◌<◌, ◌≤◌, List, [], ◌∷◌, ◌++◌, length, min, refl, ap, ◌∙◌, subst, arith, append_assoc}
+use Rattle.rail_model.specs.declared.types.Ask.{Ask}
+use Rattle.rail_model.specs.declared.types.Ask.TheVariants as ask
+use Rattle.rail_model.specs.declared.types.BlockAsk.{BlockAsk}
+use Rattle.rail_model.specs.declared.types.BlockAsk.TheVariants as block
+use Rattle.rail_model.specs.declared.types.Reply.TheVariants.{Driver}
+use Rattle.rail_model.specs.Table.{Table, last}
+use Rattle.rail_model.specs.Yard.{in_force}
+use Rattle.move_claim.specs.Claims.{claim_of}
+use Rattle.move_claim.specs.Deciding.{one_ask}
+use Rattle.zone_yard.specs.Setup.{state_after, IsLegalHistory}
+use Rattle.zone_yard.specs.Passes.{Pass, StartsWith, told, receipts_from, standing}
+use Rattle.zone_yard.specs.Entering.{Enters, HasRoom}
+use Rattle.zone_yard.specs.Blocks.{replies_of, CanAnswer, IsAnswered, steps_left}
+use Rattle.zone_yard.specs.Replies.{asked_steps, reply_to, block_reply_to, IsTold, Replies, BlockReplies}
+
+pub replies_to : (old new : Pass) (ticket : ℕ) (answer : Ask) → IsTold old ticket answer new → Replies old (reply_to ticket answer) new
+replies_to old new ticket ask.Yes h = h
+replies_to old new ticket ask.Arrived h = h
+replies_to old new ticket (ask.Occupied by) h = h
+replies_to old new ticket (ask.Full s n) h = h
+replies_to old new ticket (ask.Waits c) h = h
+
+-- the answer to one step is one reply
+one_reply : (n : ℕ) (answer : BlockAsk) → n ≤ 1 → CanAnswer n answer → replies_of n answer ≡ Driver (one_ask answer) ∷ []
+one_reply zero block.Yes le can = absurd (omega (arith, can))
+one_reply (suc zero) block.Yes le can = refl
+one_reply (suc (suc n)) block.Yes le can = absurd (omega (arith, le))
+one_reply n (block.First a) le can = refl
+one_reply n (block.NotWhole step a) le can = absurd (omega (arith, le, can.0, can.1))
+
+pub answers_one : (old new : Pass) (steps ticket : ℕ) (answer : BlockAsk) → HasRoom old → IsAnswered 1 answer steps ticket old new → Replies old (reply_to ticket (one_ask answer)) new
+answers_one old new steps ticket answer room a =
+    let few : steps ≤ 1 = (let e = a.remain in omega (arith, e)) in
+    replies_to old new ticket (one_ask answer) (room, subst (λ l. Enters ticket l old new) (one_reply steps answer few a.can) a.entered)
+
+-- A pass asks for what it wants, but for no more steps than it has entries left.
+module _ (pass : Pass) (want asked : ℕ) (room : HasRoom pass) (is : asked ≡ min want (pass.yard.setup.calls - length pass.mine)) where
+  -- the steps are the same under each table
+  pub same_claim : (T : Table) → claim_of T pass.number pass.position asked ≡ claim_of T pass.number pass.position (asked_steps T pass want)
+  same_claim T =
+      let same : min asked (last T pass.number - pass.position) ≡ min (asked_steps T pass want) (last T pass.number - pass.position) = omega (arith, room, is) in
+      ap (λ n. record { train = pass.number; place = pass.position; steps = n }) same
+
+  -- where some steps remain, they are all that are asked for
+  some_asked : (T : Table) (steps : ℕ) → 0 < steps → steps ≡ (claim_of T pass.number pass.position asked).steps → steps ≡ asked_steps T pass want
+  some_asked T steps some e = omega (arith, room, is, some, e)
+
+  pub answers_block : (new : Pass) (steps ticket : ℕ) (answer : BlockAsk) → IsAnswered asked answer steps ticket pass new → BlockReplies want pass (block_reply_to ticket steps answer) new
+  answers_block new steps ticket block.Yes a =
+      (room, (a.entered, some_asked (in_force pass.yard.setup.tables (state_after pass.yard.setup a.entered.before)) steps a.can a.remain))
+  answers_block new steps ticket (block.NotWhole step x) a =
+      let can = a.can in
+      let all = some_asked (in_force pass.yard.setup.tables (state_after pass.yard.setup a.entered.before)) steps (omega (arith, can.1)) a.remain in
+      (room, (a.entered, omega (arith, can.1, all)))
+  answers_block new steps ticket (block.First ask.Yes) a = absurd (a.can refl)
+  answers_block new steps ticket (block.First ask.Arrived) a = (room, a.entered)
+  answers_block new steps ticket (block.First (ask.Occupied by)) a = (room, a.entered)
+  answers_block new steps ticket (block.First (ask.Full s n)) a = (room, a.entered)
+  answers_block new steps ticket (block.First (ask.Waits c)) a = (room, a.entered)
+
+pub starts_on : {A : Type 0} (c b a : List A) → StartsWith c b → StartsWith b a → StartsWith c a
+starts_on c b a h k = (k.0 ++ h.0, h.1 ∙ (ap (λ l. l ++ h.0) k.1 ∙ append_assoc a k.0 h.0))
+
+-- what was answered since only tries were added
+pub answered_since : (asked steps ticket : ℕ) (answer : BlockAsk) (old m new : Pass) → m ≡ record old { tries = m.tries } → StartsWith m.tries old.tries
+    → IsAnswered asked answer steps ticket m new → IsAnswered asked answer steps ticket old new
+answered_since asked steps ticket answer old m new same tries a =
+    let e = a.entered in
+    record {
+      entered = record {
+        before = e.before;
+        begins = subst (λ (x : Pass). StartsWith e.before x.seen) same e.begins;
+        counted = e.counted;
+        seen = e.seen ∙ ap (λ (x : Pass). e.before ++ told x.number (replies_of steps answer)) same;
+        legal = subst (λ (x : Pass). IsLegalHistory x.yard.setup new.seen) same e.legal;
+        mine = e.mine ∙ ap (λ (x : Pass). x.mine ++ receipts_from ticket (told x.number (replies_of steps answer))) same;
+        own = e.own;
+        stands = e.stands ∙ ap (λ (x : Pass). standing (state_after x.yard.setup new.seen) new.number) same;
+        number = e.number ∙ ap (λ (x : Pass). x.number) same;
+        yard = e.yard ∙ ap (λ (x : Pass). x.yard) same;
+        tries = starts_on new.tries m.tries old.tries e.tries tries;
+        free = e.free;
+      };
+      remain = a.remain ∙ ap (λ (x : Pass). steps_left x e.before asked) same;
+      can = a.can;
+    }

@@ -1,0 +1,182 @@
+-- Rows: what the answers of requests and exchanges say on small yards, and wrong answers that they refuse.
+use Rattle.std.proofs.Common.{◌≡◌, ℕ, zero, suc, ◌<◌, List, [], ◌∷◌, ◌++◌, length, true, true≢false, Some, ℤ, pos, ◌≤ℤ◌, refl, sym, subst, arith, lit<, lit≤, inl}
+use Rattle.std.proofs.lemmas.Int.{ints}
+use Rattle.rail_model.specs.declared.types.Ask.TheVariants.{Occupied}
+use Rattle.rail_model.specs.declared.types.Tried.TheVariants.{Exchanged, Early}
+use Rattle.rail_model.specs.declared.types.Reply.TheVariants.{Driver, Control}
+use Rattle.rail_model.specs.declared.types.Entry.{Entry}
+use Rattle.rail_model.specs.declared.types.Line.TheVariants.{Move as MoveLine, Table as TableLine}
+use Rattle.rail_model.specs.Table.{Table}
+use Rattle.rail_model.specs.Move.{Move, advance}
+use Rattle.rail_model.specs.Yard.{IsHistory, IsAnswer}
+use Rattle.rail_model.specs.Lines.{journal_of}
+use Rattle.rail_model.proofs.MoveTests.{is_move, Decides-move}
+use Rattle.rail_model.proofs.Told.{told as admits}
+use Rattle.zone_locks.specs.Zones.{has}
+use Rattle.zone_yard.specs.declared.replies.Reply.TheVariants as one
+use Rattle.zone_yard.specs.declared.replies.Turn.TheVariants as turn
+use Rattle.zone_yard.specs.Setup.{SharedYard}
+use Rattle.zone_yard.specs.Passes.{Pass}
+use Rattle.zone_yard.specs.Replies.{Replies, Turns, needed_zones}
+use Rattle.zone_yard.proofs.Samples.{table_of, boarded, yes, four_zones, one_zone, two_tables}
+
+-- a move that the checker computes
+pub goes : (T : Table) (p : List ℕ) (i : ℕ) → is_move T p i ≡ true → Move T p i (advance p i)
+goes T p i h = (Decides-move T p i).0 h
+
+pub nothing : {A : Type 0} (xs : List A) → length xs ≡ 0 → xs ≡ []
+nothing [] e = refl
+nothing (x ∷ xs) e = absurd (omega arith)
+
+-- E to F while A to B holds both its zones
+abbrev pub found_held : Pass
+found_held = record (boarded (four_zones 9) 2) { tries = record { zone = 1; found = 1; glanced = 0 } ∷ [] }
+
+busy : Replies (boarded (four_zones 9) 2) (one.Busy 1 0) found_held
+busy = (lit< tt, record { earlier = []; glanced = 0; tries = refl; another = (λ e. cc); listed = lit< tt; needed = refl; rest = refl; free = (refl, refl) })
+
+-- a pass isn't held up by itself, nor at a zone that it doesn't need
+not_itself : (new : Pass) → Replies (boarded (four_zones 9) 2) (one.Busy 1 2) new → ⊥
+not_itself new r = r.1.another refl
+
+not_there : (new : Pass) → Replies (boarded (four_zones 9) 2) (one.Busy 2 0) new → ⊥
+not_there new r = go r.1.glanced r.1.listed r.1.needed
+  where
+    go : (g : ℕ) → g < 1 → has 2 (needed_zones (boarded (four_zones 9) 2) g 1) ≡ true → ⊥
+    go zero lt h = true≢false (sym h)
+    go (suc g) lt h = omega (arith, lt)
+
+-- the pass after its first grant, where so much was seen before
+abbrev pub granted_after : SharedYard → ℕ → List Entry → Pass
+granted_after yard p before = record (boarded yard p) {
+  position = 1;
+  seen = before ++ yes p ∷ [];
+  mine = record { ticket = length before; entry = yes p } ∷ [];
+}
+
+first_grant : Replies (boarded one_zone 0) (one.Granted 0) (granted_after one_zone 0 [])
+first_grant = (
+  lit< tt,
+  record {
+    before = [];
+    begins = ([], refl);
+    counted = refl;
+    seen = refl;
+    legal = ((lit< tt, goes (table_of ((0 ∷ 1 ∷ []) ∷ (2 ∷ 3 ∷ []) ∷ [])) (0 ∷ 0 ∷ []) 0 refl), tt);
+    mine = refl;
+    own = refl;
+    stands = refl;
+    number = refl;
+    yard = refl;
+    tries = ([], refl);
+    free = (refl, refl);
+  },
+)
+
+-- C to D is granted at ticket 1, after the other train's grant, of which its pass had not heard
+second_grant : Replies (boarded one_zone 1) (one.Granted 1) (granted_after one_zone 1 (yes 0 ∷ []))
+second_grant = (
+  lit< tt,
+  record {
+    before = yes 0 ∷ [];
+    begins = (yes 0 ∷ [], refl);
+    counted = refl;
+    seen = refl;
+    legal = (
+      (lit< tt, goes (table_of ((0 ∷ 1 ∷ []) ∷ (2 ∷ 3 ∷ []) ∷ [])) (0 ∷ 0 ∷ []) 0 refl),
+      ((lit< tt, goes (table_of ((0 ∷ 1 ∷ []) ∷ (2 ∷ 3 ∷ []) ∷ [])) (1 ∷ 0 ∷ []) 1 refl), tt),
+    );
+    mine = refl;
+    own = refl;
+    stands = refl;
+    number = refl;
+    yard = refl;
+    tries = ([], refl);
+    free = (refl, refl);
+  },
+)
+
+-- the first answer of all can't be that the other train is in the way
+not_occupied : (new : Pass) → Replies (boarded one_zone 0) (one.Occupied 0 1) new → ⊥
+not_occupied new r =
+    let e = r.1 in
+    let none : e.before ≡ [] = nothing e.before e.counted in
+    let told = subst (λ H. IsHistory one_zone.setup.tables one_zone.setup.opening.yard (H ++ record { who = 0; reply = Driver (Occupied 1) } ∷ [])) none
+    (subst (IsHistory one_zone.setup.tables one_zone.setup.opening.yard) e.seen e.legal) in
+    let by = told.0.1.1 in
+    absurd (cc (by.2.1, by.2.2))
+
+-- a pass that may make one entry has made it
+abbrev pub one_made : Pass
+one_made = granted_after (four_zones 1) 0 []
+
+spent : Replies one_made one.Spent one_made
+spent = (refl, (refl, (refl, refl)))
+
+not_yet_spent : (new : Pass) → Replies (boarded (four_zones 1) 0) one.Spent new → ⊥
+not_yet_spent new r = cc r.0
+
+-- the second table is due at once, and takes over before the train has asked
+abbrev pub exchange : Entry
+exchange = record { who = 32; reply = Control Exchanged }
+
+abbrev pub exchanged : Pass
+exchanged = record (boarded two_tables 32) { position = 1; seen = exchange ∷ []; mine = record { ticket = 0; entry = exchange } ∷ [] }
+
+takes_over : IsAnswer two_tables.setup.tables two_tables.setup.opening.yard exchange
+takes_over = (refl, lit< tt, ((lit< tt, inl (lit≤ tt)), admits (table_of ((0 ∷ 1 ∷ []) ∷ [])) (table_of ((0 ∷ 2 ∷ []) ∷ [])) (0 ∷ []) (λ s. low _ refl)))
+  where
+    low : (z : ℤ) → z ≡ pos 0 → pos 0 ≤ℤ z
+    low z e = omega (arith, ints)
+
+turned : Turns (boarded two_tables 32) (turn.Exchanged 0) exchanged
+turned = (
+  lit< tt,
+  lit< tt,
+  record {
+    before = [];
+    begins = ([], refl);
+    counted = refl;
+    seen = refl;
+    legal = (takes_over, tt);
+    mine = refl;
+    own = refl;
+    stands = refl;
+    number = refl;
+    yard = refl;
+    tries = ([], refl);
+    free = (refl, refl);
+  },
+)
+
+-- a table that is due isn't told that it is early
+not_early : (new : Pass) → Turns (boarded two_tables 32) (turn.Early 0 0) new → ⊥
+not_early new r =
+    let e = r.2 in
+    let none : e.before ≡ [] = nothing e.before e.counted in
+    let told = subst (λ H. IsHistory two_tables.setup.tables two_tables.setup.opening.yard (H ++ record { who = 32; reply = Control (Early 0) } ∷ [])) none
+    (subst (IsHistory two_tables.setup.tables two_tables.setup.opening.yard) e.seen e.legal) in
+    told.0.2.2 (lit< tt, inl (lit≤ tt))
+
+-- the train, which glanced the first table, is then led by the second
+after_exchange : Replies (boarded two_tables 0) (one.Granted 1) (granted_after two_tables 0 (exchange ∷ []))
+after_exchange = (
+  lit< tt,
+  record {
+    before = exchange ∷ [];
+    begins = (exchange ∷ [], refl);
+    counted = refl;
+    seen = refl;
+    legal = (takes_over, ((lit< tt, goes (table_of ((0 ∷ 2 ∷ []) ∷ [])) (0 ∷ []) 0 refl), tt));
+    mine = refl;
+    own = refl;
+    stands = refl;
+    number = refl;
+    yard = refl;
+    tries = ([], refl);
+    free = (refl, refl);
+  },
+)
+
+printed : journal_of two_tables.setup.tables two_tables.setup.opening.yard (exchange ∷ yes 0 ∷ []) ≡ TableLine 1 ∷ MoveLine 0 0 (Some 2) ∷ []
+printed = refl

@@ -1,0 +1,96 @@
+-- Rows of seats: what a driver's seat keeps between calls, and what its tries at a step leave.
+use Rattle.std.proofs.Common.{◌≡◌, ℕ, [], ◌∷◌, Some, refl, arith, lit<, lit≤}
+use Rattle.rail_model.specs.declared.types.Ask.TheVariants.{Occupied}
+use Rattle.rail_model.specs.declared.types.BlockAsk.TheVariants.{Yes, First, NotWhole}
+use Rattle.zone_yard.specs.Blocks.{granted_steps}
+use Rattle.zone_yard.specs.Setup.{SharedYard}
+use Rattle.zone_yard.specs.Views.{root_view, pass_view}
+use Rattle.zone_yard.specs.Tells.{Sat}
+use Rattle.zone_yard.specs.Aboard.{IsDriver}
+use Rattle.zone_yard.specs.Attempts.{Refuses, Moves, Since, TurnsAway}
+use Rattle.zone_yard.proofs.Samples.{four_zones, one_zone, two_tables}
+
+-- the seat of a train that has boarded a new yard
+abbrev pub seat : SharedYard → ℕ → Sat
+seat yard p = (pass_view p (root_view yard.setup []), [])
+
+driver : IsDriver 1 0 0 (seat one_zone 1)
+driver = record {
+  pass = record {
+    aboard = refl;
+    number_is = refl;
+    idle = record { stage = refl; held = refl; known = refl; owed = refl; still = refl; stands = refl };
+    made = refl;
+    room = lit≤ tt;
+    few_calls = lit< tt;
+    legal = tt;
+    slots = refl;
+  };
+  named = lit< tt;
+}
+
+-- there is no third train, and no pass is another one
+no_train : IsDriver 2 0 0 (seat one_zone 2) → ⊥
+no_train h = let lt = h.named in omega (arith, lt)
+
+not_another : IsDriver 0 0 0 (seat one_zone 1) → ⊥
+not_another h = cc h.pass.number_is
+
+-- a grant alone leads on
+on : granted_steps 3 Yes ≡ 3
+on = refl
+
+kept_back : granted_steps 3 (First (Occupied 1)) ≡ 0
+kept_back = refl
+
+part_way : granted_steps 3 (NotWhole 2 (Occupied 1)) ≡ 0
+part_way = refl
+
+-- E to F where A to B holds both its zones: the seat after its look at the first table and its try at zone 1
+abbrev pub old : Sat
+old = seat (four_zones 9) 2
+
+abbrev pub found : ℕ → Sat
+found word =
+    (record old.0 { tries = record { zone = 1; found = word; glanced = 0 } ∷ []; actor = record old.0.actor { glance = Some 0 } }, [])
+
+turned_away : TurnsAway 1 old (found 1) 1 1
+turned_away = record {
+  earlier = [];
+  table = 0;
+  tries = refl;
+  another = ((λ e. cc e), (λ e. cc e), lit≤ tt);
+  listed = lit< tt;
+  needed = refl;
+  since = record { tries = (record { zone = 1; found = 1; glanced = 0 } ∷ [], refl); noted = lit≤ tt; now = refl };
+}
+
+not_by_itself : (new : Sat) → TurnsAway 1 old new 1 3 → ⊥
+not_by_itself new h = h.another.1 refl
+
+-- the same, where the look came before
+refused : Refuses 4 (1 ∷ []) (record old.0 { actor = record old.0.actor { glance = Some 0 } }, []) (found 1) 1 1
+refused = record {
+  low = lit< tt;
+  wanted = refl;
+  another = ((λ e. cc e), (λ e. cc e), lit≤ tt);
+  earlier = [];
+  tries = refl;
+  now = refl;
+}
+
+-- the second table is noted in place of the first
+abbrev pub noted : ℕ → Sat
+noted t = (record (seat two_tables 0).0 { noted = t }, [])
+
+moved : Moves 0 (seat two_tables 0) (noted 1)
+moved = record { tries = ([], refl); noted = lit≤ tt; listed = lit< tt; another = (λ e. cc e); now = refl }
+
+not_the_same : Moves 0 (seat two_tables 0) (noted 0) → ⊥
+not_the_same h = h.another refl
+
+since : Since (seat two_tables 0) (noted 1)
+since = record { tries = ([], refl); noted = lit≤ tt; now = refl }
+
+not_back : Since (noted 1) (noted 0) → ⊥
+not_back h = let le = h.noted in omega (arith, le)

@@ -1,0 +1,43 @@
+use Rattle.std.proofs.Common.{◌≡◌, ℕ, ◌<◌, length, Some, sym, ap, ◌∙◌, subst}
+use Rattle.atomic_table.specs.Seated.{TableId}
+use Rattle.rail_model.specs.Layout.{Layout}
+use Rattle.rail_model.specs.Table.{Table}
+use Rattle.rail_model.specs.Yard.{offer}
+use Rattle.move_claim.specs.Claims.{Footprint, claim_of, footprint_of}
+use Rattle.zone_yard.specs.declared.requests.Wanted.{Wanted}
+use Rattle.zone_yard.specs.declared.yard.Yard.TheInside.{Inside}
+use Rattle.zone_yard.specs.Setup.{Setup, SharedYard}
+use Rattle.zone_yard.specs.Tells.{Sat}
+use Rattle.zone_yard.specs.Blocks.{needs}
+use Rattle.zone_yard.specs.Attempts.{Attempts}
+use Rattle.zone_yard.proofs.Retries.{since_glance, asks_since}
+use Rattle.zone_yard.proofs.asking.ask_on.Goals as goal
+
+-- the footprint that was filled is that of the next steps under the table
+filled : (S : Setup) (L : Layout) (T : Table) (w : Wanted) (a b : ℕ) (f : Footprint) → L ≡ S.layout → f ≡ footprint_of L T (claim_of T w.train a w.steps) → T ≡ (offer S.tables w.table).table
+    → a ≡ b → f ≡ needs S w b
+filled S L T w a b f made is table same = is ∙ (λ i. footprint_of (made i) (table i) (claim_of (table i) w.train (same i) w.steps))
+
+pub returns-in-Some : goal.returns-in-Some
+returns-in-Some g c =
+    let old : Sat = c.args.seat.now.me in
+    let seen : Sat = c.glance-table.new.seat.me in
+    let wanted : Wanted = record { train = c.args.train; place = c.args.position; table = c.glance-table.result; steps = c.args.steps } in
+    let glance = c.glance-table.ensures in
+    let before = c.loop-round.invariant in
+    let same = glance.same.0 ∙ before.table in
+    let setup : c.loop-round.seat.me.0.setup ≡ c.args.yard.now.setup = ap (λ (m : Sat). m.0.setup) before.since.now ∙ c.requires.ours.1 in
+    let listed : c.glance-table.result < length c.args.yard.now.setup.tables = subst (λ (S : Setup). c.glance-table.result < length S.tables) setup glance.sees.1 in
+    let next : c.fill_block.new.self ≡ needs c.args.yard.now.setup wanted old.0.actor.position =
+    filled c.args.yard.now.setup _ c.table.result.now wanted c.args.position old.0.actor.position c.fill_block.new.self
+    (ap (λ (y : Inside). y.key.layout) c.yard-inside.view_is ∙ ap (λ (y : SharedYard). y.setup.layout) c.yard.view_is) c.fill_block.ensures
+    (c.table.ensures ∙ ap (λ (y : SharedYard). (offer y.setup.tables c.glance-table.result).table) c.yard.view_is) (sym c.requires.idle.stands) in
+    record {
+      same = (c.ask_once.ensures.same.0 ∙ same, c.ask_once.ensures.same.1 ∙ (glance.same.1 ∙ before.id));
+      lines = c.in-Some.ensures.lines;
+      asks = asks_since c.args.yard.now.setup c.args.seat.now.table_id wanted c.args.position c.args.yard.now.setup.layout.zones c.fill_block.new.self old seen c.ask_once.new.seat.me
+          c.in-Some.attempt c.requires.ours.1 c.requires.train.1 next listed
+          (since_glance c.glance-table.result old c.loop-round.seat.me seen before.since glance.sees.0 glance.glanced) (ap (λ (m : Sat). m.0.actor.glance) glance.glanced) c.requires.idle
+          (subst (λ (id : TableId). Attempts id wanted c.args.yard.now.setup.layout.zones c.fill_block.new.self.zones seen (Some c.in-Some.attempt) c.ask_once.new.seat.me) same c.in-Some.ensures.attempts);
+      formed = c.word_of-word.ensures.formed;
+    }

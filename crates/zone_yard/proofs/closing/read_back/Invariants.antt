@@ -1,0 +1,11 @@
+use Rattle.std.proofs.Common.{◌≡◌, ◌<◌, ℕ, length}
+use Rattle.std.specs.Prelude.{slice_index}
+use Rattle.rail_model.specs.Table.{place}
+use Rattle.zone_yard.specs.Setup.{state_after}
+use Rattle.zone_yard.proofs.closing.read_back.Given as goal
+
+abbrev pub invariant-loop-train : goal.invariant-loop-train
+invariant-loop-train l = record {
+  size : length l.positions ≡ length l.initial.positions;
+  read : (i : ℕ) → i < l.train → slice_index l.positions i ≡ place (state_after l.fn.root.yard.setup l.fn.root.seen).positions i;
+}

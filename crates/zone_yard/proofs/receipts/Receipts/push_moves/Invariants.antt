@@ -1,0 +1,6 @@
+use Rattle.std.proofs.Common.{◌≡◌, ◌++◌}
+use Rattle.zone_yard.specs.Lines.{moves_from}
+use Rattle.zone_yard.proofs.receipts.Receipts.push_moves.Given as goal
+
+abbrev pub invariant-loop-step : goal.invariant-loop-step
+invariant-loop-step l = l.self ≡ record l.initial.self { items = l.initial.self.items ++ moves_from l.ticket l.table l.claim.train l.claim.place l.step }

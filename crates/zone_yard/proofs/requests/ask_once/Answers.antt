@@ -1,0 +1,20 @@
+use Rattle.std.proofs.Common.{◌≡◌, ◌∙◌, ℕ, refl, sym, ap, subst}
+use Rattle.move_claim.specs.declared.cells.Cell.TheVariants.{Table as TableCell}
+use Rattle.move_claim.specs.Cells.{number_of}
+use Rattle.zone_yard.specs.Holding.{span}
+use Rattle.zone_yard.specs.Attempts.{IsToldBlock}
+use Rattle.zone_yard.proofs.Attempted.{told_back}
+use Rattle.zone_yard.proofs.requests.ask_once.Goals as goal
+
+pub returns-clause-attempts : goal.returns-clause-attempts
+returns-clause-attempts g c =
+    let zones = c.args.yard.now.setup.layout.zones in
+    let same : c.steps.result ≡ c.args.footprint.now.claim.steps = c.steps.ensures in
+    subst (λ (n : ℕ). IsToldBlock c.args.seat.now.table_id c.args.wanted.steps c.enter-answer.result.0 n c.enter-answer.result.1 c.args.seat.now.me c.release_all-2.new.seat.me) (sym same)
+    (told_back c.args.yard.now.setup c.args.seat.now.table_id c.args.wanted c.args.footprint.now c.enter-answer.result.0 c.enter-answer.result.1
+    (span c.zones-needed.result.now 0 zones) c.args.seat.now.me c.take_all.new.seat.me c.know_all.new.seat.me c.enter-answer.new.seat.me c.pay_due.new.seat.me c.release_all-2.new.seat.me
+    c.requires.ours.1 c.requires.train.1 c.requires.aboard c.requires.idle c.requires.footprint
+    c.in_default.ensures.takes c.know_all.ensures.learns
+    (ap (number_of TableCell) (sym (c.if-not-know_all.ensures.known refl).0) ∙ c.if-not-know_all.ensures.table refl)
+    c.enter-answer.ensures.appends c.enter-answer.ensures.told c.enter-answer.ensures.stands c.enter-answer.ensures.stage.0 c.enter-answer.ensures.can
+    c.pay_due.ensures.pays c.release_all-2.ensures.frees)

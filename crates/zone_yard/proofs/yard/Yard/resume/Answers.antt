@@ -1,0 +1,100 @@
+use Rattle.std.proofs.Common.{◌≡◌, ◌^◌, ◌<◌, ℕ, zero, suc, List, [], ◌∷◌, length, map, get_or, replicate, false, refl, sym, ap, ◌∙◌, subst, arith}
+use Rattle.atomic_table.specs.Table.{opening}
+use Rattle.rail_model.specs.Table.{IsTable}
+use Rattle.rail_model.specs.Yard.{Offer, offer}
+use Rattle.table_exchange.specs.Tables.{Stands}
+use Rattle.plain_yard.proofs.Keeping.{keeps_stands}
+use Rattle.zone_machine.specs.Sound.{IsSetup}
+use Rattle.zone_machine.specs.Weave.{first_words}
+use Rattle.zone_yard.specs.Setup.{Setup, core, most_passes}
+use Rattle.zone_yard.specs.Views.{View, root_view}
+use Rattle.zone_yard.specs.Kept.{Kept}
+use Rattle.ticket_lines.specs.Merging.{Row}
+use Rattle.zone_machine.proofs.Opening.{opened}
+use Rattle.zone_yard.specs.Aboard.{IsRoot}
+use Rattle.zone_yard.specs.Lines.{AreLeft}
+use Rattle.zone_yard.proofs.Opens.{opens}
+use Rattle.zone_yard.proofs.yard.Yard.resume.Goals as goal
+
+same_map : (xs : List Offer) → map (λ (a : Offer). a) xs ≡ xs
+same_map [] = refl
+same_map (x ∷ xs) = ap (λ l. x ∷ l) (same_map xs)
+
+pub first_words-requires : goal.first_words-requires
+first_words-requires c =
+    subst (λ (ts : List Offer). Stands ts c.yard.result.now) (sym (same_map c.args.tables.now))
+    (subst (Stands c.args.tables.now) (sym c.yard.ensures) (keeps_stands c.args.tables.now c.args.state.yard c.args.state.lines c.requires.keeps))
+
+pub of_words-requires : goal.of_words-requires
+of_words-requires c =
+    let S : Setup = record { layout = c.args.layout.now; tables = c.args.tables.now; opening = c.args.state; calls = c.args.calls } in
+    let tables : (t : ℕ) → t < length c.args.tables.now → IsTable (offer c.args.tables.now t).table =
+    subst (λ (ts : List Offer). (t : ℕ) → t < length c.args.tables.now → IsTable (offer ts t).table) (same_map c.args.tables.now) c.look_at_all.ensures in
+    let formed : IsSetup (core S) = record {
+      layout = c.zones_of-zones.ensures.formed;
+      tables = c.requires.keeps.are;
+      formed = tables;
+      on = c.requires.points;
+      opening = keeps_stands c.args.tables.now c.args.state.yard c.args.state.lines c.requires.keeps;
+    } in
+    let few = c.ranges.calls.fits in
+    let words : c.deref.result.now ≡ first_words (core S) =
+    c.deref.ensures.value ∙ (c.in-Ok.ensures (core S).most
+    ∙ (λ i. first_words (record { layout = c.args.layout.now; tables = same_map c.args.tables.now i; opening = c.yard.ensures i; most = (core S).most }))) in
+    subst (λ (ws : List ℕ). Kept S (opening ws [] (root_view S []))) (sym words) (opens S formed (omega arith))
+
+pub invariant_of-result : goal.invariant_of-result
+invariant_of-result c =
+    let S : Setup = record { layout = c.args.layout.now; tables = c.args.tables.now; opening = c.args.state; calls = c.args.calls } in
+    let tables : (t : ℕ) → t < length c.args.tables.now → IsTable (offer c.args.tables.now t).table =
+    subst (λ (ts : List Offer). (t : ℕ) → t < length c.args.tables.now → IsTable (offer ts t).table) (same_map c.args.tables.now) c.look_at_all.ensures in
+    let formed : IsSetup (core S) = record {
+      layout = c.zones_of-zones.ensures.formed;
+      tables = c.requires.keeps.are;
+      formed = tables;
+      on = c.requires.points;
+      opening = keeps_stands c.args.tables.now c.args.state.yard c.args.state.lines c.requires.keeps;
+    } in
+    let few = c.ranges.calls.fits in
+    let words : c.deref.result.now ≡ first_words (core S) =
+    c.deref.ensures.value ∙ (c.in-Ok.ensures (core S).most
+    ∙ (λ i. first_words (record { layout = c.args.layout.now; tables = same_map c.args.tables.now i; opening = c.yard.ensures i; most = (core S).most }))) in
+    let e = c.in-Ok-of_words.ensures in
+    record {
+      key_is = e.5;
+      words = e.0 ∙ (ap length words ∙ (opened (core S) formed).wide);
+      slots = e.1;
+      formed = formed;
+      keeps = c.requires.keeps;
+      few_calls = omega arith;
+    }
+
+none_boarded : (n p : ℕ) → get_or (replicate n false) p false ≡ false
+none_boarded zero p = refl
+none_boarded (suc n) zero = refl
+none_boarded (suc n) (suc p) = none_boarded n p
+
+-- the root of a yard that opens
+opens_root : (S : Setup) (rows : List Row) (id : ℕ) (v : View) → S.calls < 2 ^ 32 → id ≡ 0 → v ≡ root_view S [] → length rows ≡ most_passes
+    → ((p : ℕ) (d : Row) → p < most_passes → (get_or rows p d).items ≡ []) → IsRoot (replicate 33 false) 0 id v × AreLeft v rows
+opens_root S rows id v few first is wide empty = subst (λ (x : View). IsRoot (replicate 33 false) 0 id x × AreLeft x rows) (sym is) (
+  record {
+    first = first;
+    wide = refl;
+    known = λ p lt. none_boarded 33 p;
+    counted = refl;
+    out_is = refl;
+    few = refl;
+    away = λ p actor h. refl;
+    legal = tt;
+    ashore = λ p actor h. refl;
+    few_calls = few;
+  },
+  record { wide = wide; each = λ p d lt. record { seen = []; begins = ([], refl); own = refl; items = empty p d lt } },
+)
+
+pub invariant_of-result-in-Ok-of_words : goal.invariant_of-result-in-Ok-of_words
+invariant_of-result-in-Ok-of_words c =
+    let S : Setup = record { layout = c.args.layout.now; tables = c.args.tables.now; opening = c.args.state; calls = c.args.calls } in
+    let e = c.in-Ok-of_words.ensures in
+    opens_root S c.in-Ok-empty_rows.lines.items c.in-Ok-of_words.seat.id c.in-Ok-of_words.seat.me.0 (omega arith) e.3 (ap (λ m. m.0) e.4) c.in-Ok-empty_rows.ensures.wide c.in-Ok-empty_rows.ensures.empty

@@ -1,0 +1,15 @@
+pub mod Aboard
+pub mod Boarding
+pub mod Core
+pub mod Entering
+pub mod Kept
+pub mod Passes
+pub mod Replies
+pub mod Setup
+pub mod Tells
+pub mod Views
+pub mod Holding
+pub mod Attempts
+pub mod Blocks
+pub mod Lines
+pub mod Asked

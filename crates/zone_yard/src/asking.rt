@@ -1,0 +1,151 @@
+// A driver asks for its next steps.
+ghost use Rattle.std.specs.Prelude.{◌≡◌, ◌+◌, ◌<◌, ◌≤◌, length, true};
+ghost use Rattle.rail_model.specs.Table.{trains};
+ghost use Rattle.rail_model.specs.Yard.{offer};
+ghost use Rattle.zone_machine.specs.Sound.{IsSetup};
+ghost use Rattle.zone_yard.specs.Aboard.{IsIdle};
+ghost use Rattle.zone_yard.specs.Asked.{Asked, IsAnswer};
+ghost use Rattle.zone_yard.specs.Attempts.{Asks};
+ghost use Rattle.zone_yard.specs.Blocks.{granted_steps};
+ghost use Rattle.zone_yard.specs.Entering.{IsSamePass};
+ghost use Rattle.zone_yard.specs.Lines.{AreLines};
+ghost use Rattle.zone_yard.specs.Passes.{IsFree};
+ghost use Rattle.zone_yard.specs.Setup.{core};
+ghost use Rattle.zone_yard.specs.Tells.{IsOurs};
+
+use crate::receipts::{Receipts, entries_of};
+use crate::requests::{Attempt, Wanted, ask_once};
+use crate::steps::{glance, word_of};
+use crate::views::Place;
+use crate::yard::{Driver, Yard};
+use ats_io::{Gate, Moment};
+use move_claim::{Cell, Footprint, Known, Owed};
+use rail_model::BlockAsk;
+use std::sync::Wait;
+use std::thread;
+
+// Asks for a block of steps, and asks again where another table came into force meanwhile: each round sees a later one.
+pub(crate) fn ask_on<G: Gate>(
+    yard: &Yard<'_>,
+    seat: &mut Place,
+    receipts: &mut Receipts,
+    train: u32,
+    position: u32,
+    steps: u32,
+    known: &mut Known,
+    owed: &mut Owed,
+    gate: &G,
+) -> Attempt
+    requires ours { IsOurs yard.now seat.old.table_id seat.old.me.0 }
+    requires train { (train < trains (offer yard.now.setup.tables 0).table) × (seat.old.me.0.number ≡ train) }
+    requires aboard { seat.old.me.0.aboard ≡ true }
+    requires idle { IsIdle position seat.old.me.0.actor }
+    requires steps { (1 ≤ steps) × (steps ≤ 4) }
+    requires room { length seat.old.me.0.mine + steps ≤ yard.now.setup.calls }
+    requires lines { AreLines seat.old.me.0 receipts.old }
+    ensures same { (seat.new.table_id ≡ seat.old.table_id) × (seat.new.id ≡ seat.old.id) }
+    ensures lines { AreLines seat.new.me.0 receipts.new }
+    ensures asks { Asks seat.old.table_id steps seat.old.me result seat.new.me }
+    ensures formed { IsSetup (core yard.now.setup) }
+{
+    let word = word_of(yard, Cell::Table);
+    let mut footprint = Footprint::new();
+    for _round in 0..yard.key.tables.len() {
+        let table = glance(yard, seat, word) as u32;
+        gate.at(train, Moment::Glanced);
+        known.clear();
+        footprint.fill_block(
+            yard.key.layout,
+            yard.key.table(table),
+            train,
+            position,
+            steps,
+        );
+        let wanted = Wanted {
+            train,
+            place: position,
+            table,
+            steps,
+        };
+        if let Some(attempt) = ask_once(
+            yard, seat, receipts, wanted, &footprint, known, owed, gate,
+        ) {
+            return attempt;
+        }
+    }
+    unreachable!()
+}
+
+// How many of so many steps the answer grants.
+fn count_granted(answer: BlockAsk, steps: u32) -> u32
+    ensures { result ≡ granted_steps steps answer }
+{
+    match answer {
+        BlockAsk::Yes => steps,
+        BlockAsk::First { .. } | BlockAsk::NotWhole { .. } => 0,
+    }
+}
+
+// How many entries the driver may make yet.
+pub(crate) fn entries_left(yard: &Yard<'_>, driver: &Driver) -> u32
+    requires { driver.now.yard ≡ yard.now }
+    ensures left { length driver.now.mine + result ≡ yard.now.setup.calls }
+    ensures free { IsFree driver.now }
+{
+    yard.key.calls - driver.entries
+}
+
+// A driver asks for a block of steps, and goes on by those that are granted.
+pub(crate) fn ask_steps<G: Gate>(
+    yard: &Yard<'_>,
+    driver: &mut Driver,
+    steps: u32,
+    gate: &G,
+) -> Attempt
+    requires ours { driver.old.yard ≡ yard.now }
+    requires steps { (1 ≤ steps) × (steps ≤ 4) }
+    requires room { length driver.old.mine + steps ≤ yard.now.setup.calls }
+    ensures asked { Asked steps driver.old result driver.new }
+    ensures same { IsSamePass driver.old driver.new }
+{
+    let attempt = ask_on(
+        yard,
+        &mut driver.seat,
+        &mut driver.receipts,
+        driver.train,
+        driver.position,
+        steps,
+        &mut driver.known,
+        &mut driver.owed,
+        gate,
+    );
+    if let Attempt::Told { answer, steps, .. } = attempt {
+        driver.position += count_granted(answer, steps);
+        driver.entries += entries_of(answer, steps);
+    }
+    attempt
+}
+
+// A driver asks for a block of steps until no zone that it needs is held.
+pub(crate) fn ask_until<R: Wait, G: Gate>(
+    rt: &R,
+    yard: &Yard<'_>,
+    driver: &mut Driver,
+    steps: u32,
+    gate: &G,
+) -> Attempt
+    requires ours { driver.old.yard ≡ yard.now }
+    requires steps { (1 ≤ steps) × (steps ≤ 4) }
+    requires room { length driver.old.mine + steps ≤ yard.now.setup.calls }
+    ensures asked { Asked steps driver.old result driver.new }
+    ensures answered { IsAnswer result }
+    ensures same { IsSamePass driver.old driver.new }
+{
+    for _ in rt.forever() {
+        match ask_steps(yard, driver, steps, gate) {
+            Attempt::Busy { .. } => thread::yield_now(),
+            answered => return answered,
+        }
+    }
+    unreachable!()
+}

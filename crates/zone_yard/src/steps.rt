@@ -1,0 +1,171 @@
+// Single steps on the shared table.
+ghost use Rattle.std.specs.Prelude.{◌≡◌, ◌≢◌, suc, ◌+◌, ◌<◌, ◌≤◌, ◌^◌, [], length, true, false, Some};
+ghost use Rattle.zone_locks.specs.Zones.{has};
+ghost use Rattle.move_claim.specs.declared.cells.Cell.TheVariants.{Table as TableCell};
+ghost use Rattle.zone_machine.specs.declared.steps.Stage.TheVariants.{Aboard};
+ghost use Rattle.zone_machine.specs.Steps.{is_above};
+ghost use Rattle.move_claim.specs.Cells.{number_of};
+ghost use Rattle.zone_machine.specs.World.{word_of as word_at, is_cell, may_read};
+ghost use Rattle.zone_machine.specs.Sound.{IsSetup};
+ghost use Rattle.zone_yard.specs.Core.{MayEnter};
+ghost use Rattle.zone_yard.specs.Setup.{core, most_passes};
+ghost use Rattle.zone_yard.specs.Views.{took, tried_at, gave, glanced, read, read_table, paid, boarding, pass_view, leaving, new_entries, actor_after};
+ghost use Rattle.zone_yard.specs.Kept.{IsActor};
+ghost use Rattle.zone_yard.specs.Tells.{Appends, Looks, IsOurs};
+
+use crate::views::{
+    Appending, Boards, Glancing, HowMany, Leaves, Looking, Paying, Place, Reading, ReadingTable,
+    Releasing, Taking, Which, WhichCell,
+};
+use crate::yard::Yard;
+use move_claim::Cell;
+use rail_model::{points_of, zones_of};
+
+// One try at a zone: the word that was found.
+pub(crate) fn take(yard: &Yard<'_>, seat: &mut Place, pass: u32, zone: u32) -> u64
+    requires ours { IsOurs yard.now seat.old.table_id seat.old.me.0 }
+    requires pass { (seat.old.me.0.aboard ≡ true) × (seat.old.me.0.number ≡ pass) }
+    requires zone { (zone < yard.now.setup.layout.zones) × (is_above zone seat.old.me.0.actor.held ≡ true) }
+    requires still { seat.old.me.0.actor.closing ≡ false }
+    ensures same { (seat.new.table_id ≡ seat.old.table_id) × (seat.new.id ≡ seat.old.id) }
+    ensures free { result ≡ 0 → seat.new.me ≡ (took zone seat.old.me.0, seat.old.me.1) }
+    ensures held { result ≢ 0 → (seat.new.me ≡ (tried_at zone result seat.old.me.0, seat.old.me.1)) × (result ≢ suc pass) × (result ≤ most_passes) }
+{
+    yard.table
+        .shared
+        .compare_exchange::<Taking>(seat, zone as usize + 1, 0, pass as u64 + 1)
+}
+
+// A zone that is held is given back.
+pub(crate) fn release(yard: &Yard<'_>, seat: &mut Place, zone: u32)
+    requires ours { IsOurs yard.now seat.old.table_id seat.old.me.0 }
+    requires zone { (zone < yard.now.setup.layout.zones) × (has zone seat.old.me.0.actor.held ≡ true) }
+    requires paid { (seat.old.me.0.aboard ≡ true) × (seat.old.me.0.actor.owed ≡ []) }
+    ensures same { (seat.new.table_id ≡ seat.old.table_id) × (seat.new.id ≡ seat.old.id) }
+    ensures gave { seat.new.me ≡ (gave zone seat.old.me.0, seat.old.me.1) }
+{
+    yard.table
+        .shared
+        .store::<Releasing>(seat, zone as usize + 1, 0)
+}
+
+// The seat of the pass that the caller picks, cut from the root's.
+pub(crate) fn board_seat<J: Which>(yard: &Yard<'_>, root: &mut Place, number: u32) -> Place
+    requires which { number ≡ J.number }
+    requires root { IsOurs yard.now root.old.table_id root.old.me.0 × (root.old.id ≡ 0) }
+    requires pass { IsActor yard.now.setup number × (has number root.old.me.0.boarded ≡ false) }
+    ensures root { (root.new.table_id ≡ root.old.table_id) × (root.new.id ≡ root.old.id) × (root.new.me ≡ (boarding number root.old.me.0, root.old.me.1)) }
+    ensures seat { (result.table_id ≡ root.old.table_id) × (result.me ≡ (pass_view number root.old.me.0, [])) }
+{
+    yard.table.shared.split_seat::<Boards<J>>(root)
+}
+
+// A pass's seat is joined to the root's.
+pub(crate) fn join(yard: &Yard<'_>, root: &mut Place, seat: Place)
+    requires root { IsOurs yard.now root.old.table_id root.old.me.0 × (root.old.id ≡ 0) }
+    requires seat { IsOurs yard.now seat.table_id seat.me.0 × (seat.me.1 ≡ []) }
+    requires free { (seat.me.0.aboard ≡ true) × (seat.me.0.actor.held ≡ []) }
+    ensures root { (root.new.table_id ≡ root.old.table_id) × (root.new.id ≡ root.old.id) × (root.new.me ≡ (leaving root.old.me.0 seat.me.0, root.old.me.1)) }
+{
+    yard.table.shared.join_seat::<Leaves>(root, seat)
+}
+
+// The root looks at the history: how long it is.
+pub(crate) fn look(yard: &Yard<'_>, root: &mut Place) -> u64
+    requires { IsOurs yard.now root.old.table_id root.old.me.0 × (root.old.id ≡ 0) }
+    ensures root { (root.new.table_id ≡ root.old.table_id) × (root.new.id ≡ root.old.id) }
+    ensures looks { Looks root.old.me result root.new.me }
+{
+    yard.table.shared.load::<Looking>(root, 0)
+}
+
+// A look at the table in force, without a zone.
+pub(crate) fn glance(yard: &Yard<'_>, seat: &mut Place, word: usize) -> u64
+    requires ours { IsOurs yard.now seat.old.table_id seat.old.me.0 }
+    requires word { word ≡ word_at (core yard.now.setup) TableCell }
+    requires free { (seat.old.me.0.aboard ≡ true) × (seat.old.me.0.actor.held ≡ []) }
+    ensures same { (seat.new.table_id ≡ seat.old.table_id) × (seat.new.id ≡ seat.old.id) }
+    ensures sees { (seat.old.me.0.noted ≤ result) × (result < length seat.old.me.0.setup.tables) }
+    ensures glanced { seat.new.me ≡ (glanced result seat.old.me.0, seat.old.me.1) }
+{
+    yard.table.shared.load::<Glancing>(seat, word)
+}
+
+// The word of a cell.
+pub(crate) fn word_of(yard: &Yard<'_>, cell: Cell) -> usize
+    ensures word { result ≡ word_at (core yard.now.setup) cell }
+    ensures formed { IsSetup (core yard.now.setup) }
+{
+    let zones = zones_of(yard.key.layout) as usize;
+    let points = points_of(yard.key.layout) as usize;
+    let place = match cell {
+        Cell::Point { point } => point as usize,
+        Cell::Count { section } => points + section as usize,
+        Cell::Position { train } => points + 64 + train as usize,
+        Cell::Table => points + 96,
+    };
+    zones + place + 1
+}
+
+// The table in force is read under a zone.
+pub(crate) fn read_table(yard: &Yard<'_>, seat: &mut Place, word: usize) -> u64
+    requires ours { IsOurs yard.now seat.old.table_id seat.old.me.0 }
+    requires word { word ≡ word_at (core yard.now.setup) TableCell }
+    requires aboard { (seat.old.me.0.aboard ≡ true) × (seat.old.me.0.actor.closing ≡ false) }
+    requires guard { may_read (core yard.now.setup) seat.old.me.0.actor.held TableCell ≡ true }
+    ensures same { (seat.new.table_id ≡ seat.old.table_id) × (seat.new.id ≡ seat.old.id) }
+    ensures sees { (seat.old.me.0.noted ≤ result) × (result < length seat.old.me.0.setup.tables) }
+    ensures reads { seat.new.me ≡ (read_table result seat.old.me.0, seat.old.me.1) }
+{
+    yard.table.shared.load::<ReadingTable>(seat, word)
+}
+
+// A cell is read under its guard.
+pub(crate) fn read<J: WhichCell>(yard: &Yard<'_>, seat: &mut Place, cell: Cell, word: usize) -> u64
+    requires ours { IsOurs yard.now seat.old.table_id seat.old.me.0 }
+    requires cell { cell ≡ J.cell }
+    requires word { word ≡ word_at (core yard.now.setup) cell }
+    requires aboard { (seat.old.me.0.aboard ≡ true) × (seat.old.me.0.actor.closing ≡ false) }
+    requires guard { (is_cell (core yard.now.setup) cell ≡ true) × (may_read (core yard.now.setup) seat.old.me.0.actor.held cell ≡ true) }
+    ensures same { (seat.new.table_id ≡ seat.old.table_id) × (seat.new.id ≡ seat.old.id) }
+    ensures small { result < 2 ^ 31 }
+    ensures reads { seat.new.me ≡ (read cell result seat.old.me.0, seat.old.me.1) }
+{
+    yard.table.shared.load::<Reading<J>>(seat, word)
+}
+
+// An owed cell is written.
+pub(crate) fn pay<J: WhichCell>(
+    yard: &Yard<'_>,
+    seat: &mut Place,
+    cell: Cell,
+    word: usize,
+    number: u32,
+)
+    requires ours { IsOurs yard.now seat.old.table_id seat.old.me.0 }
+    requires cell { (cell ≡ J.cell) × (is_cell (core yard.now.setup) cell ≡ true) }
+    requires word { word ≡ word_at (core yard.now.setup) cell }
+    requires aboard { seat.old.me.0.aboard ≡ true }
+    requires due { number_of cell seat.old.me.0.actor.owed ≡ Some number }
+    ensures same { (seat.new.table_id ≡ seat.old.table_id) × (seat.new.id ≡ seat.old.id) }
+    ensures paid { seat.new.me ≡ (paid cell seat.old.me.0, seat.old.me.1) }
+{
+    yard.table
+        .shared
+        .store::<Paying<J>>(seat, word, number as u64)
+}
+
+// So many entries are added to the history: the place of the first.
+pub(crate) fn append<J: HowMany>(yard: &Yard<'_>, seat: &mut Place, steps: u32, entries: u64) -> u64
+    requires ours { IsOurs yard.now seat.old.table_id seat.old.me.0 }
+    requires steps { steps ≡ J.steps }
+    requires entries { entries ≡ length (new_entries steps seat.old.me.0) }
+    requires may { MayEnter yard.now.setup steps seat.old.me.0 }
+    requires aboard { seat.old.me.0.aboard ≡ true }
+    ensures same { (seat.new.table_id ≡ seat.old.table_id) × (seat.new.id ≡ seat.old.id) }
+    ensures appends { Appends steps seat.old.me result seat.new.me }
+{
+    yard.table
+        .shared
+        .fetch_add::<Appending<J>>(seat, 0, entries)
+}
