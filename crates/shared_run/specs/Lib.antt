@@ -1,0 +1,4 @@
+pub mod Boarding
+pub mod Crews
+pub mod Leaving
+pub mod Shared

@@ -1,0 +1,10 @@
+//! A run by workers: trains board a shared yard, are worked in groups beside each other, and leave.
+#![tactic(auto)]
+
+mod boarding;
+mod crews;
+mod leaving;
+mod working;
+
+pub use crews::Crew;
+pub use working::work;
