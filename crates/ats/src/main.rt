@@ -1,7 +1,7 @@
 //! The program `ats`: its words, standard input, standard output and standard error, handed to the top call.
 #![tactic(auto)]
 
-use ats_io::{Reading, Writing};
+use ats_io::{NoGate, Reading, Writing};
 use ats_run::{Failure, ats, code, refuse};
 use std::process::ExitCode;
 use std::{env, io};
@@ -28,7 +28,15 @@ fn main(rt: HostRuntime) -> ExitCode {
     let mut out = Writing::new(rt.stdout());
     let mut err = Writing::new(rt.stderr());
     let status = match words(&rt) {
-        Ok(words) => ats(&rt, rt.alloc(), &words, &mut source, &mut out, &mut err),
+        Ok(words) => ats(
+            &rt,
+            rt.alloc(),
+            &words,
+            &mut source,
+            &mut out,
+            &mut err,
+            &NoGate,
+        ),
         Err(error) => refuse(rt.alloc(), failure_of(&error), &mut err).status(),
     };
     ExitCode::from(code(status))

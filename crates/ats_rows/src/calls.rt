@@ -2,9 +2,10 @@
 ghost use Rattle.std.specs.Prelude.{◌≡◌, ◌<◌, [], Some, IfOk, map, option_map, string_bytes};
 ghost use Rattle.ats_rows.specs.Calls.{IsPlayed};
 
-use ats_io::{MemSink, MemSource, SureSink};
+use ats_io::{Gate, MemSink, MemSource, SureSink};
 use ats_run::{Status, ats};
 use std::alloc::{AllocError, Global};
+use std::sync::Wait;
 use std::thread::Threads;
 
 /// How many bytes source and sink hand over a call, and at which of their calls, from 0, they fail.
@@ -45,13 +46,14 @@ fn copied_of(alloc: Global, sink: &SureSink) -> Result<Option<Vec<u8>>, AllocErr
 }
 
 // The program called over these devices, which are new.
-fn play_on(
-    rt: &(impl Threads + Sync),
+fn play_on<R: Threads + Wait + Sync, G: Gate>(
+    rt: &R,
     alloc: Global,
     line: &[String],
     source: &mut MemSource,
     out: &mut MemSink,
     err: &mut SureSink,
+    gate: &G,
 ) -> Result<Played, AllocError>
     requires source { source.old.plan.faults ≡ 0 }
     requires sink { out.old.plan.faults ≡ 0 }
@@ -59,7 +61,7 @@ fn play_on(
     requires told { err.old ≡ Some [] }
     ensures { IfOk result (IsPlayed (map string_bytes line.now) source.old.left source.old.plan.fails out.old.plan.fails) }
 {
-    let status = ats(rt, alloc, line, source, out, err);
+    let status = ats(rt, alloc, line, source, out, err, gate);
     Ok(Played {
         status,
         written: copied(alloc, out.bytes())?,
@@ -70,17 +72,19 @@ fn play_on(
     })
 }
 
-/// Calls the program with these words on an input in memory. What it tells goes to a sink that never fails.
+/// Calls the program with these words on an input in memory. What it tells goes to a sink that never fails. Where the words ask for
+/// workers, each calls the gate.
 ///
 /// # Errors
 ///
 /// `AllocError` where there is no memory for the devices or for what they took.
-pub fn play(
-    rt: &(impl Threads + Sync),
+pub fn play<R: Threads + Wait + Sync, G: Gate>(
+    rt: &R,
     alloc: Global,
     line: &[String],
     input: Vec<u8>,
     faults: Faults<'_>,
+    gate: &G,
 ) -> Result<Played, AllocError>
     requires { 0 < faults.most }
     ensures { IfOk result (IsPlayed (map string_bytes line.now) input.items faults.entry.reads.now faults.entry.writes.now) }
@@ -88,5 +92,5 @@ pub fn play(
     let mut source = MemSource::new(input, faults.most, faults.reads.to_vec(alloc)?);
     let mut out = MemSink::new(alloc, faults.most, faults.writes.to_vec(alloc)?)?;
     let mut err = SureSink::new(alloc)?;
-    play_on(rt, alloc, line, &mut source, &mut out, &mut err)
+    play_on(rt, alloc, line, &mut source, &mut out, &mut err, gate)
 }

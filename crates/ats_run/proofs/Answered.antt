@@ -1,6 +1,8 @@
 -- From what was read and written to the cause of a call's end.
-use Rattle.std.proofs.Common.{◌≡◌, ◌⊎◌, ℕ, List, Some, refl, sym, subst, inl, inr}
-use Rattle.std.specs.Prelude.{Err}
+use Rattle.std.proofs.Common.{◌≡◌, ◌≢◌, ◌⊎◌, ℕ, List, [], Some, refl, sym, subst, inl, inr}
+use Rattle.std.specs.Prelude.{Option, None, Result, Ok, Err, IfErr}
+use Rattle.std.proofs.lemmas.List.{append-nil}
+use Rattle.ats_io.specs.Bytes.{Adds}
 use Rattle.command_words.specs.declared.orders.Order.{Order}
 use Rattle.command_words.specs.declared.orders.Order.TheVariants.{Run, Resume, Check, Verify, Migrate, Make, Derive, Repair, Simulate, Generate, Drill, Weave}
 use Rattle.layout_json.specs.Doc.{Doc, table_at}
@@ -59,8 +61,8 @@ never_unmade input b e o h = elim h [ inl none ↦ never_no_doc input e o none |
 
 -- no command comes to a failure of words or devices
 never : (order : Order) (input : List ℕ) (e : Failure) → IsOutside e → Comes order input (Err e) → ⊥
-never (Run w r) input e o h = outside (IsUnchecked input) (λ n. n) (λ n. n) (λ n. n) (λ n. n) e o h
-never (Resume w r) input e o h = outside (IsUnresumedInput input) (λ n. n.2) (λ n. n.2) (λ n. n.2) (λ n. n.2) e o h
+never (Run w r k) input e o h = outside (IsUnchecked input) (λ n. n) (λ n. n) (λ n. n) (λ n. n) e o h
+never (Resume w r k) input e o h = outside (IsUnresumedInput input) (λ n. n.2) (λ n. n.2) (λ n. n.2) (λ n. n.2) e o h
 never Check input e o h = outside (IsUnchecked input) (λ n. n) (λ n. n) (λ n. n) (λ n. n) e o h
 never Verify input e o h = outside (IsUnverifiedInput input) (λ n. n.2) (λ n. n.2) (λ n. n.2) (λ n. n.2) e o h
 never Migrate input e o h = never_no_doc input e o h
@@ -90,3 +92,9 @@ unwritten call order bytes e asked whole same h = elim h [
   | inr (inl (is, failed)) ↦ subst (IsCause call) (sym is) (order, asked, (whole, failed))
   | inr (inr comes) ↦ answered call order bytes e asked whole same comes
 ]
+
+-- a failure before anything was written
+pub nothing_written : {V : Type 0} (taken : Option (List ℕ)) (result : Result V Failure) → IfErr result (λ e. e ≢ failure.WriteFault → Adds taken taken [])
+nothing_written taken (Ok v) = tt
+nothing_written None (Err e) = λ other. tt
+nothing_written (Some bytes) (Err e) = λ other. sym (append-nil bytes)

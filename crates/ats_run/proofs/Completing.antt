@@ -108,9 +108,9 @@ not_repaired input budget rounds good e (inr h) =
 
 -- a good input is refused for nothing
 not_refused : (order : Order) (input : List ℕ) → IsGoodInput order input → (e : Failure) → Comes order input (Err e) → ⊥
-not_refused (Run w r) input good e h = not_unchecked input good.1 e h
+not_refused (Run w r k) input good e h = not_unchecked input good.1 e h
 not_refused Check input good e h = not_unchecked input good.1 e h
-not_refused (Resume w r) input good e h = not_unresumed input good.1 e h
+not_refused (Resume w r k) input good e h = not_unresumed input good.1 e h
 not_refused Verify input good e h = not_unverified input good.1 e h
 not_refused Migrate input good e h = not_no_doc input good.1.0 good.1.1 e h
 not_refused (Make b) input good e h = not_unmade input b good.1 e h

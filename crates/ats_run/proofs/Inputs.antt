@@ -9,14 +9,15 @@ use Rattle.layout_json.specs.Doc.{Doc}
 use Rattle.layout_json.specs.Reading.{doc_of}
 use Rattle.ats_run.specs.declared.failure.Failure.{Failure}
 use Rattle.ats_run.specs.declared.failure.Failure.TheVariants.{Memory as NoMemory}
+use Rattle.shared_run.specs.declared.crews.Crew.{Crew}
 use Rattle.ats_run.specs.Ending.{failure_of_text}
 use Rattle.ats_run.specs.Command.{IsResumedInput}
 use Rattle.ats_run.specs.Journals.{IsCut, IsResumed, IsTextFault, IsPartFault, document_part, journal_part}
 
-pub resumed_input : (input document given written : List ℕ) → (k : ℕ) × IsCut input k × (document ≡ document_part input k) × (given ≡ journal_part input k)
-    → (D : Doc) → doc_of document ≡ Ok D → IsResumed D 0 given written → IsResumedInput 0 input written
-resumed_input input document given written cut D is resumed =
-    (cut.0, cut.1, (D, subst (λ (xs : List ℕ). doc_of xs ≡ Ok D) cut.2 is, subst (λ (xs : List ℕ). IsResumed D 0 xs written) cut.3 resumed))
+pub resumed_input : (crew : Crew) (input document given written : List ℕ) → (k : ℕ) × IsCut input k × (document ≡ document_part input k) × (given ≡ journal_part input k)
+    → (D : Doc) → doc_of document ≡ Ok D → IsResumed D crew given written → IsResumedInput crew input written
+resumed_input crew input document given written cut D is resumed =
+    (cut.0, cut.1, (D, subst (λ (xs : List ℕ). doc_of xs ≡ Ok D) cut.2 is, subst (λ (xs : List ℕ). IsResumed D crew xs written) cut.3 resumed))
 
 whole_told : (N : Names) (given : List ℕ) (cause : BadText) → Answers N given (Err cause) → (failure_of_text cause ≡ NoMemory) ⊎ IsTextFault N given (failure_of_text cause)
 whole_told N given Memory h = inl refl

@@ -1,6 +1,6 @@
 mod AcceptedInput
 mod AcceptedText
-mod Alone
+mod Begun
 pub mod Answered
 mod CauseRows
 mod Completing
@@ -8,6 +8,7 @@ mod CutRows
 mod Cutting
 mod Derived
 mod Drilled
+mod Finished
 mod Generated
 mod GoodJournals
 mod Inputs

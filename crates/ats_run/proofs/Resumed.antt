@@ -1,27 +1,27 @@
 -- Runs that go on from a journal.
-use Rattle.std.proofs.Common.{◌≡◌, ◌⊎◌, ℕ, ◌+◌, ◌-◌, List, [], ◌++◌, length, refl, sym, ◌∙◌, ap, subst, inl, inr}
+use Rattle.std.proofs.Common.{◌≡◌, ◌⊎◌, ℕ, ◌+◌, List, [], ◌++◌, length, refl, sym, ◌∙◌, ap, subst, inl, inr}
 use Rattle.std.proofs.lemmas.List.{append-nil}
 use Rattle.std.specs.Prelude.{Err}
 use Rattle.rail_model.specs.declared.types.Line.{Line}
-use Rattle.rail_model.specs.Table.{trains}
 use Rattle.rail_model.specs.Certificate.{Tree}
-use Rattle.rail_model.specs.Yard.{Offer, Yard, opening, offer}
-use Rattle.rail_model.specs.Journal.{Journal, IsWhole, IsRight, IsRound, IsDone, after_lines, text, lines_text, end_text, with_counts}
+use Rattle.rail_model.specs.Plain.{Plain}
+use Rattle.rail_model.specs.Yard.{Offer, Yard, opening}
+use Rattle.rail_model.specs.Journal.{Journal, IsWhole, IsRight, after_lines, text, lines_text, end_text, with_counts}
 use Rattle.plain_yard.specs.Keeps.{Keeps}
-use Rattle.plain_yard.specs.Rounds.{Finishes}
-use Rattle.plain_yard.proofs.Keeping.{right_append, round_right, whole}
+use Rattle.plain_yard.proofs.Keeping.{right_append, whole}
 use Rattle.plain_yard.proofs.Reaching.{after_append}
 use Rattle.move_journal.specs.declared.faults.BadLine.{BadLine}
 use Rattle.move_journal.specs.declared.faults.BadLine.TheVariants.{Memory}
 use Rattle.move_journal.specs.Answers.{IsTextOf, IsFrontOf}
 use Rattle.move_journal.specs.Replays.{Replays}
 use Rattle.move_journal.proofs.Fronts.{text_goes_on}
+use Rattle.shared_run.specs.declared.crews.Crew.{Crew}
 use Rattle.layout_json.specs.Doc.{Doc, IsDoc, offers_of, names_of}
 use Rattle.ats_run.specs.declared.failure.Failure.{Failure}
 use Rattle.ats_run.specs.declared.failure.Failure.TheVariants.{Memory as NoMemory}
 use Rattle.ats_run.specs.Ending.{failure_of_line}
 use Rattle.ats_run.specs.Certificates.{AreAccepted}
-use Rattle.ats_run.specs.Headline.{IsRun}
+use Rattle.ats_run.specs.Headline.{IsRun, Ends}
 use Rattle.ats_run.specs.Journals.{IsFrontFault, IsResumed}
 use Rattle.ats_run.proofs.Runs.{goes_on_well, legal_start}
 
@@ -38,44 +38,37 @@ run_of_whole D trees J written doc accepted whole printed = record {
   printed = printed;
 }
 
-pub resumed_whole : (D : Doc) (trees : List Tree) (J : Journal) (given written : List ℕ) → IsDoc D → AreAccepted D trees
-    → IsWhole (offers_of D) (opening D.start) J → IsTextOf (names_of D) given J → written ≡ given → IsResumed D 0 given written
-resumed_whole D trees J given written doc accepted whole text same = record {
+pub resumed_whole : (D : Doc) (trees : List Tree) (crew : Crew) (J : Journal) (given written : List ℕ) → IsDoc D → AreAccepted D trees
+    → IsWhole (offers_of D) (opening D.start) J → IsTextOf (names_of D) given J → written ≡ given → IsResumed D crew given written
+resumed_whole D trees crew J given written doc accepted whole text same = record {
   run = run_of_whole D trees J written doc accepted whole (same ∙ text.text);
   rest = [];
   begins = same ∙ sym (append-nil given);
   continued = inl ((J, text), same);
 }
 
--- the state and the lines of a front's replay, and what a finish from them gives
-pub resumed_front : (D : Doc) (trees : List Tree) (front : Journal) (given written : List ℕ) (y z : Yard) (lines longer : List Line) → IsDoc D → AreAccepted D trees
-    → IsFrontOf (names_of D) given front → IsRight (offers_of D) (opening D.start) front.lines → y ≡ after_lines (opening D.start) front.lines → lines ≡ front.lines
-    → IsDone (offers_of D) z → Finishes (offers_of D) y (trains (offer (offers_of D) 0).table - 1) lines z longer → written ≡ text (names_of D) (with_counts longer)
-    → IsResumed D 0 given written
-resumed_front D trees front given written y z lines longer doc accepted is_front right reached same done finishes printed =
-    let longer_is : longer ≡ front.lines ++ finishes.added = finishes.adds ∙ ap (λ (ls : List Line). ls ++ finishes.added) same in
-    let added_right = subst (λ (w : Yard). IsRight (offers_of D) w finishes.added) reached (round_right (offers_of D) y _ finishes.added finishes.round) in
-    let run : Keeps (offers_of D) z longer = record {
+-- the state of a front's replay, and the end of a run from it
+pub resumed_front : (D : Doc) (trees : List Tree) (crew : Crew) (front : Journal) (given written : List ℕ) (from end : Plain) → IsDoc D → AreAccepted D trees
+    → IsFrontOf (names_of D) given front → IsRight (offers_of D) (opening D.start) front.lines → from.yard ≡ after_lines (opening D.start) front.lines
+    → from.lines ≡ front.lines → Ends D crew from end → written ≡ text (names_of D) (with_counts end.lines) → IsResumed D crew given written
+resumed_front D trees crew front given written from end doc accepted is_front right reached same from_ends printed =
+    let ends = subst (λ (s : Plain). Ends D crew s end) (λ i. record { yard = reached i; lines = same i }) from_ends in
+    let run : Keeps (offers_of D) end.yard end.lines = record {
       are = doc.tables;
       start = D.start;
       legal = legal_start D doc;
-      right = subst (IsRight (offers_of D) (opening D.start)) (sym longer_is)
-          (right_append (offers_of D) (opening D.start) front.lines finishes.added right added_right);
-      reached = finishes.after ∙ ap (λ (w : Yard). after_lines w finishes.added) reached ∙ sym (after_append (opening D.start) front.lines finishes.added)
-          ∙ ap (after_lines (opening D.start)) (sym longer_is);
+      right = subst (IsRight (offers_of D) (opening D.start)) (sym ends.adds)
+          (right_append (offers_of D) (opening D.start) front.lines ends.added right ends.right);
+      reached = ends.after ∙ sym (after_append (opening D.start) front.lines ends.added) ∙ ap (after_lines (opening D.start)) (sym ends.adds);
     } in
     record {
-      run = run_of_whole D trees (with_counts longer) written doc accepted (whole (offers_of D) z longer run done) printed;
-      rest = lines_text (names_of D) (length front.lines + 1) finishes.added ++ end_text (with_counts longer).moves (with_counts longer).tables;
-      begins = printed ∙ text_goes_on (names_of D) given front (with_counts longer) finishes.added is_front longer_is;
+      run = run_of_whole D trees (with_counts end.lines) written doc accepted (whole (offers_of D) end.yard end.lines run ends.done) printed;
+      rest = lines_text (names_of D) (length front.lines + 1) ends.added ++ end_text (with_counts end.lines).moves (with_counts end.lines).tables;
+      begins = printed ∙ text_goes_on (names_of D) given front (with_counts end.lines) ends.added is_front ends.adds;
       continued = inr (
         front,
         is_front,
-        record {
-          added = finishes.added;
-          by = subst (λ (w : Yard). IsRound (offers_of D) w (trains (offer (offers_of D) 0).table - 1) finishes.added) reached finishes.round;
-          printed = printed ∙ ap (λ (ls : List Line). text (names_of D) (with_counts ls)) longer_is;
-        },
+        record { added = ends.added; by = ends.by; printed = printed ∙ ap (λ (ls : List Line). text (names_of D) (with_counts ls)) ends.adds },
       );
     }
 

@@ -26,7 +26,8 @@ use Rattle.ats_run.specs.Checking.{checked_text}
 use Rattle.ats_run.specs.Ending.{code, status_of, failure_of_text, failure_of_line}
 use Rattle.ats_run.specs.Generating.{drill_text}
 use Rattle.ats_run.specs.Journals.{verified_text}
-use Rattle.ats_run.specs.Orders.{order_of, Reads, OnInput, Holds, MakesCertificates}
+use Rattle.shared_run.specs.Crews.{crew_of}
+use Rattle.ats_run.specs.Orders.{order_of, Reads, OnInput, Holds, MakesCertificates, crew_in, IsAlone}
 use Rattle.ats_run.specs.Report.{words_of, line_of}
 use Rattle.ats_run.specs.Simulating.{timed_text, last_text}
 
@@ -35,7 +36,7 @@ abbrev asked : Text → Option Order
 asked typed = order_of (slice_split (λ b. b == 32) typed)
 
 orders : map asked (codes "run" ∷ codes "make --budget 8" ∷ codes "gen --seed 2 --trains 3" ∷ codes "gen --trains 3 --seed 2" ∷ codes "derive --most 3 --budget 8" ∷ codes "repair --budget 8 --rounds 5" ∷ [])
-    ≡ Some (order.Run 0 1000) ∷ Some (order.Make 8) ∷ Some (order.Generate 2 3) ∷ Some (order.Generate 2 3) ∷ Some (order.Derive 3 8) ∷ Some (order.Repair 8 5) ∷ []
+    ≡ Some (order.Run 0 1000 1) ∷ Some (order.Make 8) ∷ Some (order.Generate 2 3) ∷ Some (order.Generate 2 3) ∷ Some (order.Derive 3 8) ∷ Some (order.Repair 8 5) ∷ []
 unfolding clap_on_literals leaf words number_of
 orders = refl
 
@@ -54,14 +55,21 @@ gen_holds_no_bytes : Holds (order.Generate 2 3) (Some (codes "{}")) (codes "{}")
 gen_holds_no_bytes held = cc
 
 -- the input of `run` is what the source held
-input_of_run : OnInput (order.Run 0 5) (Some (codes "{}")) (λ input. input ≡ codes "{}")
+input_of_run : OnInput (order.Run 0 5 1) (Some (codes "{}")) (λ input. input ≡ codes "{}")
 input_of_run = refl
 
-run_holds_the_bytes : Holds (order.Run 0 5) (Some (codes "{}")) (codes "{}")
+run_holds_the_bytes : Holds (order.Run 0 5 1) (Some (codes "{}")) (codes "{}")
 run_holds_the_bytes = refl
 
-run_holds_no_others : Holds (order.Run 0 5) (Some (codes "{}")) [] → ⊥
+run_holds_no_others : Holds (order.Run 0 5 1) (Some (codes "{}")) [] → ⊥
 run_holds_no_others held = cc
+
+crews : (crew_in (order.Run 2 5 1) ≡ crew_of 2 5 1) × (crew_in (order.Resume 3 7 4) ≡ crew_of 3 7 4) × (crew_in (order.Drill 2 3 8) ≡ crew_of 8 1000 1)
+    × (crew_in order.Check ≡ crew_of 0 0 1)
+crews = (refl, refl, refl, refl)
+
+alone : IsAlone (order.Run 0 5 1) × IsAlone order.Check × (IsAlone (order.Drill 2 3 1) → ⊥)
+alone = (refl, refl, λ none. cc none)
 
 reading : Reads order.Check × (Reads (order.Drill 2 3 0) → ⊥)
 reading = (tt, λ reads. reads)

@@ -14,8 +14,9 @@ use Rattle.move_journal.specs.Answers.{IsTextOf, IsFrontOf}
 use Rattle.layout_json.specs.Doc.{IsDoc, offers_of, names_of}
 use Rattle.layout_json.specs.Reading.{doc_of}
 use Rattle.layout_json.proofs.FormedDoc.{read-is-formed}
+use Rattle.shared_run.specs.Crews.{crew_of}
 use Rattle.ats_run.specs.Command.{Comes}
-use Rattle.ats_run.specs.Headline.{IsRun, IsRoundRobin, IsRunBy}
+use Rattle.ats_run.specs.Headline.{IsRun, IsRoundRobin, Ends, plain_after}
 use Rattle.ats_run.specs.Journals.{IsCut, document_part, journal_part}
 use Rattle.ats_run.proofs.Runs.{goes_on_well}
 use Rattle.ats_run.proofs.Samples.{table, good, the_only, trees, accepted}
@@ -83,11 +84,11 @@ is_run formed = record {
 is_round_robin : IsRoundRobin good (opening (0 ∷ [])) lines
 is_round_robin = round
 
--- of what a worker does nothing more is said
-by_a_worker : IsRunBy good 1 (opening (0 ∷ [])) []
-by_a_worker = tt
+-- the run from its start, by nobody but the round robin
+ends : Ends good (crew_of 0 5 1) (plain_after good []) (plain_after good lines)
+ends = record { added = lines; adds = refl; right = (line, tt); after = refl; by = round; done = done }
 
-run : (input : List ℕ) → doc_of input ≡ Ok good → Comes (Run 0 5) input (Ok run_text)
+run : (input : List ℕ) → doc_of input ≡ Ok good → Comes (Run 0 5 1) input (Ok run_text)
 unfolding is_run
 run input read = (good, read, (is_run (read-is-formed input good read).is, is_round_robin))
 
@@ -121,7 +122,7 @@ is_front : (given : List ℕ) → given ≡ [] → IsFrontOf (names_of good) giv
 is_front given none = record { lines = record { few = lit< tt; each = All-nil (IsPrintable (names_of good)) }; text = none; counts = (refl, refl) }
 
 -- from no line on the whole journal is written
-resumed : (input : List ℕ) (k : ℕ) → IsCut input k → doc_of (document_part input k) ≡ Ok good → journal_part input k ≡ [] → Comes (Resume 0 5) input (Ok run_text)
+resumed : (input : List ℕ) (k : ℕ) → IsCut input k → doc_of (document_part input k) ≡ Ok good → journal_part input k ≡ [] → Comes (Resume 0 5 1) input (Ok run_text)
 unfolding digits
 resumed input k cut read none = (
   k,

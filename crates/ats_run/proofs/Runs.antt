@@ -1,5 +1,5 @@
--- From a finished round robin to what is promised of its text.
-use Rattle.std.proofs.Common.{◌≡◌, ℕ, ◌-◌, ◌^◌, ◌<◌, List, [], ◌∷◌, ◌++◌, length, Some, refl, sym, ◌∙◌, ap, subst, arith}
+-- From the end of a run to what is promised of its text.
+use Rattle.std.proofs.Common.{◌≡◌, ℕ, ◌^◌, ◌<◌, List, [], ◌∷◌, ◌++◌, length, Some, refl, sym, ◌∙◌, ap, subst, arith}
 use Rattle.std.specs.List.{All}
 use Rattle.std.proofs.lemmas.List.{length-map}
 use Rattle.rail_model.specs.declared.types.Line.{Line}
@@ -8,19 +8,19 @@ use Rattle.rail_model.specs.State.{Legal}
 use Rattle.rail_model.specs.Move.{Live}
 use Rattle.rail_model.specs.Certificate.{Tree}
 use Rattle.rail_model.specs.Yard.{Offer, Yard, opening, offer, in_force}
-use Rattle.rail_model.specs.Journal.{IsRight, IsDone, after_line, after_lines, text, with_counts}
+use Rattle.rail_model.specs.Plain.{Plain}
+use Rattle.rail_model.specs.Journal.{IsRight, after_line, after_lines, text, with_counts}
 use Rattle.rail_model.proofs.Live.{completes}
 use Rattle.rail_model.proofs.Sound.{live}
 use Rattle.table_exchange.specs.Tables.{Stands}
 use Rattle.plain_yard.specs.Keeps.{Keeps}
-use Rattle.plain_yard.specs.Rounds.{Finishes}
-use Rattle.plain_yard.proofs.Keeping.{keeps_stands, keeps_ready, few_moves, round_right, whole}
-use Rattle.plain_yard.proofs.Reaching.{round_begun}
+use Rattle.plain_yard.proofs.Keeping.{keeps_stands, keeps_ready, few_moves, whole}
 use Rattle.move_journal.specs.Printable.{IsNamed, AreEnough}
 use Rattle.move_journal.proofs.Named.{named_right}
+use Rattle.shared_run.specs.declared.crews.Crew.{Crew}
 use Rattle.layout_json.specs.Doc.{Doc, IsDoc, table_at, offers_of, names_of}
 use Rattle.ats_run.specs.Certificates.{AreAccepted}
-use Rattle.ats_run.specs.Headline.{GoesOnWell, IsRun, IsRoundRobin}
+use Rattle.ats_run.specs.Headline.{GoesOnWell, IsRun, IsRunBy, Ends, plain_after}
 use Rattle.ats_run.proofs.Offered.{offer_count, table_offered}
 
 right_front : (tables : List Offer) (y : Yard) (front later : List Line) → IsRight tables y (front ++ later) → IsRight tables y front
@@ -49,28 +49,32 @@ goes_on_well D trees lines doc accepted right front later split =
     let stands = keeps_stands (offers_of D) z front (record { are = doc.tables; start = D.start; legal = legal_start D doc; right = begins; reached = refl }) in
     completes (in_force (offers_of D) z) z.positions (live_in_force D trees z accepted stands) stands.legal
 
--- what the finish of a document's run gives
-unfoldable pub runs : (D : Doc) (trees : List Tree) (z : Yard) (lines : List Line) (written : List ℕ) → IsDoc D → AreAccepted D trees → IsDone (offers_of D) z
-    → Finishes (offers_of D) (opening D.start) (trains (offer (offers_of D) 0).table - 1) [] z lines → written ≡ text (names_of D) (with_counts lines)
-    → (run : IsRun D written) × IsRoundRobin D (opening D.start) run.journal.lines
-runs D trees z lines written doc accepted done finishes printed =
-    let run : Keeps (offers_of D) z lines = record {
-      are = doc.tables;
-      start = D.start;
-      legal = legal_start D doc;
-      right = subst (IsRight (offers_of D) (opening D.start)) (sym finishes.adds) (round_right (offers_of D) (opening D.start) _ finishes.added finishes.round);
-      reached = finishes.after ∙ ap (after_lines (opening D.start)) (sym finishes.adds);
-    } in (
+-- a run's lines lead to its end
+pub ends_keep : (D : Doc) (crew : Crew) (end : Plain) → IsDoc D → Ends D crew (plain_after D []) end → Keeps (offers_of D) end.yard end.lines
+ends_keep D crew end doc ends = record {
+  are = doc.tables;
+  start = D.start;
+  legal = legal_start D doc;
+  right = subst (IsRight (offers_of D) (opening D.start)) (sym ends.adds) ends.right;
+  reached = ends.after ∙ ap (after_lines (opening D.start)) (sym ends.adds);
+}
+
+-- what the end of a document's run gives
+unfoldable pub runs : (D : Doc) (trees : List Tree) (crew : Crew) (end : Plain) (written : List ℕ) → IsDoc D → AreAccepted D trees
+    → Ends D crew (plain_after D []) end → written ≡ text (names_of D) (with_counts end.lines) → (run : IsRun D written) × IsRunBy D crew [] run.journal.lines
+unfolding ends_keep
+runs D trees crew end written doc accepted ends printed =
+    let run = ends_keep D crew end doc ends in (
       record {
         legal_start = legal_start D doc;
-        journal = with_counts lines;
+        journal = with_counts end.lines;
         trees = trees;
         accepted = accepted;
-        whole = whole (offers_of D) z lines run done;
-        goes_on_well = goes_on_well D trees lines doc accepted run.right;
+        whole = whole (offers_of D) end.yard end.lines run ends.done;
+        goes_on_well = goes_on_well D trees end.lines doc accepted run.right;
         printed = printed;
       },
-      round_begun (offers_of D) (opening D.start) z _ lines finishes,
+      subst (IsRunBy D crew []) (sym ends.adds) ends.by,
     )
 
 -- a run has few lines

@@ -2,16 +2,19 @@
 use Rattle.std.proofs.Common.{◌≡◌, ℕ, List, Option, Some, sym, ◌∙◌, subst}
 use Rattle.std.specs.Prelude.{Ok, IfSome}
 use Rattle.command_words.specs.declared.orders.Order.{Order}
-use Rattle.command_words.specs.declared.orders.Order.TheVariants.{Run, Make, Derive, Repair, Generate}
+use Rattle.command_words.specs.declared.orders.Order.TheVariants.{Run, Make, Derive, Repair, Generate, Drill}
 use Rattle.layout_json.specs.Replaced.{replaced}
 use Rattle.rail_model.specs.Yard.{opening}
+use Rattle.shared_run.specs.Crews.{crew_of}
 use Rattle.ats_run.specs.Causes.{IsServed}
-use Rattle.ats_run.specs.Command.{Comes, IsDocWith}
+use Rattle.ats_run.specs.Command.{Comes, IsDocWith, IsRunInput, IsAnyDrill}
 use Rattle.ats_run.specs.Complete.{IsAcceptedInput}
 use Rattle.ats_run.specs.Generating.{full_budget}
 use Rattle.ats_run.specs.Headline.{IsRun, IsRoundRobin}
 use Rattle.ats_run.specs.Making.{trees_in}
-use Rattle.ats_run.specs.Orders.{OnInput, MakesCertificates}
+use Rattle.ats_run.specs.Orders.{OnInput, MakesCertificates, drill_crew}
+use Rattle.document_generator.specs.Generated.{generated}
+use Rattle.ats_run.proofs.Drilled.{any_drill}
 use Rattle.ats_run.proofs.AcceptedText.{accepted_input, made_input}
 use Rattle.ats_run.proofs.Reading.{if_weaker, on_weaker}
 
@@ -46,11 +49,24 @@ module _ (asked : Option Order) (held left : Option (List ℕ)) (Taken : List �
   documents order is w done = written_of order held Taken w (served order is done)
 
   -- a run, whatever made its lines
-  pub runs : (workers rounds : ℕ) → asked ≡ Some (Run workers rounds) → IsServed asked held left Taken
+  pub runs : (workers rounds block : ℕ) → asked ≡ Some (Run workers rounds block) → IsServed asked held left Taken
       → IfSome held (λ input. (written : List ℕ) × IsDocWith input (λ D. IsRun D written) × Taken written)
-  runs workers rounds is done = if_weaker held _ _ (λ input k. (k.0, (k.1.0, k.1.1, k.1.2.0), k.2)) (served (Run workers rounds) is done)
+  runs workers rounds block is done = if_weaker held _ _ (λ input k. (k.0, (k.1.0, k.1.1, k.1.2.0), k.2)) (served (Run workers rounds block) is done)
 
   -- a run on one thread
-  pub runs_alone : (rounds : ℕ) → asked ≡ Some (Run 0 rounds) → IsServed asked held left Taken
+  pub runs_alone : (rounds block : ℕ) → asked ≡ Some (Run 0 rounds block) → IsServed asked held left Taken
       → IfSome held (λ input. (written : List ℕ) × IsDocWith input (λ D. (run : IsRun D written) × IsRoundRobin D (opening D.start) run.journal.lines) × Taken written)
-  runs_alone rounds is done = served (Run 0 rounds) is done
+  runs_alone rounds block is done = served (Run 0 rounds block) is done
+
+  -- a run by a crew
+  pub runs_by : (workers rounds block : ℕ) → asked ≡ Some (Run workers rounds block) → IsServed asked held left Taken
+      → IfSome held (λ input. (written : List ℕ) × IsRunInput (crew_of workers rounds block) input written × Taken written)
+  runs_by workers rounds block is done = served (Run workers rounds block) is done
+
+  -- a drill
+  pub drills : (seed trains workers : ℕ) → asked ≡ Some (Drill seed trains workers) → IsServed asked held left Taken
+      → (written : List ℕ) × IsAnyDrill (generated seed trains) written × Taken written
+  drills seed trains workers is done =
+      let wrote = served (Drill seed trains workers) is done in
+      let counted = wrote.1 in
+      (wrote.0, (counted.0, counted.1, (counted.2.0, counted.2.1, any_drill counted.2.0 (drill_crew workers) wrote.0 counted.2.2)), wrote.2)

@@ -24,6 +24,16 @@ pub record Call : Type 1 where
   pub source_failed : Type 0
   pub sink_failed : Type 0
 
+-- what a call knows of the outside
+abbrev pub call_of : Option Order → Option (List ℕ) → Option (List ℕ) → Type 0 → Type 0 → Call
+call_of order held left source_failed sink_failed = record {
+  order = order;
+  held = held;
+  at_end = IsAtEnd left;
+  source_failed = source_failed;
+  sink_failed = sink_failed;
+}
+
 -- The words ask for an order, of which the fact holds.
 abbrev pub Asked : Call → (Order → Type 0) → Type 0
 Asked call P = (order : Order) × (call.order ≡ Some order) × P order

@@ -1,12 +1,13 @@
 -- What each command comes to on the bytes of its input: the bytes that it prints, or the refusal that it tells.
-use Rattle.std.specs.Prelude.{◌≡◌, ◌≢◌, ◌⊎◌, ℕ, List, Result, Ok, Err}
+use Rattle.std.specs.Prelude.{◌≡◌, ◌≢◌, ◌⊎◌, ℕ, List, [], Result, Ok, Err}
 use Rattle.command_words.specs.declared.orders.Order.{Order}
 use Rattle.command_words.specs.declared.orders.Order.TheVariants.{Run, Resume, Check, Verify, Migrate, Make, Derive, Repair, Simulate, Generate, Drill, Weave}
 use Rattle.move_journal.specs.declared.faults.BadText.{BadText}
 use Rattle.move_journal.specs.declared.faults.BadText.TheVariants.{NoEnd}
 use Rattle.move_journal.specs.declared.faults.BadLine.{BadLine}
 use Rattle.document_generator.specs.Generated.{generated}
-use Rattle.rail_model.specs.Yard.{opening}
+use Rattle.shared_run.specs.declared.crews.Crew.{Crew}
+use Rattle.shared_run.specs.Crews.{crew_of}
 use Rattle.layout_json.specs.Doc.{Doc}
 use Rattle.layout_json.specs.Trees.{IsNoTree}
 use Rattle.layout_json.specs.Reading.{doc_of}
@@ -16,11 +17,12 @@ use Rattle.ats_run.specs.declared.failure.Failure.TheVariants.{Document, Tree, C
 use Rattle.ats_run.specs.Certificates.{IsBadTable}
 use Rattle.ats_run.specs.Checking.{IsChecked}
 use Rattle.ats_run.specs.Journals.{IsCut, HasNoCut, document_part, journal_part, IsVerified, IsUnreadable, IsUnverified, IsResumed, IsUnresumed}
-use Rattle.ats_run.specs.Generating.{full_budget, IsDrilled}
+use Rattle.ats_run.specs.Generating.{full_budget, IsDrilled, IsDrillLine}
 use Rattle.ats_run.specs.Headline.{IsRun, IsRunBy}
 use Rattle.ats_run.specs.Deriving.{IsDerived, IsUnderived}
 use Rattle.ats_run.specs.Making.{tables_in, IsMade, IsUnmade}
 use Rattle.ats_run.specs.Migrating.{IsMigratedText}
+use Rattle.ats_run.specs.Orders.{drill_crew}
 use Rattle.ats_run.specs.Repairing.{IsRepaired, IsUnrepaired}
 use Rattle.ats_run.specs.Simulating.{IsSimulated}
 use Rattle.ats_run.specs.Weaving.{IsWoven}
@@ -60,9 +62,9 @@ IsVerifiedInput input written = IsPairWith input (λ D given. IsVerified D given
 abbrev pub IsUnverifiedInput : List ℕ → Failure → Type 0
 IsUnverifiedInput input e = IsRefusedPair IsUnreadable IsUnverified input e
 
--- The input is a document and a journal or its front, from which its run goes on by so many workers.
-abbrev pub IsResumedInput : ℕ → List ℕ → List ℕ → Type 0
-IsResumedInput workers input written = IsPairWith input (λ D given. IsResumed D workers given written)
+-- The input is a document and a journal or its front, from which its run goes on by a crew.
+abbrev pub IsResumedInput : Crew → List ℕ → List ℕ → Type 0
+IsResumedInput crew input written = IsPairWith input (λ D given. IsResumed D crew given written)
 
 -- Why it isn't.
 abbrev pub IsUnresumedInput : List ℕ → Failure → Type 0
@@ -80,21 +82,29 @@ IsUnderivedInput input most budget e = IsNoDoc input e ⊎ IsDocWith input (λ D
 abbrev pub IsUnrepairedInput : List ℕ → ℕ → ℕ → Failure → Type 0
 IsUnrepairedInput input budget rounds e = IsNoDoc input e ⊎ IsDocWith input (λ D. IsUnrepaired D budget rounds e)
 
--- The certificates of the document are made, and the run of the document so made, by so many workers, is counted.
-abbrev pub IsDrilledInput : ℕ → List ℕ → List ℕ → Type 0
-IsDrilledInput workers input written =
-    (made : List ℕ) × IsDocWith input (λ D. IsMade D full_budget made) × IsDocWith made (λ D. IsDrilled D workers written)
+-- The bytes are a document, whose run by a crew is written.
+abbrev pub IsRunInput : Crew → List ℕ → List ℕ → Type 0
+IsRunInput crew input written = IsDocWith input (λ D. (run : IsRun D written) × IsRunBy D crew [] run.journal.lines)
+
+-- The certificates of the document are made, and the run of the document so made, by a crew, is counted.
+abbrev pub IsDrilledInput : Crew → List ℕ → List ℕ → Type 0
+IsDrilledInput crew input written =
+    (made : List ℕ) × IsDocWith input (λ D. IsMade D full_budget made) × IsDocWith made (λ D. IsDrilled D crew written)
+
+-- The line of every drill of the document, whoever runs its trains.
+abbrev pub IsAnyDrill : List ℕ → List ℕ → Type 0
+IsAnyDrill input written = (made : List ℕ) × IsDocWith input (λ D. IsMade D full_budget made) × IsDocWith made (λ D. IsDrillLine D written)
 
 -- What a command comes to.
 abbrev pub Comes : Order → List ℕ → Result (List ℕ) Failure → Type 0
-Comes (Run workers rounds) input (Ok written) = IsDocWith input (λ D. (run : IsRun D written) × IsRunBy D workers (opening D.start) run.journal.lines)
-Comes (Run workers rounds) input (Err e) = IsUnchecked input e
+Comes (Run workers rounds block) input (Ok written) = IsRunInput (crew_of workers rounds block) input written
+Comes (Run workers rounds block) input (Err e) = IsUnchecked input e
 Comes Check input (Ok written) = IsDocWith input (λ D. IsChecked D written)
 Comes Check input (Err e) = IsUnchecked input e
 Comes Verify input (Ok written) = IsVerifiedInput input written
 Comes Verify input (Err e) = IsUnverifiedInput input e
-Comes (Resume workers rounds) input (Ok written) = IsResumedInput workers input written
-Comes (Resume workers rounds) input (Err e) = IsUnresumedInput input e
+Comes (Resume workers rounds block) input (Ok written) = IsResumedInput (crew_of workers rounds block) input written
+Comes (Resume workers rounds block) input (Err e) = IsUnresumedInput input e
 Comes Migrate input (Ok written) = IsDocWith input (λ D. IsMigratedText D written)
 Comes Migrate input (Err e) = IsNoDoc input e
 Comes (Make budget) input (Ok written) = IsDocWith input (λ D. IsMade D budget written)
@@ -107,7 +117,7 @@ Comes Simulate input (Ok written) = IsDocWith input (λ D. IsSimulated D written
 Comes Simulate input (Err e) = IsUnchecked input e
 Comes (Generate seed trains) input (Ok written) = IsDocWith (generated seed trains) (λ D. IsMade D full_budget written)
 Comes (Generate seed trains) input (Err e) = IsUnmadeInput (generated seed trains) full_budget e
-Comes (Drill seed trains workers) input (Ok written) = IsDrilledInput workers (generated seed trains) written
+Comes (Drill seed trains workers) input (Ok written) = IsDrilledInput (drill_crew workers) (generated seed trains) written
 Comes (Drill seed trains workers) input (Err e) = IsUnmadeInput (generated seed trains) full_budget e
 Comes (Weave seed turns) input (Ok written) = IsDocWith input (λ D. (run : IsRun D written) × IsWoven D seed turns run.journal.lines)
 Comes (Weave seed turns) input (Err e) = IsUnchecked input e

@@ -54,12 +54,12 @@ IsMakeable seed trains = IsDocWith (generated seed trains) (λ D. AreMakeable (t
 
 -- What a command asks of its input.
 abbrev pub Suits : Order → List ℕ → Type 0
-Suits (Run workers rounds) input = IsAcceptedInput input
+Suits (Run workers rounds block) input = IsAcceptedInput input
 Suits Simulate input = IsAcceptedInput input
 Suits (Weave seed turns) input = IsAcceptedInput input
 Suits Check input = IsAcceptedInput input
 Suits Verify input = IsJournalInput input IsWholeText
-Suits (Resume workers rounds) input = IsJournalInput input (λ D given. IsWholeText D given ⊎ IsRightFront D given)
+Suits (Resume workers rounds block) input = IsJournalInput input (λ D given. IsWholeText D given ⊎ IsRightFront D given)
 Suits Migrate input = IsDocument input
 Suits (Make budget) input = IsDocWith input (λ D. AreMakeable (tables_in D) budget)
 Suits (Derive most budget) input = IsDocWith input (IsDerivable most budget)

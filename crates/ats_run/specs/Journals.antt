@@ -6,12 +6,13 @@ use Rattle.rail_model.specs.Move.{IsFirst}
 use Rattle.rail_model.specs.Certificate.{Tree}
 use Rattle.rail_model.specs.Yard.{Offer, Yard, opening}
 use Rattle.rail_model.specs.Names.{Names}
-use Rattle.rail_model.specs.Journal.{Journal, IsWhole, after_lines, text, with_counts}
+use Rattle.rail_model.specs.Journal.{Journal, IsWhole, text, with_counts}
 use Rattle.move_journal.specs.declared.faults.BadText.{BadText}
 use Rattle.move_journal.specs.declared.faults.BadText.TheVariants.{NoEnd}
 use Rattle.move_journal.specs.declared.faults.BadLine.{BadLine}
 use Rattle.move_journal.specs.Answers.{IsTextOf, IsFrontOf, HasFault}
 use Rattle.move_journal.specs.Replays.{HasBadLine, IsNotWhole}
+use Rattle.shared_run.specs.declared.crews.Crew.{Crew}
 use Rattle.layout_json.specs.Doc.{Doc, IsDoc, offers_of, names_of}
 use Rattle.ats_run.specs.declared.failure.Failure.{Failure}
 use Rattle.ats_run.specs.declared.failure.Failure.TheVariants.{Line, Text}
@@ -85,24 +86,24 @@ pub record IsUnverified (D : Doc) (given : List ℕ) (cause : BadLine) : Type 0 
   pub text : IsTextOf (names_of D) given journal
   pub fault : IsNotWhole (offers_of D) (opening D.start) journal cause
 
--- The bytes are the text of a front and of lines that go on from its state, by so many workers.
-pub record GoesOnFrom (D : Doc) (workers : ℕ) (front : Journal) (written : List ℕ) : Type 0 where
+-- The bytes are the text of a front and of lines that go on from its state, by a crew.
+pub record GoesOnFrom (D : Doc) (crew : Crew) (front : Journal) (written : List ℕ) : Type 0 where
   pub added : List Step
-  pub by : IsRunBy D workers (after_lines (opening D.start) front.lines) added
+  pub by : IsRunBy D crew front.lines added
   pub printed : written ≡ text (names_of D) (with_counts (front.lines ++ added))
 
 -- The given bytes are a journal's text and were written as they are, or they are a front, from whose state the run goes on.
-abbrev pub IsContinued : Doc → ℕ → List ℕ → List ℕ → Type 0
-IsContinued D workers given written =
+abbrev pub IsContinued : Doc → Crew → List ℕ → List ℕ → Type 0
+IsContinued D crew given written =
     (((journal : Journal) × IsTextOf (names_of D) given journal) × (written ≡ given))
-    ⊎ ((front : Journal) × IsFrontOf (names_of D) given front × GoesOnFrom D workers front written)
+    ⊎ ((front : Journal) × IsFrontOf (names_of D) given front × GoesOnFrom D crew front written)
 
 -- What `resume` writes: the text of one whole run of the document, that begins with the given text.
-pub record IsResumed (D : Doc) (workers : ℕ) (given written : List ℕ) : Type 0 where
+pub record IsResumed (D : Doc) (crew : Crew) (given written : List ℕ) : Type 0 where
   pub run : IsRun D written
   pub rest : List ℕ
   pub begins : written ≡ given ++ rest
-  pub continued : IsContinued D workers given written
+  pub continued : IsContinued D crew given written
 
 -- The bytes are the text of a journal that isn't whole, for the first cause, or a front with a first line that isn't right.
 pub record IsUnresumed (D : Doc) (given : List ℕ) (cause : BadLine) : Type 0 where

@@ -15,4 +15,5 @@ pub mod Repairing
 pub mod Report
 pub mod Simulating
 pub mod Starting
+pub mod Tasks
 pub mod Weaving

@@ -3,7 +3,9 @@ use Rattle.std.specs.Prelude.{◌≡◌, ℕ, List, [], Option, Some, IfSome}
 use Rattle.clap.specs.Words.{Text}
 use Rattle.command_words.specs.Words.{words}
 use Rattle.command_words.specs.declared.orders.Order.{Order}
-use Rattle.command_words.specs.declared.orders.Order.TheVariants.{Make, Derive, Repair, Generate, Drill}
+use Rattle.command_words.specs.declared.orders.Order.TheVariants.{Run, Resume, Make, Derive, Repair, Generate, Drill}
+use Rattle.shared_run.specs.declared.crews.Crew.{Crew}
+use Rattle.shared_run.specs.Crews.{crew_of}
 
 -- what the words ask for, or None where they are refused
 abbrev pub order_of : List Text → Option Order
@@ -34,3 +36,18 @@ MakesCertificates (Derive most budget) = Unit {0}
 MakesCertificates (Repair budget rounds) = Unit {0}
 MakesCertificates (Generate seed trains) = Unit {0}
 MakesCertificates order = ⊥
+
+-- who runs the trains of a drill
+abbrev pub drill_crew : ℕ → Crew
+drill_crew workers = crew_of workers 1000 1
+
+-- who runs the trains of an order: no workers, where it says nothing of them
+abbrev pub crew_in : Order → Crew
+crew_in (Run workers rounds block) = crew_of workers rounds block
+crew_in (Resume workers rounds block) = crew_of workers rounds block
+crew_in (Drill seed trains workers) = drill_crew workers
+crew_in order = crew_of 0 0 1
+
+-- No worker runs the order's trains, so it waits for nobody.
+abbrev pub IsAlone : Order → Type 0
+IsAlone order = (crew_in order).workers ≡ 0

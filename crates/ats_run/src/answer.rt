@@ -1,38 +1,169 @@
 // What an order comes to on the bytes of its input.
-ghost use Rattle.std.specs.Prelude.{◌≡◌, ◌⊎◌, Some, Ok, Err, MatchResult};
+ghost use Rattle.std.specs.Prelude.{◌≡◌, ◌≤◌, ◌⊎◌, Ok, Err, MatchResult, IfOk, length};
 ghost use Rattle.command_words.specs.Subcommands.{HasItsNumbers};
+ghost use Rattle.shared_run.specs.Crews.{IsCrew};
 ghost use Rattle.ats_run.specs.Command.{Comes};
+ghost use Rattle.ats_run.specs.Orders.{crew_in, IsAlone};
+ghost use Rattle.ats_run.specs.Tasks.{RunsTrains, TaskLeads, Prints};
+ghost use Rattle.layout_json.specs.Doc.{offers_of};
+ghost use Rattle.plain_yard.specs.Keeps.{Keeps};
 ghost use Rattle.ats_run.specs.declared.failure.Failure.TheVariants.{Memory as NoMemory};
 
 use crate::Failure;
+use crate::checked::Checked;
 use crate::checking::check;
-use crate::generating::{drill, generate};
+use crate::finishing::{finish_alone, finish_by};
+use crate::generating::{begin_drill, counts_of_run, generate};
 use crate::journals::verify;
 use crate::making::make;
 use crate::migrating::migrate;
 use crate::repairing::repair;
 use crate::resuming::resume;
-use crate::running::run;
+use crate::running::{begin_run, text_of_run};
 use crate::sectioning::derive;
 use crate::simulating::simulate;
+use crate::tasks::Task;
 use crate::weaving::weave;
+use ats_io::Gate;
 use command_words::Order;
-use std::alloc::Global;
+use rail_model::PlainState;
+use shared_run::Crew;
+use std::alloc::{AllocError, Global};
+use std::sync::Wait;
 use std::thread::Threads;
 
-/// The bytes that an order prints for its input, or why there are none. An order that reads nothing has the empty input.
-pub fn answer(
+const DRILL_ROUNDS: u32 = 1000;
+
+/// Who runs the trains of an order.
+pub(crate) fn crew_of(order: Order) -> Crew
+    requires { HasItsNumbers order }
+    ensures exact { result ≡ crew_in order }
+    ensures formed { 1 ≤ result.workers → IsCrew result }
+{
+    match order {
+        Order::Run {
+            workers,
+            rounds,
+            block,
+        }
+        | Order::Resume {
+            workers,
+            rounds,
+            block,
+        } => Crew {
+            workers,
+            rounds,
+            block,
+        },
+        Order::Drill { workers, .. } => Crew {
+            workers,
+            rounds: DRILL_ROUNDS,
+            block: 1,
+        },
+        _ => Crew {
+            workers: 0,
+            rounds: 0,
+            block: 1,
+        },
+    }
+}
+
+// What is left to do of an order that runs trains.
+fn begin_task(
+    rt: &(impl Threads + Sync),
+    alloc: Global,
+    order: Order,
+    input: &[u8],
+) -> Result<Task, Failure>
+    requires numbers { HasItsNumbers order }
+    requires runs { RunsTrains order }
+    ensures { MatchResult result (TaskLeads (Prints order) (λ crew written. crew ≡ crew_in order → Comes order input.now (Ok written)))
+        (λ e. (e ≡ NoMemory) ⊎ Comes order input.now (Err e)) }
+{
+    match order {
+        Order::Run { .. } => begin_run(rt, alloc, input),
+        Order::Resume { .. } => resume(rt, alloc, input),
+        Order::Drill { seed, trains, .. } => begin_drill(rt, alloc, seed, trains),
+        _ => unreachable!(),
+    }
+}
+
+// What an order prints of the end of its run.
+fn print(
+    alloc: Global,
+    order: Order,
+    checked: &Checked,
+    end: PlainState,
+) -> Result<Vec<u8>, AllocError>
+    requires keeps { Keeps (offers_of checked.now.doc) end.yard end.lines }
+    requires few { length checked.now.certs.items ≤ 16 }
+    ensures { IfOk result (λ text. Prints order checked.now.doc checked.now.certs.items end text.items) }
+{
+    match order {
+        Order::Drill { .. } => counts_of_run(alloc, checked, end),
+        _ => text_of_run(alloc, &checked.doc, end),
+    }
+}
+
+// The bytes that an order prints whose trains run on one thread, or why there are none.
+fn run_alone(
     rt: &(impl Threads + Sync),
     alloc: Global,
     order: Order,
     input: &[u8],
 ) -> Result<Vec<u8>, Failure>
-    requires { HasItsNumbers order }
+    requires numbers { HasItsNumbers order }
+    requires runs { RunsTrains order }
+    requires alone { IsAlone order }
+    ensures { MatchResult result (λ text. Comes order input.now (Ok text.items)) (λ e. (e ≡ NoMemory) ⊎ Comes order input.now (Err e)) }
+{
+    match begin_task(rt, alloc, order, input)? {
+        Task::Goes { checked, from } => {
+            let end = finish_alone(&checked.doc, &checked.tables, from)?;
+            Ok(print(alloc, order, &checked, end)?)
+        }
+        Task::Printed(text) => Ok(text),
+    }
+}
+
+/// The bytes that an order prints for its input whose trains are run by workers, or why there are none. An order that reads nothing has the
+/// empty input.
+pub(crate) fn answer_by<R: Threads + Wait + Sync, G: Gate>(
+    rt: &R,
+    alloc: Global,
+    order: Order,
+    input: &[u8],
+    gate: &G,
+) -> Result<Vec<u8>, Failure>
+    requires numbers { HasItsNumbers order }
+    requires workers { 1 ≤ (crew_in order).workers }
+    ensures { MatchResult result (λ text. Comes order input.now (Ok text.items)) (λ e. (e ≡ NoMemory) ⊎ Comes order input.now (Err e)) }
+{
+    let crew = crew_of(order);
+    match begin_task(rt, alloc, order, input)? {
+        Task::Goes { checked, from } => {
+            let end = finish_by(rt, alloc, &checked.doc, &checked.tables, from, crew, gate)?;
+            Ok(print(alloc, order, &checked, end)?)
+        }
+        Task::Printed(text) => Ok(text),
+    }
+}
+
+/// The bytes that an order prints for its input, or why there are none. An order that reads nothing has the empty input.
+pub(crate) fn answer_alone(
+    rt: &(impl Threads + Sync),
+    alloc: Global,
+    order: Order,
+    input: &[u8],
+) -> Result<Vec<u8>, Failure>
+    requires numbers { HasItsNumbers order }
+    requires alone { IsAlone order }
     ensures { MatchResult result (λ text. Comes order input.now (Ok text.items)) (λ e. (e ≡ NoMemory) ⊎ Comes order input.now (Err e)) }
 {
     match order {
-        Order::Run { .. } => run(rt, alloc, input),
-        Order::Resume { .. } => resume(rt, alloc, input),
+        Order::Run { .. } | Order::Resume { .. } | Order::Drill { .. } => {
+            run_alone(rt, alloc, order, input)
+        }
         Order::Check => check(rt, alloc, input),
         Order::Verify => verify(rt, alloc, input),
         Order::Migrate => migrate(alloc, input),
@@ -41,7 +172,6 @@ pub fn answer(
         Order::Repair { budget, rounds } => repair(alloc, input, budget, rounds),
         Order::Simulate => simulate(rt, alloc, input),
         Order::Generate { seed, trains } => generate(alloc, seed, trains),
-        Order::Drill { seed, trains, .. } => drill(rt, alloc, seed, trains),
         Order::Weave { seed, steps } => weave(rt, alloc, input, seed, steps),
     }
 }

@@ -2,21 +2,24 @@
 ghost use Rattle.std.specs.Prelude.{◌≡◌, ◌⊎◌, ◌≤◌, List, length, IfOk, IfErr, string_bytes};
 ghost use Rattle.document_generator.specs.Generated.{generated};
 ghost use Rattle.layout_json.specs.Doc.{offers_of};
-ghost use Rattle.ats_run.specs.Certificates.{AreAccepted};
 ghost use Rattle.ats_run.specs.Command.{IsDocWith, IsUnmadeInput, IsDrilledInput};
 ghost use Rattle.ats_run.specs.Complete.{IsAcceptedInput};
 ghost use Rattle.ats_run.specs.Generating.{IsDrilled, drill_text, full_budget};
 ghost use Rattle.ats_run.specs.Making.{IsMade};
+ghost use Rattle.ats_run.specs.Tasks.{TaskLeads, PrintsCounts};
+ghost use Rattle.plain_yard.specs.Keeps.{Keeps};
 ghost use Rattle.ats_run.specs.declared.failure.Failure.TheVariants.{Memory as NoMemory};
 
 use crate::Failure;
 use crate::checked::{Checked, check_document};
 use crate::checking::nodes;
 use crate::making::make;
-use crate::running::finish;
+use crate::tasks::Task;
 use document_generator::generate as generate_document;
-use layout_json::names_of;
+use layout_json::{names_of, start_of};
 use move_journal::Journal;
+use plain_yard::begin;
+use rail_model::PlainState;
 use std::alloc::{AllocError, Global};
 use std::thread::Threads;
 
@@ -34,51 +37,48 @@ pub fn generate(alloc: Global, seed: u32, trains: u32) -> Result<Vec<u8>, Failur
     make(alloc, &document, FULL_BUDGET)
 }
 
-/// The counts of the run of a generated document on one thread.
-pub fn drill(
+/// The run of a generated document, at its start.
+pub(crate) fn begin_drill(
     rt: &(impl Threads + Sync),
     alloc: Global,
     seed: u32,
     trains: u32,
-) -> Result<Vec<u8>, Failure>
+) -> Result<Task, Failure>
     requires { trains ≤ 32 }
-    ensures drilled { IfOk result (λ text. IsDrilledInput 0 (generated seed trains) text.items) }
+    ensures leads { IfOk result (TaskLeads PrintsCounts (λ crew written. IsDrilledInput crew (generated seed trains) written)) }
 
     ensures unmade { IfErr result (λ e. (e ≡ NoMemory) ⊎ IsUnmadeInput (generated seed trains) full_budget e) }
 {
     let document = generate(alloc, seed, trains)?;
-    drill_document(rt, alloc, &document)
+    begin_document(rt, alloc, &document)
 }
 
-// The counts of the run of a document whose one table accepts its certificate. The only error is want of memory.
-fn drill_document(
-    rt: &(impl Threads + Sync),
-    alloc: Global,
-    input: &[u8],
-) -> Result<Vec<u8>, Failure>
+// The run of a document whose one table accepts its certificate, at its start. The only error is that there is no memory.
+fn begin_document(rt: &(impl Threads + Sync), alloc: Global, input: &[u8]) -> Result<Task, Failure>
     requires one_table { IsDocWith input.now (λ D. length D.tables ≡ 1) }
     requires accepted { IsAcceptedInput input.now }
-    ensures drilled { IfOk result (λ text. IsDocWith input.now (λ D. IsDrilled D 0 text.items)) }
+    ensures leads { IfOk result (TaskLeads PrintsCounts (λ crew written. IsDocWith input.now (λ D. IsDrilled D crew written))) }
 
     ensures memory { IfErr result (λ e. e ≡ NoMemory) }
 {
     let checked = check_document(rt, alloc, input)?;
-    let text = drill_checked(alloc, &checked)?;
-    Ok(text)
+    let from = begin(alloc, start_of(&checked.doc))?;
+    Ok(Task::Goes { checked, from })
 }
 
-// The counts of the run of a document under its tables, each of which accepts its certificate.
-fn drill_checked(alloc: Global, checked: &Checked) -> Result<Vec<u8>, AllocError>
-    requires tables { checked.now.tables.items ≡ offers_of checked.now.doc }
-    requires accepted { AreAccepted checked.now.doc checked.now.certs.items }
+/// The line that counts a run of a document.
+pub(crate) fn counts_of_run(
+    alloc: Global,
+    checked: &Checked,
+    end: PlainState,
+) -> Result<Vec<u8>, AllocError>
+    requires keeps { Keeps (offers_of checked.now.doc) end.yard end.lines }
     requires few { length checked.now.certs.items ≤ 16 }
-    requires one_table { length checked.now.doc.tables ≡ 1 }
-    ensures { IfOk result (λ text. IsDrilled checked.now.doc 0 text.items) }
+    ensures { IfOk result (λ text. PrintsCounts checked.now.doc checked.now.certs.items end text.items) }
 {
-    let state = finish(alloc, &checked.doc, &checked.tables)?;
-    let (_, lines) = state.into_parts();
-    let journal = Journal::from_lines(lines);
     let trains = names_of(&checked.doc).trains();
+    let (_, lines) = end.into_parts();
+    let journal = Journal::from_lines(lines);
     let line = drilled_line(alloc, trains, &journal, nodes(&checked.certs))?;
     Ok(line.into_bytes())
 }

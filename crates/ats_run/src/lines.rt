@@ -1,4 +1,4 @@
-// The line that is told of a failure.
+// The line that is written of a failure.
 ghost use Rattle.std.specs.Prelude.{◌≡◌, ◌++◌, IfOk, OnOk, IfSome, IfNone, string_bytes};
 ghost use Rattle.ats_run.specs.Report.{words_of, line_of, IsLineMade};
 
@@ -9,7 +9,7 @@ use refusal_lines::{
 };
 use std::alloc::{AllocError, Global};
 
-/// The line of want of memory.
+/// The line that says that there is no memory.
 pub const NO_MEMORY: &str = "ats: 202 Memory\n";
 
 /// The line of a failure whose line is fixed: it takes no memory.

@@ -8,13 +8,14 @@ ghost use Rattle.move_journal.specs.Answers.{IsTextOf, IsFrontOf, IsPart};
 ghost use Rattle.layout_json.specs.Doc.{IsDoc, offers_of, names_of};
 ghost use Rattle.ats_run.specs.Certificates.{AreAccepted};
 ghost use Rattle.ats_run.specs.Journals.{IsResumed, IsLineFault, IsFrontFault, IsPartFault};
+ghost use Rattle.ats_run.specs.Tasks.{TaskLeads, PrintsText};
 ghost use Rattle.ats_run.specs.Command.{IsResumedInput, IsUnresumedInput};
 ghost use Rattle.ats_run.specs.declared.failure.Failure.TheVariants.{Memory as NoMemory};
 
 use crate::Failure;
-use crate::checked::{Checked, check_document};
+use crate::checked::check_document;
 use crate::journals::{cut, verify_lines};
-use crate::running::{finish_from, text_of_run};
+use crate::tasks::Task;
 use cert_checker::Accepted;
 use layout_json::{Doc, names_of, start_of};
 use move_journal::{Journal, Part, read_prefix, replay};
@@ -22,9 +23,13 @@ use rail_model::PlainState;
 use std::alloc::Global;
 use std::thread::Threads;
 
-/// The text of the run that goes on from a journal on one thread, or the journal as it is where it is whole.
-pub fn resume(rt: &(impl Threads + Sync), alloc: Global, input: &[u8]) -> Result<Vec<u8>, Failure>
-    ensures resumed { IfOk result (λ text. IsResumedInput 0 input.now text.items) }
+/// The run that goes on from a journal, at the state that its front leads to, or the journal as it is where it is whole.
+pub(crate) fn resume(
+    rt: &(impl Threads + Sync),
+    alloc: Global,
+    input: &[u8],
+) -> Result<Task, Failure>
+    ensures leads { IfOk result (TaskLeads PrintsText (λ crew written. IsResumedInput crew input.now written)) }
 
     ensures refused { IfErr result (λ e. (e ≡ NoMemory) ⊎ IsUnresumedInput input.now e) }
 {
@@ -34,7 +39,10 @@ pub fn resume(rt: &(impl Threads + Sync), alloc: Global, input: &[u8]) -> Result
     let checked = check_document(rt, alloc, document)?;
     match read_part(alloc, &checked.doc, given)? {
         Part::Whole(journal) => keep(alloc, &checked.doc, &checked.tables, &journal, given),
-        Part::Open(front) => go_on(alloc, &checked.doc, &checked.tables, &front, given),
+        Part::Open(front) => {
+            let from = replay_front(alloc, &checked.doc, &checked.tables, &front)?;
+            Ok(Task::Goes { checked, from })
+        }
     }
 }
 
@@ -56,34 +64,16 @@ fn keep(
     tables: &[Accepted],
     journal: &Journal,
     given: &[u8],
-) -> Result<Vec<u8>, Failure>
+) -> Result<Task, Failure>
     requires tables { tables.now ≡ offers_of doc.now }
     requires text { IsTextOf (names_of doc.now) given.now journal.now }
-    ensures resumed { IfOk result (λ text. (trees : List Tree) → AreAccepted doc.now trees → IsResumed doc.now 0 given.now text.items) }
+    ensures leads { IfOk result (λ task. (trees : List Tree) → AreAccepted doc.now trees
+        → TaskLeads PrintsText (λ crew written. IsResumed doc.now crew given.now written) task) }
 
     ensures refused { IfErr result (λ e. (e ≡ NoMemory) ⊎ IsLineFault (offers_of doc.now) (opening doc.now.start) journal.now e) }
 {
     verify_lines(alloc, doc, tables, journal)?;
-    Ok(Vec::from_slice(alloc, given)?)
-}
-
-// The text of a front, and of the round robin from its state on.
-fn go_on(
-    alloc: Global,
-    doc: &Doc,
-    tables: &[Accepted],
-    front: &Journal,
-    given: &[u8],
-) -> Result<Vec<u8>, Failure>
-    requires tables { tables.now ≡ offers_of doc.now }
-    requires text { IsFrontOf (names_of doc.now) given.now front.now }
-    ensures resumed { IfOk result (λ text. (trees : List Tree) → AreAccepted doc.now trees → IsResumed doc.now 0 given.now text.items) }
-
-    ensures refused { IfErr result (λ e. (e ≡ NoMemory) ⊎ IsFrontFault (offers_of doc.now) (opening doc.now.start) front.now e) }
-{
-    let state = replay_front(alloc, doc, tables, front)?;
-    let end = finish_from(doc, tables, state)?;
-    Ok(text_of_run(alloc, doc, end)?)
+    Ok(Task::Printed(Vec::from_slice(alloc, given)?))
 }
 
 // The state that a front leads to.

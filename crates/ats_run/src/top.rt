@@ -4,23 +4,26 @@ ghost use Rattle.std.specs.Io.KnownBytes.{IsAtEnd};
 ghost use Rattle.ats_io.specs.Bytes.{Adds, AddsPrefix, ConsumesAtMost};
 ghost use Rattle.ats_io.specs.Faults.{Rose};
 ghost use Rattle.command_words.specs.Subcommands.{HasItsNumbers};
-ghost use Rattle.ats_run.specs.Orders.{order_of, Reads, OnInput, Holds, MakesCertificates};
+ghost use Rattle.ats_run.specs.Orders.{order_of, Reads, OnInput, Holds, MakesCertificates, crew_in, IsAlone};
 ghost use Rattle.command_words.specs.declared.orders.Order.{Order as OrderValue};
-ghost use Rattle.command_words.specs.declared.orders.Order.TheVariants.{Run};
-ghost use Rattle.ats_run.specs.Command.{Comes, IsDocWith};
+ghost use Rattle.command_words.specs.declared.orders.Order.TheVariants.{Run, Drill};
+ghost use Rattle.shared_run.specs.Crews.{crew_of as crew};
+ghost use Rattle.document_generator.specs.Generated.{generated};
+ghost use Rattle.ats_run.specs.Command.{Comes, IsDocWith, IsRunInput, IsAnyDrill};
 ghost use Rattle.ats_run.specs.Complete.{IsAcceptedInput, IsGoodInput, IsDoneOrMemory};
 ghost use Rattle.rail_model.specs.Yard.{opening};
 ghost use Rattle.ats_run.specs.Headline.{IsRun, IsRoundRobin};
-ghost use Rattle.ats_run.specs.Causes.{Call, IsReadWhole, IsServed, IsCause, IsUnread, IsUnwritten, Tells, most_bytes};
+ghost use Rattle.ats_run.specs.Causes.{call_of, IsReadWhole, IsServed, IsCause, IsUnread, IsUnwritten, Tells, most_bytes};
 ghost use Rattle.ats_run.specs.Ending.{status_of};
 ghost use Rattle.ats_run.specs.Report.{line_of as line_of_failure, IsLineMade};
 
-use crate::answer::answer;
+use crate::answer::{answer_alone, answer_by, crew_of};
 use crate::lines::{NO_MEMORY, fixed_line, line_of};
 use crate::{Failure, Status};
-use ats_io::{ReadAll, Sink, Source, WriteFault, read_all, write_all};
+use ats_io::{Gate, ReadAll, Sink, Source, WriteFault, read_all, write_all};
 use command_words::{Order, WordsRefused, words};
 use std::alloc::Global;
+use std::sync::Wait;
 use std::thread::Threads;
 
 const MOST_BYTES: usize = 16_777_216;
@@ -44,7 +47,7 @@ fn read_input<S: Source>(alloc: Global, source: &mut S) -> Result<Vec<u8>, Failu
     }
 }
 
-// What an order comes to on an input, written to the sink.
+// What an order without workers comes to on an input, written to the sink.
 fn write_answer<K: Sink>(
     rt: &(impl Threads + Sync),
     alloc: Global,
@@ -52,7 +55,8 @@ fn write_answer<K: Sink>(
     input: &[u8],
     out: &mut K,
 ) -> Result<(), Failure>
-    requires { HasItsNumbers order }
+    requires numbers { HasItsNumbers order }
+    requires alone { IsAlone order }
     ensures done { OnOk result ((written : List ℕ) × Comes order input.now (Ok written) × Adds (K.taken out.old) (K.taken out.new) written) }
 
     ensures failed { IfErr result (IsUnwritten order input.now (Rose (K.faults out.old) (K.faults out.new))) }
@@ -61,15 +65,15 @@ fn write_answer<K: Sink>(
 
     ensures same_plan { K.planned out.new ≡ K.planned out.old }
 {
-    let text = answer(rt, alloc, order, input)?;
+    let text = answer_alone(rt, alloc, order, input)?;
     match write_all(out, &text) {
         Ok(()) => Ok(()),
         Err(WriteFault) => Err(Failure::WriteFault),
     }
 }
 
-// What an order comes to on what the source holds, written to the sink.
-fn serve<S: Source, K: Sink>(
+// What such an order comes to on what the source holds, written to the sink.
+fn serve_input<S: Source, K: Sink>(
     rt: &(impl Threads + Sync),
     alloc: Global,
     order: Order,
@@ -78,17 +82,13 @@ fn serve<S: Source, K: Sink>(
 ) -> Result<(), Failure>
     requires reads { Reads order }
     requires numbers { HasItsNumbers order }
+    requires alone { IsAlone order }
     ensures read { OnOk result (IsReadWhole order (S.left source.old) (IsAtEnd (S.left source.new))) }
     ensures done { OnOk result (OnInput order (S.left source.old)
         (λ input. (written : List ℕ) × Comes order input (Ok written) × Adds (K.taken out.old) (K.taken out.new) written)) }
 
-    ensures cause { IfErr result (IsCause (record {
-      order = Some order;
-      held = S.left source.old;
-      at_end = IsAtEnd (S.left source.new);
-      source_failed = Rose (S.faults source.old) (S.faults source.new);
-      sink_failed = Rose (K.faults out.old) (K.faults out.new);
-    })) }
+    ensures cause { IfErr result (IsCause (call_of (Some order) (S.left source.old) (S.left source.new)
+        (Rose (S.faults source.old) (S.faults source.new)) (Rose (K.faults out.old) (K.faults out.new)))) }
     ensures nothing { IfErr result (λ e. e ≢ Failure.WriteFault → Adds (K.taken out.old) (K.taken out.new) []) }
     ensures prefix { result ≡ Err Failure.WriteFault → IsReadWhole order (S.left source.old) (IsAtEnd (S.left source.new)) × OnInput order (S.left source.old)
         (λ input. (written : List ℕ) × Comes order input (Ok written) × AddsPrefix (K.taken out.old) (K.taken out.new) written) }
@@ -107,23 +107,168 @@ fn is_reading(order: Order) -> bool
     !matches!(order, Order::Generate { .. } | Order::Drill { .. })
 }
 
-// What the words of a command line ask for, on what the source holds, written to the sink.
-fn serve_words<S: Source, K: Sink>(
+/// Does what an order asks for: it reads the source to its end, where the order reads, and writes what the order comes to. It waits for
+/// nobody: no workers run the order's trains.
+///
+/// # Errors
+///
+/// Each failure has its cause; being out of memory alone has none. No line of it is written: `refuse` does that.
+pub fn serve_alone<S: Source, K: Sink>(
     rt: &(impl Threads + Sync),
+    alloc: Global,
+    order: Order,
+    source: &mut S,
+    out: &mut K,
+) -> Result<(), Failure>
+    requires numbers { HasItsNumbers order }
+    requires alone { IsAlone order }
+    ensures done { OnOk result (IsServed (Some order) (S.left source.old) (S.left source.new) (Adds (K.taken out.old) (K.taken out.new))) }
+
+    ensures cause { IfErr result (IsCause (call_of (Some order) (S.left source.old) (S.left source.new)
+        (Rose (S.faults source.old) (S.faults source.new)) (Rose (K.faults out.old) (K.faults out.new)))) }
+    ensures nothing { IfErr result (λ e. e ≢ Failure.WriteFault → Adds (K.taken out.old) (K.taken out.new) []) }
+    ensures prefix { result ≡ Err Failure.WriteFault
+        → IsServed (Some order) (S.left source.old) (S.left source.new) (AddsPrefix (K.taken out.old) (K.taken out.new)) }
+
+    ensures untouched { (Reads order → ⊥) → source.new ≡ source.old }
+    ensures at_most { ConsumesAtMost (most_bytes + 1) (S.left source.old) (S.left source.new) }
+    ensures same_plans { (S.planned source.new ≡ S.planned source.old) × (K.planned out.new ≡ K.planned out.old) }
+{
+    if is_reading(order) {
+        serve_input(rt, alloc, order, source, out)
+    } else {
+        write_answer(rt, alloc, order, &[], out)
+    }
+}
+
+// What an order with workers comes to on an input, written to the sink.
+fn write_answer_by<K: Sink, R: Threads + Wait + Sync, G: Gate>(
+    rt: &R,
+    alloc: Global,
+    order: Order,
+    input: &[u8],
+    out: &mut K,
+    gate: &G,
+) -> Result<(), Failure>
+    requires numbers { HasItsNumbers order }
+    requires workers { 1 ≤ (crew_in order).workers }
+    ensures done { OnOk result ((written : List ℕ) × Comes order input.now (Ok written) × Adds (K.taken out.old) (K.taken out.new) written) }
+
+    ensures failed { IfErr result (IsUnwritten order input.now (Rose (K.faults out.old) (K.faults out.new))) }
+    ensures nothing { IfErr result (λ e. e ≢ Failure.WriteFault → Adds (K.taken out.old) (K.taken out.new) []) }
+    ensures prefix { result ≡ Err Failure.WriteFault → (written : List ℕ) × Comes order input.now (Ok written) × AddsPrefix (K.taken out.old) (K.taken out.new) written }
+
+    ensures same_plan { K.planned out.new ≡ K.planned out.old }
+{
+    let text = answer_by(rt, alloc, order, input, gate)?;
+    match write_all(out, &text) {
+        Ok(()) => Ok(()),
+        Err(WriteFault) => Err(Failure::WriteFault),
+    }
+}
+
+// What such an order comes to on what the source holds, written to the sink.
+fn serve_input_by<S: Source, K: Sink, R: Threads + Wait + Sync, G: Gate>(
+    rt: &R,
+    alloc: Global,
+    order: Order,
+    source: &mut S,
+    out: &mut K,
+    gate: &G,
+) -> Result<(), Failure>
+    requires reads { Reads order }
+    requires numbers { HasItsNumbers order }
+    requires workers { 1 ≤ (crew_in order).workers }
+    ensures read { OnOk result (IsReadWhole order (S.left source.old) (IsAtEnd (S.left source.new))) }
+    ensures done { OnOk result (OnInput order (S.left source.old)
+        (λ input. (written : List ℕ) × Comes order input (Ok written) × Adds (K.taken out.old) (K.taken out.new) written)) }
+
+    ensures cause { IfErr result (IsCause (call_of (Some order) (S.left source.old) (S.left source.new)
+        (Rose (S.faults source.old) (S.faults source.new)) (Rose (K.faults out.old) (K.faults out.new)))) }
+    ensures nothing { IfErr result (λ e. e ≢ Failure.WriteFault → Adds (K.taken out.old) (K.taken out.new) []) }
+    ensures prefix { result ≡ Err Failure.WriteFault → IsReadWhole order (S.left source.old) (IsAtEnd (S.left source.new)) × OnInput order (S.left source.old)
+        (λ input. (written : List ℕ) × Comes order input (Ok written) × AddsPrefix (K.taken out.old) (K.taken out.new) written) }
+
+    ensures at_most { ConsumesAtMost (most_bytes + 1) (S.left source.old) (S.left source.new) }
+    ensures same_plans { (S.planned source.new ≡ S.planned source.old) × (K.planned out.new ≡ K.planned out.old) }
+{
+    let bytes = read_input(alloc, source)?;
+    write_answer_by(rt, alloc, order, &bytes, out, gate)
+}
+
+// What an order with workers asks for is done, as `serve_alone` does it. It may wait.
+fn serve_by<S: Source, K: Sink, R: Threads + Wait + Sync, G: Gate>(
+    rt: &R,
+    alloc: Global,
+    order: Order,
+    source: &mut S,
+    out: &mut K,
+    gate: &G,
+) -> Result<(), Failure>
+    requires numbers { HasItsNumbers order }
+    requires workers { 1 ≤ (crew_in order).workers }
+    ensures done { OnOk result (IsServed (Some order) (S.left source.old) (S.left source.new) (Adds (K.taken out.old) (K.taken out.new))) }
+
+    ensures cause { IfErr result (IsCause (call_of (Some order) (S.left source.old) (S.left source.new)
+        (Rose (S.faults source.old) (S.faults source.new)) (Rose (K.faults out.old) (K.faults out.new)))) }
+    ensures nothing { IfErr result (λ e. e ≢ Failure.WriteFault → Adds (K.taken out.old) (K.taken out.new) []) }
+    ensures prefix { result ≡ Err Failure.WriteFault
+        → IsServed (Some order) (S.left source.old) (S.left source.new) (AddsPrefix (K.taken out.old) (K.taken out.new)) }
+
+    ensures untouched { (Reads order → ⊥) → source.new ≡ source.old }
+    ensures at_most { ConsumesAtMost (most_bytes + 1) (S.left source.old) (S.left source.new) }
+    ensures same_plans { (S.planned source.new ≡ S.planned source.old) × (K.planned out.new ≡ K.planned out.old) }
+{
+    if is_reading(order) {
+        serve_input_by(rt, alloc, order, source, out, gate)
+    } else {
+        write_answer_by(rt, alloc, order, &[], out, gate)
+    }
+}
+
+// Does what any order asks for. It may wait where workers run the order's trains.
+fn serve_any<S: Source, K: Sink, R: Threads + Wait + Sync, G: Gate>(
+    rt: &R,
+    alloc: Global,
+    order: Order,
+    source: &mut S,
+    out: &mut K,
+    gate: &G,
+) -> Result<(), Failure>
+    requires { HasItsNumbers order }
+    ensures done { OnOk result (IsServed (Some order) (S.left source.old) (S.left source.new) (Adds (K.taken out.old) (K.taken out.new))) }
+
+    ensures cause { IfErr result (IsCause (call_of (Some order) (S.left source.old) (S.left source.new)
+        (Rose (S.faults source.old) (S.faults source.new)) (Rose (K.faults out.old) (K.faults out.new)))) }
+    ensures nothing { IfErr result (λ e. e ≢ Failure.WriteFault → Adds (K.taken out.old) (K.taken out.new) []) }
+    ensures prefix { result ≡ Err Failure.WriteFault
+        → IsServed (Some order) (S.left source.old) (S.left source.new) (AddsPrefix (K.taken out.old) (K.taken out.new)) }
+
+    ensures untouched { (Reads order → ⊥) → source.new ≡ source.old }
+    ensures at_most { ConsumesAtMost (most_bytes + 1) (S.left source.old) (S.left source.new) }
+    ensures same_plans { (S.planned source.new ≡ S.planned source.old) × (K.planned out.new ≡ K.planned out.old) }
+{
+    let crew = crew_of(order);
+    if crew.workers == 0 {
+        serve_alone(rt, alloc, order, source, out)
+    } else {
+        serve_by(rt, alloc, order, source, out, gate)
+    }
+}
+
+// What the words of a command line ask for, on what the source holds, written to the sink.
+fn serve_words<S: Source, K: Sink, R: Threads + Wait + Sync, G: Gate>(
+    rt: &R,
     alloc: Global,
     line: &[String],
     source: &mut S,
     out: &mut K,
+    gate: &G,
 ) -> Result<(), Failure>
     ensures done { OnOk result (IsServed (order_of (map string_bytes line.now)) (S.left source.old) (S.left source.new) (Adds (K.taken out.old) (K.taken out.new))) }
 
-    ensures cause { IfErr result (IsCause (record {
-      order = order_of (map string_bytes line.now);
-      held = S.left source.old;
-      at_end = IsAtEnd (S.left source.new);
-      source_failed = Rose (S.faults source.old) (S.faults source.new);
-      sink_failed = Rose (K.faults out.old) (K.faults out.new);
-    })) }
+    ensures cause { IfErr result (IsCause (call_of (order_of (map string_bytes line.now)) (S.left source.old) (S.left source.new)
+        (Rose (S.faults source.old) (S.faults source.new)) (Rose (K.faults out.old) (K.faults out.new)))) }
     ensures nothing { IfErr result (λ e. e ≢ Failure.WriteFault → Adds (K.taken out.old) (K.taken out.new) []) }
     ensures prefix { result ≡ Err Failure.WriteFault
         → IsServed (order_of (map string_bytes line.now)) (S.left source.old) (S.left source.new) (AddsPrefix (K.taken out.old) (K.taken out.new)) }
@@ -133,8 +278,7 @@ fn serve_words<S: Source, K: Sink>(
     ensures same_plans { (S.planned source.new ≡ S.planned source.old) × (K.planned out.new ≡ K.planned out.old) }
 {
     match words(alloc, line) {
-        Ok(order) if is_reading(order) => serve(rt, alloc, order, source, out),
-        Ok(order) => write_answer(rt, alloc, order, &[], out),
+        Ok(order) => serve_any(rt, alloc, order, source, out, gate),
         Err(WordsRefused::Words) => Err(Failure::Words),
         Err(WordsRefused::Memory) => Err(Failure::Memory),
     }
@@ -175,24 +319,34 @@ pub fn refuse<E: Sink>(alloc: Global, failure: Failure, err: &mut E) -> Failure
 
 /// The program: reads the words, the source to its end, and prints what is asked for.
 ///
-/// `line` has the words after the program's name. The answer's exit code is `code`. Nothing is told but one line on `err`, where the
-/// answer isn't `Done`. It waits for nobody.
-pub fn ats<S: Source, K: Sink, E: Sink>(
-    rt: &(impl Threads + Sync),
+/// `line` has the words after the program's name. The answer's exit code is `code`. Nothing but one line is written to `err`, where the
+/// answer isn't `Done`. It may wait where the words ask for workers, each of which calls the gate at its moments; what else it does is
+/// `serve_alone`'s, which waits for nobody.
+pub fn ats<S: Source, K: Sink, E: Sink, R: Threads + Wait + Sync, G: Gate>(
+    rt: &R,
     alloc: Global,
     line: &[String],
     source: &mut S,
     out: &mut K,
     err: &mut E,
+    gate: &G,
 ) -> Status
     // A run that ends well: the text of one whole journal of checked tables, from every state of which each way of going on ends well.
-    ensures headline { (workers rounds : ℕ) → result ≡ Status.Done → order_of (map string_bytes line.now) ≡ Some (Run workers rounds)
+    ensures headline { (workers rounds block : ℕ) → result ≡ Status.Done → order_of (map string_bytes line.now) ≡ Some (Run workers rounds block)
         → IfSome (S.left source.old) (λ input. (written : List ℕ) × IsDocWith input (λ D. IsRun D written) × Adds (K.taken out.old) (K.taken out.new) written) }
 
     // Without workers its lines are those of the round robin from the start.
-    ensures round_robin { (rounds : ℕ) → result ≡ Status.Done → order_of (map string_bytes line.now) ≡ Some (Run 0 rounds)
+    ensures round_robin { (rounds block : ℕ) → result ≡ Status.Done → order_of (map string_bytes line.now) ≡ Some (Run 0 rounds block)
         → IfSome (S.left source.old) (λ input. (written : List ℕ)
         × IsDocWith input (λ D. (run : IsRun D written) × IsRoundRobin D (opening D.start) run.journal.lines) × Adds (K.taken out.old) (K.taken out.new) written) }
+
+    // With workers they are the journal of a legal history of their rounds, and then those of the round robin from its state.
+    ensures by_workers { (workers rounds block : ℕ) → result ≡ Status.Done → order_of (map string_bytes line.now) ≡ Some (Run workers rounds block)
+        → IfSome (S.left source.old) (λ input. (written : List ℕ) × IsRunInput (crew workers rounds block) input written × Adds (K.taken out.old) (K.taken out.new) written) }
+
+    // A drill writes the same line for every number of workers.
+    ensures drill { (seed trains workers : ℕ) → result ≡ Status.Done → order_of (map string_bytes line.now) ≡ Some (Drill seed trains workers)
+        → (written : List ℕ) × IsAnyDrill (generated seed trains) written × Adds (K.taken out.old) (K.taken out.new) written }
 
     // Every command that ends well has read all that it reads, has written what it comes to on these bytes, and told nothing.
     ensures done { result ≡ Status.Done
@@ -204,13 +358,9 @@ pub fn ats<S: Source, K: Sink, E: Sink>(
         → OnInput order (S.left source.old) (λ input. (written : List ℕ) × IsAcceptedInput written × Adds (K.taken out.old) (K.taken out.new) written) }
 
     // Any other status has its cause, and the line of it was told.
-    ensures refused { result ≢ Status.Done → Tells (record {
-      order = order_of (map string_bytes line.now);
-      held = S.left source.old;
-      at_end = IsAtEnd (S.left source.new);
-      source_failed = Rose (S.faults source.old) (S.faults source.new);
-      sink_failed = Rose (K.faults out.old) (K.faults out.new);
-    }) result (Rose (E.faults err.old) (E.faults err.new)) (E.taken err.old) (E.taken err.new) }
+    ensures refused { result ≢ Status.Done → Tells (call_of (order_of (map string_bytes line.now)) (S.left source.old) (S.left source.new)
+        (Rose (S.faults source.old) (S.faults source.new)) (Rose (K.faults out.old) (K.faults out.new)))
+        result (Rose (E.faults err.old) (E.faults err.new)) (E.taken err.old) (E.taken err.new) }
     ensures nothing { result ≢ Status.Done → result ≢ Status.WriteFault → Adds (K.taken out.old) (K.taken out.new) [] }
     ensures prefix { result ≡ Status.WriteFault
         → IsServed (order_of (map string_bytes line.now)) (S.left source.old) (S.left source.new) (AddsPrefix (K.taken out.old) (K.taken out.new)) }
@@ -227,7 +377,7 @@ pub fn ats<S: Source, K: Sink, E: Sink>(
     // Which calls of the devices are to fail stays, where they tell it.
     ensures same_plans { (S.planned source.new ≡ S.planned source.old) × (K.planned out.new ≡ K.planned out.old) }
 {
-    match serve_words(rt, alloc, line, source, out) {
+    match serve_words(rt, alloc, line, source, out, gate) {
         Ok(()) => Status::Done,
         Err(failure) => refuse(alloc, failure, err).status(),
     }

@@ -32,24 +32,24 @@ order_of_unknown : order_of (codes "checks", []) ≡ None
 order_of_unknown = refl
 
 -- Each subcommand alone has its defaults.
-defaults : map asked (codes "run" ∷ codes "resume" ∷ codes "check" ∷ codes "verify" ∷ codes "migrate" ∷ codes "make" ∷ []) ≡ Some (order.Run 0 1000) ∷ Some (order.Resume 0 1000) ∷ Some order.Check ∷ Some order.Verify ∷ Some order.Migrate ∷ Some (order.Make 1000000) ∷ []
+defaults : map asked (codes "run" ∷ codes "resume" ∷ codes "check" ∷ codes "verify" ∷ codes "migrate" ∷ codes "make" ∷ []) ≡ Some (order.Run 0 1000 1) ∷ Some (order.Resume 0 1000 1) ∷ Some order.Check ∷ Some order.Verify ∷ Some order.Migrate ∷ Some (order.Make 1000000) ∷ []
 unfolding clap_on_literals leaf words number_of
 defaults = refl
 
-run_rounds : asked (codes "run --rounds 5") ≡ Some (order.Run 0 5)
+run_rounds : asked (codes "run --rounds 5") ≡ Some (order.Run 0 5 1)
 unfolding clap_on_literals leaf words number_of
 run_rounds = refl
 
-run_rounds_with_sign : asked (codes "run --rounds=3") ≡ Some (order.Run 0 3)
+run_rounds_with_sign : asked (codes "run --rounds=3") ≡ Some (order.Run 0 3 1)
 unfolding clap_on_literals leaf words number_of
 run_rounds_with_sign = refl
 
-any_order : asked (codes "resume --rounds=7 --workers 0") ≡ Some (order.Resume 0 7)
+any_order : asked (codes "resume --rounds=7 --workers 0") ≡ Some (order.Resume 0 7 1)
 unfolding clap_on_literals leaf words number_of
 any_order = refl
 
 -- Two dashes at the end ask for nothing more.
-dashes_last : asked (codes "run --") ≡ Some (order.Run 0 1000)
+dashes_last : asked (codes "run --") ≡ Some (order.Run 0 1000 1)
 unfolding clap_on_literals leaf words number_of
 dashes_last = refl
 
@@ -69,7 +69,7 @@ not_decimal : map asked (codes "run --rounds +3" ∷ codes "run --rounds 03" ∷
 unfolding clap_on_literals leaf words number_of
 not_decimal = refl
 
-out_of_ranges : map asked (codes "run --workers 17" ∷ codes "run --rounds 1000001" ∷ codes "resume --workers 1" ∷ codes "make --budget 0" ∷ codes "make --budget 1000001" ∷ codes "make --budget 4294967297" ∷ []) ≡ None ∷ None ∷ None ∷ None ∷ None ∷ None ∷ []
+out_of_ranges : map asked (codes "run --workers 17" ∷ codes "run --rounds 1000001" ∷ codes "resume --workers 17" ∷ codes "make --budget 0" ∷ codes "make --budget 1000001" ∷ codes "make --budget 4294967297" ∷ []) ≡ None ∷ None ∷ None ∷ None ∷ None ∷ None ∷ []
 unfolding clap_on_literals leaf words number_of
 out_of_ranges = refl
 
@@ -95,13 +95,22 @@ unfolding clap_on_literals leaf words number_of
 drill_of_seven = refl
 
 -- Each of their options has an end to its range.
-more_out_of_ranges : map asked (codes "derive --most 1" ∷ codes "derive --most 9" ∷ codes "repair --rounds 10001" ∷ codes "gen --seed 4294967296" ∷ codes "gen --trains 33" ∷ codes "drill --workers 1" ∷ []) ≡ None ∷ None ∷ None ∷ None ∷ None ∷ None ∷ []
+more_out_of_ranges : map asked (codes "derive --most 1" ∷ codes "derive --most 9" ∷ codes "repair --rounds 10001" ∷ codes "gen --seed 4294967296" ∷ codes "gen --trains 33" ∷ codes "drill --workers 17" ∷ []) ≡ None ∷ None ∷ None ∷ None ∷ None ∷ None ∷ []
 unfolding clap_on_literals leaf words number_of
 more_out_of_ranges = refl
 
 more_not_its_own : map asked (codes "derive --rounds 3" ∷ codes "repair --most 2" ∷ codes "sim --seed 1" ∷ codes "gen --workers 0" ∷ codes "drill --rounds 3" ∷ []) ≡ None ∷ None ∷ None ∷ None ∷ None ∷ []
 unfolding clap_on_literals leaf words number_of
 more_not_its_own = refl
+
+-- Workers, and the steps that they ask for at once.
+by_workers : map asked (codes "run --workers 16 --block 4" ∷ codes "resume --block=2 --workers 3" ∷ codes "drill --workers 8" ∷ []) ≡ Some (order.Run 16 1000 4) ∷ Some (order.Resume 3 1000 2) ∷ Some (order.Drill 0 2 8) ∷ []
+unfolding clap_on_literals leaf words number_of
+by_workers = refl
+
+no_blocks : map asked (codes "run --block 0" ∷ codes "run --block 5" ∷ codes "resume --block 5" ∷ codes "drill --block 1" ∷ []) ≡ None ∷ None ∷ None ∷ None ∷ []
+unfolding clap_on_literals leaf words number_of
+no_blocks = refl
 
 -- A weave has a seed and a number of turns, which has an end to its range.
 weaves : map asked (codes "weave" ∷ codes "weave --seed 7 --steps 1000" ∷ []) ≡ Some (order.Weave 0 0) ∷ Some (order.Weave 7 1000) ∷ []

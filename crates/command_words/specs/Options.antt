@@ -15,17 +15,17 @@ pub record NumberOption : Type 0 where
 abbrev pub option : Text → ℕ → ℕ → ℕ → NumberOption
 option name least greatest default = record { name = name; least = least; greatest = greatest; default = default }
 
--- no workers can be asked for: the trains run on one thread
-abbrev pub most_workers : ℕ
-most_workers = 0
-
--- how many workers run the trains: 0, which is one thread alone
+-- how many workers run the trains at once: 0, which is one thread alone
 abbrev pub workers : NumberOption
-workers = option (codes "workers") 0 most_workers 0
+workers = option (codes "workers") 0 16 0
 
--- how many rounds a run makes at most; the number is read and has no effect
+-- how many rounds each worker makes at most
 abbrev pub rounds : NumberOption
 rounds = option (codes "rounds") 0 1000000 1000
+
+-- how many steps a worker asks for at once
+abbrev pub block : NumberOption
+block = option (codes "block") 1 4 1
 
 -- how many turns a weave makes
 abbrev pub steps : NumberOption

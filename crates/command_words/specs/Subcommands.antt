@@ -1,7 +1,7 @@
 -- The subcommands: the options of each, and what it asks for.
 use Rattle.std.specs.Prelude.{List, [], ◌∷◌, codes, Option, Some, option_and_then}
 use Rattle.clap.specs.Words.{Row, Text}
-use Rattle.command_words.specs.Options.{NumberOption, Takes, number, workers, rounds, budget, most, repair_rounds, seed, steps, trains}
+use Rattle.command_words.specs.Options.{NumberOption, Takes, number, workers, rounds, block, budget, most, repair_rounds, seed, steps, trains}
 use Rattle.command_words.specs.declared.orders.Order.{Order}
 use Rattle.command_words.specs.declared.orders.Order.TheVariants as order
 
@@ -16,26 +16,28 @@ pub record Subcommand : Type 0 where
   pub options : List NumberOption
   pub order : List Row → Option Order
 
--- runs the trains of a document on one thread, whatever number of rounds is given
+-- runs the trains of a document
 abbrev pub run : Subcommand
 run = record {
   name = codes "run";
-  options = workers ∷ rounds ∷ [];
+  options = workers ∷ rounds ∷ block ∷ [];
   order = λ given. do
     w ← number workers given
     r ← number rounds given
-    Some (order.Run w r);
+    b ← number block given
+    Some (order.Run w r b);
 }
 
--- runs the trains of a document on from the beginning of a journal, likewise
+-- runs the trains of a document on from the beginning of a journal
 abbrev pub resume : Subcommand
 resume = record {
   name = codes "resume";
-  options = workers ∷ rounds ∷ [];
+  options = workers ∷ rounds ∷ block ∷ [];
   order = λ given. do
     w ← number workers given
     r ← number rounds given
-    Some (order.Resume w r);
+    b ← number block given
+    Some (order.Resume w r b);
 }
 
 -- checks the certificates of a document
@@ -122,8 +124,8 @@ weave = record {
 
 -- Each number of the order is one that its option takes.
 abbrev pub HasItsNumbers : Order → Type 0
-HasItsNumbers (order.Run w r) = Takes workers w × Takes rounds r
-HasItsNumbers (order.Resume w r) = Takes workers w × Takes rounds r
+HasItsNumbers (order.Run w r b) = Takes workers w × Takes rounds r × Takes block b
+HasItsNumbers (order.Resume w r b) = Takes workers w × Takes rounds r × Takes block b
 HasItsNumbers (order.Make b) = Takes budget b
 HasItsNumbers (order.Derive m b) = Takes most m × Takes budget b
 HasItsNumbers (order.Repair b r) = Takes budget b × Takes repair_rounds r

@@ -6,12 +6,13 @@ ghost use Rattle.command_words.specs.Options as spec;
 use clap::ArgMatches;
 use decimal_number::number_of;
 
-// The trains run on one thread, so no workers can be asked for.
-const MOST_WORKERS: u32 = 0;
+const MOST_WORKERS: u32 = 16;
 
 const MOST_ROUNDS: u32 = 1_000_000;
 
 const DEFAULT_ROUNDS: u32 = 1000;
+
+const MOST_BLOCK: u32 = 4;
 
 const MOST_STEPS: u32 = 1_000_000;
 
@@ -39,6 +40,13 @@ pub(crate) fn rounds(matches: &ArgMatches<'_>) -> Option<u32>
     ensures within { IfSome result (spec.Takes spec.rounds) }
 {
     number(matches, "rounds", 0, MOST_ROUNDS, DEFAULT_ROUNDS)
+}
+
+pub(crate) fn block(matches: &ArgMatches<'_>) -> Option<u32>
+    ensures exact { result ≡ spec.number spec.block (rows_of (found_of matches.now)) }
+    ensures within { IfSome result (spec.Takes spec.block) }
+{
+    number(matches, "block", 1, MOST_BLOCK, 1)
 }
 
 pub(crate) fn steps(matches: &ArgMatches<'_>) -> Option<u32>

@@ -3,16 +3,18 @@
 /// What the words ask for, with the numbers of its options.
 #[derive(Clone, Copy)]
 pub enum Order {
-    /// Run the trains of a document on one thread: `workers` is 0, and `rounds` is read and has no effect.
+    /// Run the trains of a document. So many workers run them at once, in so many rounds at most, in each of which a
+    /// train asks for up to `block` steps; then one thread finishes the run. Without workers it makes all of it.
     Run {
         workers: u32,
         rounds: u32,
+        block: u32,
     },
-    /// Run the trains of a document on from the beginning of a journal, on one thread: `workers` is 0, and
-    /// `rounds` is read and has no effect.
+    /// Run the trains of a document on from the beginning of a journal, likewise.
     Resume {
         workers: u32,
         rounds: u32,
+        block: u32,
     },
     /// Check the certificates of a document.
     Check,
@@ -42,7 +44,7 @@ pub enum Order {
         seed: u32,
         trains: u32,
     },
-    /// Make a document of so many trains from a seed, and run its trains on one thread: `workers` is 0.
+    /// Make a document of so many trains from a seed, and run its trains by so many workers.
     Drill {
         seed: u32,
         trains: u32,

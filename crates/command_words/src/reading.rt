@@ -4,7 +4,7 @@ ghost use Rattle.clap.specs.Words.{found_of, rows_of, subcommand_rows_of};
 ghost use Rattle.command_words.specs.Subcommands as sub;
 ghost use Rattle.command_words.specs.Words as spec;
 
-use crate::options::{budget, most, repair_rounds, rounds, seed, steps, trains, workers};
+use crate::options::{block, budget, most, repair_rounds, rounds, seed, steps, trains, workers};
 use crate::orders::{Order, WordsRefused};
 use crate::table::command;
 use clap::ArgMatches;
@@ -71,7 +71,12 @@ fn run(matches: &ArgMatches<'_>) -> Option<Order>
 {
     let workers = workers(matches)?;
     let rounds = rounds(matches)?;
-    Some(Order::Run { workers, rounds })
+    let block = block(matches)?;
+    Some(Order::Run {
+        workers,
+        rounds,
+        block,
+    })
 }
 
 fn resume(matches: &ArgMatches<'_>) -> Option<Order>
@@ -80,7 +85,12 @@ fn resume(matches: &ArgMatches<'_>) -> Option<Order>
 {
     let workers = workers(matches)?;
     let rounds = rounds(matches)?;
-    Some(Order::Resume { workers, rounds })
+    let block = block(matches)?;
+    Some(Order::Resume {
+        workers,
+        rounds,
+        block,
+    })
 }
 
 fn make(matches: &ArgMatches<'_>) -> Option<Order>

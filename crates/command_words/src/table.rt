@@ -78,7 +78,8 @@ fn run<'a>(alloc: Global) -> Result<Command<'a>, AllocError>
     ensures { IfOk result (Is (spec.leaf sub.run)) }
 {
     let command = with_option(alloc, Command::new(alloc, "run"), "workers")?;
-    with_option(alloc, command, "rounds")
+    let command = with_option(alloc, command, "rounds")?;
+    with_option(alloc, command, "block")
 }
 
 #[tactic(auto, unfolding(crate::specs::Words::leaf))]
@@ -86,7 +87,8 @@ fn resume<'a>(alloc: Global) -> Result<Command<'a>, AllocError>
     ensures { IfOk result (Is (spec.leaf sub.resume)) }
 {
     let command = with_option(alloc, Command::new(alloc, "resume"), "workers")?;
-    with_option(alloc, command, "rounds")
+    let command = with_option(alloc, command, "rounds")?;
+    with_option(alloc, command, "block")
 }
 
 #[tactic(auto, unfolding(crate::specs::Words::leaf))]

@@ -1,0 +1,48 @@
+-- What is left to do of an order that runs trains: to end its run, and to print it.
+use Rattle.std.specs.Prelude.{◌≡◌, ℕ, List, length}
+use Rattle.command_words.specs.declared.orders.Order.{Order}
+use Rattle.command_words.specs.declared.orders.Order.TheVariants.{Run, Resume, Drill}
+use Rattle.rail_model.specs.Certificate.{Tree}
+use Rattle.rail_model.specs.Plain.{Plain}
+use Rattle.rail_model.specs.Journal.{text, with_counts}
+use Rattle.plain_yard.specs.Keeps.{Keeps}
+use Rattle.shared_run.specs.declared.crews.Crew.{Crew}
+use Rattle.layout_json.specs.Doc.{Doc, IsDoc, offers_of, names_of}
+use Rattle.ats_run.specs.declared.tasks.Task.{Task}
+use Rattle.ats_run.specs.declared.tasks.Task.TheVariants.{Goes, Printed}
+use Rattle.ats_run.specs.Checking.{nodes_below}
+use Rattle.ats_run.specs.Generating.{drill_text}
+use Rattle.ats_run.specs.Headline.{Ends}
+
+-- The order runs trains.
+abbrev pub RunsTrains : Order → Type 0
+RunsTrains (Run workers rounds block) = Unit {0}
+RunsTrains (Resume workers rounds block) = Unit {0}
+RunsTrains (Drill seed trains workers) = Unit {0}
+RunsTrains order = ⊥
+
+-- The bytes are the text of the run's journal.
+abbrev pub PrintsText : Doc → List Tree → Plain → List ℕ → Type 0
+PrintsText D trees end written = written ≡ text (names_of D) (with_counts end.lines)
+
+-- The bytes count the run.
+abbrev pub PrintsCounts : Doc → List Tree → Plain → List ℕ → Type 0
+PrintsCounts D trees end written =
+    written ≡ drill_text (length D.trains) (with_counts end.lines).moves (with_counts end.lines).tables (nodes_below trees (length trees))
+
+-- The bytes are what the order prints of its run's end.
+abbrev pub Prints : Order → Doc → List Tree → Plain → List ℕ → Type 0
+Prints (Drill seed trains workers) D trees end written = PrintsCounts D trees end written
+Prints order D trees end written = PrintsText D trees end written
+
+-- A run of the document stands at this state: however a crew ends it, of what is printed of that end the fact holds.
+pub record LeadsTo (Printed : Doc → List Tree → Plain → List ℕ → Type 0) (P : Crew → List ℕ → Type 0) (D : Doc) (trees : List Tree) (from : Plain) : Type 0 where
+  pub formed : IsDoc D
+  pub keeps : Keeps (offers_of D) from.yard from.lines
+  pub few : length trees ≡ length D.tables
+  pub leads : (crew : Crew) (end : Plain) (written : List ℕ) → Ends D crew from end → Keeps (offers_of D) end.yard end.lines → Printed D trees end written → P crew written
+
+-- What the task comes to: a run that is to be ended, or bytes that are printed already.
+abbrev pub TaskLeads : (Doc → List Tree → Plain → List ℕ → Type 0) → (Crew → List ℕ → Type 0) → Task → Type 0
+TaskLeads Print P (Goes checked from) = (checked.tables.items ≡ offers_of checked.doc) × LeadsTo Print P checked.doc checked.certs.items from
+TaskLeads Print P (Printed text) = (crew : Crew) → P crew text.items
