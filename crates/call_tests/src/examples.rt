@@ -1,7 +1,9 @@
 // Worked examples, as a user meets them at the command line.
+use ats_io::NoGate;
 use ats_rows::{Faults, Played, play};
 use ats_run::{Status, code};
 use std::alloc::{AllocError, Global};
+use std::sync::Wait;
 use std::test::Fail;
 use std::thread::Threads;
 
@@ -123,13 +125,13 @@ fn answer_called(alloc: Global, answer: &str) -> Result<Vec<u8>, Fail> {
 }
 
 // Whether a call by devices that never fail ends as its row says.
-fn is_answered(rt: &(impl Threads + Sync), alloc: Global, row: &str) -> Result<bool, Fail> {
+fn is_answered(rt: &(impl Threads + Wait + Sync), alloc: Global, row: &str) -> Result<bool, Fail> {
     let (words, rest) = row.split_once(": ").ok_or("words")?;
     let (input, rest) = rest.split_once(" => ").ok_or("an input")?;
     let (exit_code, answer) = rest.split_once(' ').ok_or("an exit code")?;
     let input = input_called(alloc, input)?;
     let answer = answer_called(alloc, answer)?;
-    let played = play(rt, alloc, &line(alloc, words)?, input, SURE)?;
+    let played = play(rt, alloc, &line(alloc, words)?, input, SURE, &NoGate)?;
     let is_text = if exit_code == "0" {
         played.written.as_slice() == answer.as_slice() && is_told(&played, b"")
     } else {
@@ -174,6 +176,7 @@ fn a_device_that_fails_ends_the_call(rt: HostRuntime) -> Result<(), Fail> {
             &line(alloc, "run")?,
             Vec::from_slice(alloc, text)?,
             faults,
+            &NoGate,
         )?;
         assert!(rt; played.status == status);
         assert!(rt; Some(played.written.as_slice()) == journal.get(..taken));
@@ -190,7 +193,7 @@ fn an_input_has_a_greatest_length(rt: HostRuntime) -> Result<(), Fail> {
         (16_777_217, "ats: 104 TooLong limit=16777216\n"),
     ] {
         let spaces = vec![in alloc; b' '; length]?;
-        let played = play(&rt, alloc, &line(alloc, "check")?, spaces, SURE)?;
+        let played = play(&rt, alloc, &line(alloc, "check")?, spaces, SURE, &NoGate)?;
         assert!(rt; played.status == Status::Refused && is_told(&played, told.as_bytes()));
     }
     Ok(())

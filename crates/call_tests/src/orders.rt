@@ -4,14 +4,16 @@ use std::alloc::{AllocError, Global};
 use std::test::Fail;
 
 const TAKEN: &str = "\
-run: Run 0 1000 0
-run --: Run 0 1000 0
-run --rounds 5: Run 0 5 0
-run --rounds=3: Run 0 3 0
-run --rounds 1000000 --workers 0: Run 0 1000000 0
-run --workers=0 --rounds=0 --: Run 0 0 0
-resume: Resume 0 1000 0
-resume --rounds 0: Resume 0 0 0
+run: Run 0 1000 1
+run --: Run 0 1000 1
+run --rounds 5: Run 0 5 1
+run --rounds=3: Run 0 3 1
+run --rounds 1000000 --workers 0: Run 0 1000000 1
+run --workers=0 --rounds=0 --: Run 0 0 1
+run --workers 16 --block 4: Run 16 1000 4
+resume --block=2 --workers 3: Resume 3 1000 2
+resume: Resume 0 1000 1
+resume --rounds 0: Resume 0 0 1
 check: Check 0 0 0
 verify: Verify 0 0 0
 migrate: Migrate 0 0 0
@@ -25,6 +27,7 @@ sim: Simulate 0 0 0
 gen: Generate 0 2 0
 gen --trains 32 --seed 4294967295: Generate 4294967295 32 0
 drill --seed 7 --trains=0 --workers 0: Drill 7 0 0
+drill --workers 16: Drill 0 2 16
 weave: Weave 0 0 0
 weave --steps=1000000 --seed 7: Weave 7 1000000 0";
 
@@ -54,7 +57,10 @@ run --rounds 1000001
 make --budget 0
 make --budget 1000001
 make --budget 4294967297
-resume --workers 1
+resume --workers 17
+run --block 0
+run --block 5
+resume --block 5
 resume --rounds 1000001
 run --rounds 3 --rounds 3
 run --rounds=3 --rounds 4
@@ -86,7 +92,8 @@ sim --seed 1
 gen --seed 4294967296
 gen --trains 33
 gen --workers 0
-drill --workers 1
+drill --workers 17
+drill --block 1
 drill --rounds 3
 weave --steps 1000001
 weave --rounds 3
@@ -101,8 +108,16 @@ struct Parts {
 
 fn parts_of(order: Order) -> Parts {
     let (name, numbers) = match order {
-        Order::Run { workers, rounds } => ("Run", [workers, rounds, 0]),
-        Order::Resume { workers, rounds } => ("Resume", [workers, rounds, 0]),
+        Order::Run {
+            workers,
+            rounds,
+            block,
+        } => ("Run", [workers, rounds, block]),
+        Order::Resume {
+            workers,
+            rounds,
+            block,
+        } => ("Resume", [workers, rounds, block]),
         Order::Check => ("Check", [0, 0, 0]),
         Order::Verify => ("Verify", [0, 0, 0]),
         Order::Migrate => ("Migrate", [0, 0, 0]),

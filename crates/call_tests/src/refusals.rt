@@ -1,9 +1,11 @@
 // What is printed for documents and journals that are refused. Each row is a part of an input, and the words for it.
 use crate::examples::documents::document_called;
+use ats_io::NoGate;
 use crate::examples::{SURE, is_told, joined, line, push_lines};
 use ats_rows::play;
 use refusal_lines::push_many;
 use std::alloc::{AllocError, Global};
+use std::sync::Wait;
 use std::test::Fail;
 use std::thread::Threads;
 
@@ -89,13 +91,13 @@ fn without(text: &str, bytes: usize) -> &str {
 
 // Whether a call on this input writes nothing and tells these words.
 fn is_refused(
-    rt: &(impl Threads + Sync),
+    rt: &(impl Threads + Wait + Sync),
     alloc: Global,
     words: &str,
     input: Vec<u8>,
     told: &str,
 ) -> Result<bool, AllocError> {
-    let played = play(rt, alloc, &line(alloc, words)?, input, SURE)?;
+    let played = play(rt, alloc, &line(alloc, words)?, input, SURE, &NoGate)?;
     let wanted = joined(alloc, &["ats: ", told, "\n"])?;
     Ok(played.written.is_empty() && is_told(&played, wanted.as_slice()))
 }
