@@ -1,7 +1,7 @@
 // What is printed for documents and journals that are refused. Each row is a part of an input, and the words for it.
 use crate::examples::documents::document_called;
-use ats_io::NoGate;
 use crate::examples::{SURE, is_told, joined, line, push_lines};
+use ats_io::NoGate;
 use ats_rows::play;
 use refusal_lines::push_many;
 use std::alloc::{AllocError, Global};
