@@ -13,7 +13,10 @@ use std::thread::Threads;
 // A document with a table.
 fn read(alloc: Global, name: &str) -> Result<Doc, Fail> {
     let text = document_called(name).ok_or("a text")?;
-    Ok(document(alloc, text.as_bytes()).ok().ok_or("a document")?)
+    match document(alloc, text.as_bytes()) {
+        Ok(doc) => Ok(doc),
+        Err(_) => Err("a document".into()),
+    }
 }
 
 // The tree of the first table of a document.
@@ -21,7 +24,10 @@ fn cert_of(alloc: Global, doc: &Doc) -> Result<Cert, Fail> {
     if tables_of(doc) == 0 {
         return Err("a table".into());
     }
-    Ok(tree(alloc, nodes_of(doc, 0)).ok().ok_or("a tree")?)
+    match tree(alloc, nodes_of(doc, 0)) {
+        Ok(cert) => Ok(cert),
+        Err(_) => Err("a tree".into()),
+    }
 }
 
 // Whether both checks take the certificate of a document's first table.
@@ -49,21 +55,35 @@ fn both_checks_take_good_certificates(rt: HostRuntime) -> Result<(), Fail> {
 }
 
 #[test]
-fn a_table_is_accepted_or_comes_back(rt: HostRuntime) -> Result<(), Fail> {
+fn a_table_is_accepted(rt: HostRuntime) -> Result<(), Fail> {
     let alloc = rt.alloc();
     let doc = read(alloc, "passing-loop")?;
     let cert = cert_of(alloc, &doc)?;
     if tables_of(&doc) == 0 {
         return Err("a table".into());
     }
-    let accepted = accept(alloc, copy_table(alloc, table_of(&doc, 0))?, 3, &cert);
-    assert_eq!(rt;
-        accepted.map(|a| (trains_of(a.table()), a.after())).ok(),
-        Some((2, 3))
-    );
-    let leaf = tree(alloc, &[Node::Arrived]).ok().ok_or("a tree")?;
-    let refused = accept(alloc, copy_table(alloc, table_of(&doc, 0))?, 3, &leaf);
-    assert_eq!(rt; refused.err().map(|(table, _)| trains_of(&table)), Some(2));
+    let Ok(accepted) = accept(alloc, copy_table(alloc, table_of(&doc, 0))?, 3, &cert) else {
+        return Err("an accepted table".into());
+    };
+    assert_eq!(rt; trains_of(accepted.table()), 2);
+    assert_eq!(rt; accepted.after(), 3);
+    Ok(())
+}
+
+#[test]
+fn a_table_that_is_refused_comes_back(rt: HostRuntime) -> Result<(), Fail> {
+    let alloc = rt.alloc();
+    let doc = read(alloc, "passing-loop")?;
+    if tables_of(&doc) == 0 {
+        return Err("a table".into());
+    }
+    let Ok(leaf) = tree(alloc, &[Node::Arrived]) else {
+        return Err("a tree".into());
+    };
+    match accept(alloc, copy_table(alloc, table_of(&doc, 0))?, 3, &leaf) {
+        Ok(_) => return Err("a refused table".into()),
+        Err((table, _)) => assert_eq!(rt; trains_of(&table), 2),
+    }
     Ok(())
 }
 
