@@ -2,10 +2,10 @@
 ghost use Rattle.std.specs.Prelude.{◌≡◌, ◌≤◌, IfOk};
 ghost use Rattle.layout_json.specs.Doc.{offers_of};
 
-use crate::examples::documents::{GENERATED, GOES_ON};
+use crate::trees::read;
 use cert_checker::{Accepted, accept};
 use cert_tree::tree;
-use layout_json::{Doc, after_of, document, layout_of, nodes_of, start_of, table_of, tables_of};
+use layout_json::{Doc, after_of, layout_of, nodes_of, start_of, table_of, tables_of};
 use move_claim::Cell;
 use rail_model::{HasTable, copy_table};
 use std::alloc::{AllocError, Global};
@@ -90,9 +90,7 @@ fn refused<A: HasTable>(
 #[test]
 fn a_driver_is_refused(rt: HostRuntime) -> Result<(), Fail> {
     let alloc = rt.alloc();
-    let doc = document(alloc, GENERATED.as_bytes())
-        .ok()
-        .ok_or("a document")?;
+    let doc = read(alloc, "generated")?;
     let tables = accepted(alloc, &doc)?;
     let cell = Cell::Point { point: 0 };
     let none = Cell::Point { point: 4 };
@@ -137,9 +135,7 @@ fn a_driver_is_refused(rt: HostRuntime) -> Result<(), Fail> {
 #[test]
 fn the_control_is_refused(rt: HostRuntime) -> Result<(), Fail> {
     let alloc = rt.alloc();
-    let doc = document(alloc, GENERATED.as_bytes())
-        .ok()
-        .ok_or("a document")?;
+    let doc = read(alloc, "generated")?;
     let tables = accepted(alloc, &doc)?;
     let first = Cell::Position { train: 0 };
     let control = NotAllowed::Actor { actor: CONTROL };
@@ -158,9 +154,7 @@ fn the_control_is_refused(rt: HostRuntime) -> Result<(), Fail> {
     let mut core = opened(alloc, &doc, &tables, 9)?;
     let nobody = NotAllowed::Actor { actor: 2 };
     assert_eq!(rt; core.step(2, Step::Board), Err(nobody));
-    let more = document(alloc, GOES_ON.as_bytes())
-        .ok()
-        .ok_or("a document")?;
+    let more = read(alloc, "goes-on")?;
     let two = accepted(alloc, &more)?;
     let mut full = opened(alloc, &more, &two, 0)?;
     let steps = [
@@ -177,9 +171,7 @@ fn the_control_is_refused(rt: HostRuntime) -> Result<(), Fail> {
 #[test]
 fn a_list_of_steps_ends_where_one_is_refused(rt: HostRuntime) -> Result<(), Fail> {
     let alloc = rt.alloc();
-    let doc = document(alloc, GENERATED.as_bytes())
-        .ok()
-        .ok_or("a document")?;
+    let doc = read(alloc, "generated")?;
     let tables = accepted(alloc, &doc)?;
     let mut core = opened(alloc, &doc, &tables, 9)?;
     let steps = [

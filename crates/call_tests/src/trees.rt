@@ -10,8 +10,8 @@ use std::process::Abort;
 use std::test::Fail;
 use std::thread::Threads;
 
-// A document with a table.
-fn read(alloc: Global, name: &str) -> Result<Doc, Fail> {
+// The document of this name.
+pub(crate) fn read(alloc: Global, name: &str) -> Result<Doc, Fail> {
     let text = document_called(name).ok_or("a text")?;
     match document(alloc, text.as_bytes()) {
         Ok(doc) => Ok(doc),
