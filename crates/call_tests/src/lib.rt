@@ -14,8 +14,6 @@ mod sections;
 #[cfg(test)]
 mod shapes;
 #[cfg(test)]
-mod steps;
-#[cfg(test)]
 mod trees;
 #[cfg(test)]
 mod yards;

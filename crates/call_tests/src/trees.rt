@@ -11,7 +11,7 @@ use std::test::Fail;
 use std::thread::Threads;
 
 // The document of this name.
-pub(crate) fn read(alloc: Global, name: &str) -> Result<Doc, Fail> {
+fn read(alloc: Global, name: &str) -> Result<Doc, Fail> {
     let text = document_called(name).ok_or("a text")?;
     match document(alloc, text.as_bytes()) {
         Ok(doc) => Ok(doc),
