@@ -1,4 +1,4 @@
--- Worked rows: what next steps need, what they are told, and what a grant writes, on small tables.
+-- Worked rows: what next steps need, the answers to them, and what a grant writes, on small tables.
 use Rattle.std.proofs.Common.{◌≡◌, ℕ, zero, suc, List, [], ◌∷◌, pos, negsuc, true, false, refl}
 use Rattle.rail_model.specs.declared.types.Ask.TheVariants.{Arrived, Occupied, Full, Waits}
 use Rattle.rail_model.specs.Layout.{Layout, Point as LayoutPoint}

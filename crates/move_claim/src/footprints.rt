@@ -132,7 +132,7 @@ impl<'a> Footprint<'a> {
         }
     }
 
-    /// The answer to one step over known numbers: what the train is told, where the numbers are true of a legal state.
+    /// The answer to one step over known numbers: the yard's, where the numbers are true of a legal state.
     pub fn decide(&self, known: &Known) -> Ask
         requires small { AreSmall self.now.table self.now.claim known.now }
         requires one { self.now.claim.steps ≤ 1 }

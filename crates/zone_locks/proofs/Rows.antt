@@ -1,10 +1,17 @@
 -- Worked rows: sets of zones, and who holds a zone.
-use Rattle.std.proofs.Common.{◌≡◌, zero, suc, [], ◌∷◌, true, false, Some, None, refl, arith}
+use Rattle.std.proofs.Common.{◌≡◌, [], ◌∷◌, true, false, Some, None, refl}
 use Rattle.std.specs.Prelude.{find, nat_le, not}
-use Rattle.zone_locks.specs.Zones.{members, has, with_zone, without, holder, EndsAt}
+use Rattle.zone_locks.specs.Zones.{is_set, members, has, with_zone, without, holder}
 
-flags : members 0 (false ∷ true ∷ false ∷ true ∷ true ∷ []) ≡ 1 ∷ 3 ∷ 4 ∷ []
-flags = refl
+bits_1_3_and_4 : members 26 ≡ 1 ∷ 3 ∷ 4 ∷ []
+unfolding members
+bits_1_3_and_4 = refl
+
+bit_3 : is_set 26 3 ≡ true
+bit_3 = refl
+
+bit_2 : is_set 26 2 ≡ false
+bit_2 = refl
 
 between : with_zone 2 (1 ∷ 3 ∷ 4 ∷ []) ≡ 1 ∷ 2 ∷ 3 ∷ 4 ∷ []
 between = refl
@@ -47,13 +54,3 @@ driver_0 = refl
 
 control : holder 33 ≡ Some 32
 control = refl
-
--- a set that ends after its last zone, and one that doesn't end before it
-ends : EndsAt 2 (false ∷ true ∷ false ∷ [])
-ends zero le = absurd (omega arith)
-ends (suc zero) le = absurd (omega arith)
-ends (suc (suc zero)) le = refl
-ends (suc (suc (suc z))) le = refl
-
-ends_later : EndsAt 1 (false ∷ true ∷ false ∷ []) → ⊥
-ends_later e = cc (e 1 (omega arith))

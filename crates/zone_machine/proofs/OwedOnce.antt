@@ -5,7 +5,6 @@ use Rattle.move_claim.specs.declared.cells.Cell.{Cell}
 use Rattle.move_claim.specs.Cells.{number_of}
 use Rattle.zone_machine.specs.World.{Setup, Actor, World}
 use Rattle.zone_machine.specs.Sound.{Is, IsSetup, Sound}
-use Rattle.zone_machine.proofs.Keeping.{Guarded}
 use Rattle.zone_machine.proofs.Guards.{guarded}
 
 pub owed_once : (S : Setup) (w : World) (p q : ℕ) (a b : Actor) (c : Cell) (n m : ℕ)

@@ -9,7 +9,7 @@ use Rattle.move_claim.specs.Deciding.{effects}
 use Rattle.zone_machine.specs.World.{Actor}
 use Rattle.zone_machine.specs.Entries.{is_granted, is_answer, is_exchange, exchange_effects}
 
--- a driver that was told this of the steps of a footprint
+-- a driver after this answer to the steps of a footprint
 abbrev pub driver_told : Footprint → BlockAsk → Actor → Actor
 driver_told f told a = record a {
   owed = if is_granted told then effects f.table f.claim (number_in a.known) else [];
@@ -18,7 +18,7 @@ driver_told f told a = record a {
   position = if is_granted told then a.position + f.claim.steps else a.position;
 }
 
--- the control that was told this of a table, with all zones and all positions
+-- the control after this answer of a table, with all zones and all positions
 abbrev pub control_told : List ℕ → Table → List ℕ → Tried → Actor → Actor
 control_told zones new positions told a = record a {
   owed = if is_exchange told then exchange_effects new (a.position + 1) positions else [];

@@ -22,7 +22,7 @@ use move_claim::{Cell, Footprint};
 use rail_model::{Ask, BlockAsk, Entry, HasTable, Reply};
 use std::mem::replace;
 
-/// What is told of a block of one step.
+/// The answer to a block of one step, as one to a single step.
 pub(crate) fn one_ask(reply: BlockAsk) -> Ask
     ensures { result ≡ one_answer reply }
 {
@@ -65,7 +65,7 @@ fn push_entries(history: &mut Vec<Entry>, who: u32, steps: u32, told: BlockAsk)
     }
 }
 
-// A driver was told this of the steps that it asked for: where they are granted it is further on, and owes what changed.
+// This is the answer to a driver's steps: where they are granted it is further on, and owes what changed.
 fn tell_driver(row: &mut Row, needs: &Footprint, told: BlockAsk)
     requires small { AreSmall needs.now.table needs.now.claim row.old.known }
     requires told { told ≡ decided needs.now.table needs.now.claim (number_in row.old.known) }
@@ -84,7 +84,7 @@ fn tell_driver(row: &mut Row, needs: &Footprint, told: BlockAsk)
 }
 
 impl<'a, A: HasTable> Core<'a, A> {
-    // Adds the entries of a driver's next steps under this table, which need this, and gives what it is told of them.
+    // Adds the entries of a driver's next steps under this table, which need this, and gives the answer.
     fn enter(&mut self, number: u32, steps: u32, table: u32, needs: &Footprint) -> BlockAsk
         requires cause { cause_of self.old.setup number self.old.world (BlockStep steps) ≡ None }
         requires table { table ≡ known_table (actor self.old.world number) }
@@ -119,7 +119,7 @@ impl<'a, A: HasTable> Core<'a, A> {
         self.enter(number, steps, table, &needs)
     }
 
-    /// Adds the entries of a driver's next steps, and gives what it is told of them.
+    /// Adds the entries of a driver's next steps, and gives the answer.
     pub(crate) fn enter_steps(&mut self, number: u32, steps: u32) -> BlockAsk
         requires { cause_of self.old.setup number self.old.world (BlockStep steps) ≡ None }
         ensures told { result ≡ answer self.old.setup number (actor self.old.world number) steps }

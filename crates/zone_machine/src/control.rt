@@ -75,7 +75,7 @@ pub fn moves_to(opening: &Standing, positions: &State) -> u32
     passed.saturating_sub(sum_of(opening.positions())) as u32
 }
 
-// What the control is told of a table that is due.
+// The answer to the control of a table that is due.
 fn told(admitted: Result<(), NotNow>) -> Tried
     ensures { result ≡ told_of admitted }
 {
@@ -86,7 +86,7 @@ fn told(admitted: Result<(), NotNow>) -> Tried
     }
 }
 
-/// What the control is told of the next table.
+/// The answer to the control of the next table.
 pub fn tell<A: HasTable>(table: &Table, next: &A, positions: &State, moves: u32) -> Tried
     requires same { trains (A.offer next.now).table ≡ trains table.now }
     requires legal { Legal table.now positions.now }
@@ -111,7 +111,7 @@ fn owe_exchange(new: &Table, number: u32, positions: &State, owed: &mut Owed)
     }
 }
 
-/// Owes what changes where the control was told this, and nothing else.
+/// Owes what changes where this is the answer to the control, and nothing else.
 pub fn owe_told(new: &Table, number: u32, positions: &State, told: Tried, owed: &mut Owed)
     requires { told ≡ Exchanged → Legal new.now positions.now }
     ensures { owed.new ≡ (if exchanges told then exchange_effects new.now number positions.now else []) }
@@ -122,7 +122,7 @@ pub fn owe_told(new: &Table, number: u32, positions: &State, told: Tried, owed: 
     }
 }
 
-/// The last table that has its answer, after the control was told this of the next one.
+/// The last table that has its answer, after this answer of the next one.
 pub fn last_answered(position: u32, told: Tried) -> u32
     requires { position + 1 < 2 ^ 32 }
     ensures { result ≡ (if answers told then position + 1 else position) }
@@ -133,7 +133,7 @@ pub fn last_answered(position: u32, told: Tried) -> u32
     }
 }
 
-// The control was told this of the next table.
+// This is the answer to the control of the next table.
 fn tell_control(row: &mut Row, layout: &Layout, new: &Table, positions: &State, told: Tried)
     requires legal { told ≡ Exchanged → Legal new.now positions.now }
     requires room { row.old.position + 1 < 2 ^ 32 }
@@ -191,7 +191,7 @@ impl<'a, A: HasTable> Core<'a, A> {
         self.table_refusal(row)
     }
 
-    /// Adds the control's entry, and gives what it is told of the next table.
+    /// Adds the control's entry, and gives the answer of the next table.
     pub(crate) fn enter_table(&mut self) -> Tried
         requires { cause_of self.old.setup control self.old.world Append ≡ None }
         ensures told { result ≡ tried self.old.setup (actor self.old.world control) }

@@ -147,6 +147,22 @@ impl<'a, A: HasTable> Core<'a, A> {
         cell_step(row.known.first_unknown(needs.cells()))
     }
 
+    // The next step of a driver that neither owes a cell nor is closing, and glanced at this table, by what it needs.
+    fn next_unkept(&self, number: u32, row: &Row, table: u32) -> Step
+        requires there { slice_get self.now.world.actors number ≡ Some row.now }
+        requires train { number < trains_in self.now.setup }
+        requires paid { row.now.owed ≡ [] }
+        requires still { row.now.closing ≡ false }
+        requires glance { row.now.glance ≡ Some table }
+        ensures { Some result ≡ step_aboard self.now.setup number row.now }
+    {
+        // What holds of the core is known from here on.
+        let _ = &self.layout;
+        let place = row.position;
+        let needs = self.needs(number, place, table, 1);
+        self.next_by(number, row, table, &needs)
+    }
+
     // The next step of a driver that neither owes a cell nor is closing.
     fn next_of_driver(&self, number: u32, row: &Row) -> Step
         requires there { slice_get self.now.world.actors number ≡ Some row.now }
@@ -164,8 +180,7 @@ impl<'a, A: HasTable> Core<'a, A> {
         if let Some(needs) = kept_for(&self.kept, number, table, place, 1) {
             return self.next_by(number, row, table, needs);
         }
-        let needs = self.needs(number, place, table, 1);
-        self.next_by(number, row, table, &needs)
+        self.next_unkept(number, row, table)
     }
 
     // The next step of an actor that is aboard.

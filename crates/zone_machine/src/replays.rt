@@ -31,7 +31,7 @@ fn next_line(table: &Table, state: &State, train: u32) -> Line
     Line::Move { train, from, to }
 }
 
-// A train was told this: where it moved, its line is added and its move made.
+// This was the answer to a train: where it moved, its line is added and its move made.
 fn replay_ask<A: HasTable>(
     tables: &[A],
     yard: &mut Standing,
@@ -55,7 +55,7 @@ fn replay_ask<A: HasTable>(
     }
 }
 
-// The control was told this: where a table has its answer, its line is added, and it takes over or is kept out.
+// This was the answer to the control: where a table has its answer, its line is added, and it takes over or is kept out.
 fn replay_tried<A: HasTable>(
     tables: &[A],
     yard: &mut Standing,

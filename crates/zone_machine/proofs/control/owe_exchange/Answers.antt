@@ -1,8 +1,9 @@
-use Rattle.std.proofs.Common.{ℕ, sym, ap}
+use Rattle.std.proofs.Common.{◌≡◌, ℕ, [], ◌∷◌, ◌++◌, length, List, map, sym, ap, ◌∙◌, arith}
 use Rattle.std.specs.Prelude.{nat_abs}
 use Rattle.rail_model.specs.Table.{count}
+use Rattle.rail_model.specs.Checks.{below}
 use Rattle.move_claim.specs.declared.cells.Cell.{Cell}
-use Rattle.move_claim.specs.declared.cells.Cell.TheVariants.{Count}
+use Rattle.move_claim.specs.declared.cells.Cell.TheVariants.{Count, Table as TableCell}
 use Rattle.move_claim.proofs.Growing.{one_longer}
 use Rattle.zone_machine.proofs.FirstWords.{word_more}
 use Rattle.zone_machine.proofs.control.owe_exchange.Goals as goal
@@ -17,3 +18,12 @@ loop-section-preserved c =
           (ap counted (sym (ap nat_abs c.count_of.ensures.count))) c.push-in-loop-section.ensures;
       few = one_longer c.push-in-loop-section.new.self c.loop-section.owed (counted c.count_of.result) s 1 c.push-in-loop-section.ensures c.loop-section.invariant.few;
     }
+
+pub returns : goal.returns
+returns c =
+    let owes : ℕ → Cell × ℕ = λ t. (Count t, nat_abs (count c.args.new.now t c.args.positions.now)) in
+    let whole : c.loop-section.section ≡ length c.args.new.now.sections = omega (arith, c.sections_of-section-end.ensures.count) in
+    let first : c.push.new.self ≡ (TableCell, c.args.number) ∷ [] = c.push.ensures ∙ ap (λ (xs : List (Cell × ℕ)). xs ++ (TableCell, c.args.number) ∷ []) c.requires.none in
+    c.loop-section.invariant.same
+    ∙ (ap (λ (xs : List (Cell × ℕ)). xs ++ map owes (below c.loop-section.section)) first
+    ∙ ap (λ n. (TableCell, c.args.number) ∷ map owes (below n)) whole)

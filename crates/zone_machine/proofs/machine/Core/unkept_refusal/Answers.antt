@@ -1,0 +1,28 @@
+use Rattle.std.proofs.Common.{◌≡◌, ◌<◌, ◌+◌, ◌==◌, [], ◌∷◌, length, cond, Option, Some, sym, ap, ◌∙◌, subst}
+use Rattle.std.specs.Prelude.{slice_get, option_map, nat_lt}
+use Rattle.std.specs.Bool.{then_some}
+use Rattle.rail_model.specs.Turns.{first_of}
+use Rattle.move_claim.specs.Claims.{Footprint, cells_of, claim_of, footprint_of}
+use Rattle.zone_machine.specs.Needs.{table_of}
+use Rattle.zone_machine.specs.declared.steps.NotAllowed.{NotAllowed}
+use Rattle.zone_machine.specs.declared.steps.NotAllowed.TheVariants as no
+use Rattle.zone_machine.specs.World.{Actor}
+use Rattle.zone_machine.specs.Steps.{missing_zone, unknown_cell}
+use Rattle.zone_machine.specs.Sound.{IsSetup}
+use Rattle.zone_machine.specs.Cores.{CoreValue}
+use Rattle.zone_machine.proofs.Refusing.{known_in_range, driver_list, no_control}
+use Rattle.zone_machine.proofs.machine.Core.unkept_refusal.Goals as goal
+
+pub needs-needs-requires-clause-table : goal.needs-needs-requires-clause-table
+needs-needs-requires-clause-table g c =
+    let at = subst (λ (v : CoreValue). slice_get v.world.actors c.args.number ≡ Some c.args.row.now) (sym c.self.view_is) c.requires.there in
+    subst (λ (v : CoreValue). c.args.table < length v.setup.tables) c.self.view_is (known_in_range _ _ c.args.number c.args.row.now c.args.table c.self.invariant.0.made c.self.invariant.0.sound at c.requires.still c.requires.table)
+
+pub returns : goal.returns
+returns g c =
+    let S = c.args.self.now.setup in
+    let w = c.args.self.now.world in
+    let list : Footprint → Option NotAllowed = λ f. first_of (option_map (λ z. no.Zone z) (missing_zone c.args.row.now f.zones) ∷ option_map (λ c. no.Unknown c) (unknown_cell c.args.row.now (cells_of f.table f.claim)) ∷ then_some (nat_lt S.most (length w.history + cond (f.claim.steps == 0) 1 f.claim.steps)) (no.Full S.most) ∷ []) in
+    let driver = no_control S c.args.number (subst (λ (v : CoreValue). IsSetup v.setup) c.self.view_is c.self.invariant.0.made) c.requires.train in
+    let same = ap (λ (a : Actor). footprint_of S.layout (table_of S c.args.table) (claim_of (table_of S c.args.table) c.args.number a.position c.args.steps)) c.row.view_is in
+    c.entry_refusal.ensures ∙ (ap list (c.needs-needs.ensures ∙ same) ∙ driver_list S w c.args.number c.args.row.now c.args.steps c.args.table driver c.requires.still c.requires.table)
