@@ -1,5 +1,5 @@
 -- Worked rows: the passing loop's certificate, the boxes that its nodes are visited in, and its bad variants.
-use Rattle.std.proofs.Common.{◌≡◌, ℕ, ◌<◌, List, [], ◌∷◌, ◌++◌, true, false, refl, arith, lit<, lit≤}
+use Rattle.std.proofs.Common.{◌≡◌, ℕ, ◌<◌, List, [], ◌∷◌, ◌++◌, true, false, Some, None, refl, arith, lit<, lit≤}
 use Rattle.std.specs.Prelude.{All, Ok, Err}
 use Rattle.std.specs.List.{list_all}
 use Rattle.std.proofs.lemmas.Bool.{and_parts}
@@ -16,7 +16,7 @@ use Rattle.cert_checker.specs.Cut.{first_fault}
 use Rattle.cert_checker.specs.Faults.{HasFault}
 use Rattle.cert_tree.specs.Open.{opened}
 use Rattle.cert_tree.specs.Spelling.{wanted_behind}
-use Rattle.cert_checker.specs.Walked.{walked, waiting}
+use Rattle.cert_checker.specs.Walked.{next_train, walked, waiting}
 
 -- the passing loop: W L1 E against E L2 W
 abbrev loop : Table
@@ -58,6 +58,12 @@ loop_waiting : waiting (full_box loop)
     ∷ record { train = 0; span = record { lo = 1; hi = 2 }; visit = true } ∷ record { train = 0; span = record { lo = 0; hi = 2 }; visit = false } ∷ [])
     ≡ opened (full_box loop) (Split 0 0) []
 loop_waiting = refl
+
+first_of_steps : next_train (record { train = 1; span = record { lo = 0; hi = 1 }; visit = true } ∷ record { train = 0; span = record { lo = 0; hi = 2 }; visit = false } ∷ []) ≡ Some 1
+first_of_steps = refl
+
+no_step : next_train [] ≡ None
+no_step = refl
 
 two_are_wanted : wanted_behind (Split 0 0) 1 ≡ 2
 two_are_wanted = refl

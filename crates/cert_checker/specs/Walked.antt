@@ -1,5 +1,5 @@
 -- The walk over the nodes in preorder: the boxes that are open, and the first node that isn't good.
-use Rattle.std.specs.Prelude.{◌≡◌, ℕ, ◌+◌, ◌<◌, ◌≤◌, List, [], ◌∷◌, ◌++◌, length, Bool, true, false, All, slice_set}
+use Rattle.std.specs.Prelude.{◌≡◌, ℕ, ◌+◌, ◌<◌, ◌≤◌, List, [], ◌∷◌, ◌++◌, length, Bool, true, false, Option, Some, None, All, slice_set}
 use Rattle.rail_model.specs.declared.types.Node.{Node}
 use Rattle.rail_model.specs.declared.types.Bad.{Bad}
 use Rattle.rail_model.specs.Table.{Table, trains, last}
@@ -14,6 +14,11 @@ pub record IsStep (T : Table) (step : Step) : Type 0 where
   pub train : step.train < trains T
   pub some : step.span.lo ≤ step.span.hi
   pub in_range : step.span.hi ≤ last T step.train
+
+-- the train of the next step
+abbrev pub next_train : List Step → Option ℕ
+next_train [] = None
+next_train (step ∷ later) = Some step.train
 
 -- a box before others, where it is to be visited
 abbrev pub shown : Bool → List Range → List (List Range) → List (List Range)

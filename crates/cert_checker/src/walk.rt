@@ -1,16 +1,17 @@
 // The walk over a tree's nodes in preorder, with one box that is changed and changed back.
-ghost use Rattle.std.specs.Prelude.{◌≡◌, ◌∷◌, [], ◌+◌, ◌<◌, ◌≤◌, length, reverse, drop, All, IfErr, OnOk, false, true};
-ghost use Rattle.rail_model.specs.Certificate.{range, IsGood};
+ghost use Rattle.std.specs.Prelude.{◌≡◌, List, ◌∷◌, [], ◌+◌, ◌<◌, ◌≤◌, length, reverse, drop, slice_set, All, IfErr, OnOk, IsTrue, Some, false, true};
+ghost use Rattle.rail_model.specs.Table.{trains};
+ghost use Rattle.rail_model.specs.Certificate.{Range, range, IsGood};
 ghost use Rattle.range_sums.specs.Sums.{AreLists, AreSums};
 ghost use Rattle.cert_tree.specs.Open.{opened};
-ghost use Rattle.cert_checker.specs.Walked.{IsStep, IsRefusal, shown, waiting, walked, StopsAt};
+ghost use Rattle.cert_checker.specs.Walked.{IsStep, IsRefusal, next_train, shown, waiting, walked, StopsAt};
 
 use crate::CheckFault;
 use crate::good::is_good;
 use crate::leaves::check_node;
 use rail_model::{Node, Table};
 use range_sums::{Lists, RangeSums, Ranges, Span};
-use std::alloc::Global;
+use std::alloc::{AllocError, Global};
 
 /// A range that a train is given, and whether the box is to be visited then.
 #[derive(Clone, Copy)]
@@ -58,6 +59,37 @@ fn step_left(sums: &RangeSums, train: u32, place: u32) -> Step
     }
 }
 
+// Whether the next step is one of a train.
+fn is_next(steps: &[Step], train: u32) -> bool
+    ensures { IsTrue result → next_train (reverse steps.now) ≡ Some train }
+{
+    match steps.last() {
+        Some(step) => step.train == train,
+        None => false,
+    }
+}
+
+// Plans the step back to a train's range, unless the next step gives the train other places.
+fn plan_back(
+    table: &Table,
+    sums: &RangeSums,
+    steps: &mut Vec<Step>,
+    train: u32,
+) -> Result<(), AllocError>
+    requires sums { AreSums table.now sums.now }
+    requires train { train < trains table.now }
+    requires steps { All (λ step. IsStep table.now step) steps.old.items }
+    ensures boxes { OnOk result ((r : Range) → waiting (slice_set sums.now.ranges train r) (reverse steps.new.items)
+        ≡ waiting sums.now.ranges (reverse steps.old.items)) }
+    ensures steps { OnOk result (All (λ step. IsStep table.now step) steps.new.items) }
+{
+    if is_next(steps, train) {
+        return Ok(());
+    }
+    steps.push(step_back(sums, train))?;
+    Ok(())
+}
+
 // Plans the steps behind a node: for a split to its left half, to its right half, and back.
 fn plan(
     table: &Table,
@@ -74,7 +106,7 @@ fn plan(
     ensures memory { IfErr result (λ e. e ≡ CheckFault.Memory) }
 {
     if let Node::Split { train, place } = node {
-        steps.push(step_back(sums, train))?;
+        plan_back(table, sums, steps, train)?;
         steps.push(step_right(sums, train, place))?;
         steps.push(step_left(sums, train, place))?;
     }

@@ -8,6 +8,7 @@ pub mod Grown
 pub mod Kept
 pub mod Loop
 pub mod Meaning
+pub mod Overfull
 pub mod PathRows
 pub mod Rivals
 pub mod Rows
@@ -17,3 +18,5 @@ pub mod Chain
 pub mod LeafTests
 pub mod Spelled
 pub mod Boxed
+pub mod Sought
+pub mod Sharers

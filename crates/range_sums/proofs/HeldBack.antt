@@ -1,15 +1,16 @@
--- A train for which a reason is known doesn't surely move.
-use Rattle.std.proofs.Common.{◌≡◌, ℕ, ◌<◌, List, refl, arith}
+-- A train for which a reason tells so doesn't surely move.
+use Rattle.std.proofs.Common.{ℕ, ◌<◌, List, arith}
 use Rattle.rail_model.specs.Table.{Table, last}
 use Rattle.rail_model.specs.Certificate.{Range, range, IsBox, MayBeAtEnd, SurelyMoves}
 use Rattle.range_sums.specs.declared.moves.Reason.{Reason}
-use Rattle.range_sums.specs.declared.moves.Reason.TheVariants.{Unknown, AtEnd, Blocked}
-use Rattle.range_sums.specs.Reasons.{Holds}
+use Rattle.range_sums.specs.declared.moves.Reason.TheVariants.{Unknown, AtEnd, Blocked, Full}
+use Rattle.range_sums.specs.Reasons.{Holds, Tells}
 
-pub held_back : (T : Table) (B : List Range) (i : ℕ) (r : Reason) → IsBox T B → Holds T B i r → (r ≡ Unknown → ⊥) → SurelyMoves T B i → ⊥
-held_back T B i Unknown boxed holds known moves = known refl
-held_back T B i AtEnd boxed holds known moves = moves.unfinished ((range B i).hi, (boxed.some_place i moves.train, omega arith), holds)
-held_back T B i (Blocked b) boxed holds known moves = moves.unblocked b.spot.train holds
+pub held_back : (T : Table) (B : List Range) (i : ℕ) (r : Reason) → IsBox T B → Holds T B i r → Tells r → SurelyMoves T B i → ⊥
+held_back T B i Unknown boxed holds tells moves = tells
+held_back T B i AtEnd boxed holds tells moves = moves.unfinished ((range B i).hi, (boxed.some_place i moves.train, omega arith), holds)
+held_back T B i (Blocked b) boxed holds tells moves = moves.unblocked b.spot.train holds
+held_back T B i (Full k) boxed holds tells moves = tells
 
 -- before its last place a train may not be at it
 pub unfinished : (T : Table) (B : List Range) (i : ℕ) → (range B i).hi < last T i → MayBeAtEnd T B i → ⊥

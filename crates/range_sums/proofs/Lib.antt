@@ -11,3 +11,4 @@ pub mod Summed
 pub mod Tight
 pub mod Growing
 pub mod Shared
+mod Rows

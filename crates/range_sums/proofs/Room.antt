@@ -4,7 +4,7 @@ use Rattle.std.proofs.lemmas.Int.{ints}
 use Rattle.rail_model.specs.Sums.{greatest}
 use Rattle.rail_model.specs.Table.{Table, trains, share, IsTable}
 use Rattle.rail_model.specs.Certificate.{Range, range, IsBox, greatest_share, most_with}
-use Rattle.rail_model.proofs.Shares.{share_bounds}
+use Rattle.rail_model.proofs.Shares.{share_bounds, share_next}
 use Rattle.rail_model.proofs.Sums.{total_step}
 use Rattle.range_sums.specs.declared.extremes.Extremes.{Extremes}
 use Rattle.range_sums.specs.declared.rises.Rise.{Rise}
@@ -45,4 +45,28 @@ room T B i r q sum own table boxed lt rise same is extremes =
       low = omega (arith, ints, rise.share_is, bounds.0);
       high = omega (arith, ints, rise.share_is, bounds.1);
       most = omega (arith, ints, most_sum T B s i k lt, is.greatest_is, own_is, rise.share_is);
+    }
+
+-- The same where the train has one place, that of the rise.
+pub record IsRoomFromOne (T : Table) (B : List Range) (i : ℕ) (r : Rise) (sum : Sum) : Type 0 where
+  pub small : IsSmall sum
+  pub low : pos 0 ≤ℤ r.by
+  pub high : r.by ≤ℤ pos 4
+  pub most : sum.greatest +ℤ r.by ≡ most_with T B r.section i (r.place + 1)
+
+pub room_from_one : (T : Table) (B : List Range) (i : ℕ) (r : Rise) (sum : Sum) → IsTable T → IsBox T B → i < trains T
+    → IsRise T i r → (range B i).lo ≡ r.place → (range B i).hi ≡ r.place → IsSum T B r.section sum → IsRoomFromOne T B i r sum
+room_from_one T B i r sum table boxed lt rise at_lo at_hi is =
+    let s = r.section in
+    let k = r.place in
+    let none : (range B i).hi - (range B i).lo ≡ 0 = omega (arith, at_lo, at_hi) in
+    let own : greatest_share T B s i ≡ share T i s k = ap (greatest (share T i s) (range B i).lo) none ∙ ap (share T i s) at_lo in
+    let next = share_next T i s k in
+    let before = share_bounds T i s k table lt rise.section_in (omega (arith, rise.place_in)) in
+    let behind = share_bounds T i s (k + 1) table lt rise.section_in (omega (arith, rise.place_in)) in
+    record {
+      small = sum_small T B s sum table boxed rise.section_in is;
+      low = omega (arith, ints, rise.by_is, rise.up);
+      high = omega (arith, ints, rise.by_is, next, before.0, behind.1);
+      most = omega (arith, ints, most_sum T B s i (k + 1) lt, is.greatest_is, own, next, rise.by_is);
     }

@@ -12,7 +12,7 @@ use Rattle.rail_model.proofs.Agree.{Decides-int_lt}
 use Rattle.rail_model.proofs.Sums.{not_below_least, least_le, le_greatest}
 use Rattle.range_sums.specs.declared.sums.Sum.{Sum}
 use Rattle.range_sums.specs.Each.{IsEach}
-use Rattle.range_sums.specs.Extremes.{nothing, IsExtremes, IsQuiet, AreShared}
+use Rattle.range_sums.specs.Extremes.{nothing, IsExtremes, IsQuiet, AreListed, AreShared}
 use Rattle.range_sums.specs.Sums.{no_sum, IsSum}
 use Rattle.range_sums.proofs.Joins.{not_above_greatest}
 use Rattle.range_sums.proofs.Summed.{IsMoving, moving_next, sum_moved}
@@ -33,7 +33,7 @@ quiet_from_greatest T i s table i_in s_in most k lt =
     omega (arith, ints, low, high, none)
 
 -- the extremes of a span are 0
-quiet_extremes : (T : Table) (i s lo n : ℕ) → IsQuiet T i s → lo + n ≤ last T i → IsExtremes (share T i s) lo n nothing
+pub quiet_extremes : (T : Table) (i s lo n : ℕ) → IsQuiet T i s → lo + n ≤ last T i → IsExtremes (share T i s) lo n nothing
 quiet_extremes T i s lo n quiet ends =
     let zero_at : share T i s lo ≡ pos 0 = quiet lo (omega arith) in
     let least_at = least_le (share T i s) lo n lo (omega arith) (omega arith) in
@@ -43,7 +43,7 @@ quiet_extremes T i s lo n quiet ends =
     record { least_is = omega (arith, ints, zero_at, least_at, least_from); greatest_is = omega (arith, ints, zero_at, greatest_at, greatest_to) }
 
 -- a narrowing leaves the sums of a section that the train has no share of
-quiet_sum : (T : Table) (B : List Range) (i s : ℕ) (r : Range) (sum : Sum) → IsBox T B → i < trains T → r.lo ≤ r.hi → r.hi ≤ last T i → IsQuiet T i s →
+pub quiet_sum : (T : Table) (B : List Range) (i s : ℕ) (r : Range) (sum : Sum) → IsBox T B → i < trains T → r.lo ≤ r.hi → r.hi ≤ last T i → IsQuiet T i s →
     IsSum T B s sum → IsSum T (slice_set B i r) s sum
 quiet_sum T B i s r sum boxed i_in some ends quiet is =
     let some_old = boxed.some_place i i_in in
@@ -64,21 +64,21 @@ moving_on T B i r done next sums boxed i_in some ends le quiet before = record {
   kept = λ s l k. before.kept s (omega (arith, le, l)) k;
 }
 
--- one section more
-pub shared_more : (T : Table) (i from to : ℕ) (xs : List ℕ) → AreShared T i from to xs → AreShared T i from (to + 1) (xs ++ to ∷ [])
-shared_more T i from to [] h = (h.0, omega arith, h.1, (omega arith, λ s l m. absurd (omega (arith, l, m))))
-shared_more T i from to (x ∷ later) h = (h.0, omega (arith, h.1), h.2, shared_more T i (x + 1) to later h.3)
+-- one number more
+pub listed_more : (P : ℕ → Type 0) (from to : ℕ) (xs : List ℕ) → AreListed P from to xs → AreListed P from (to + 1) (xs ++ to ∷ [])
+listed_more P from to [] h = (h.0, omega arith, h.1, (omega arith, λ k l m. absurd (omega (arith, l, m))))
+listed_more P from to (x ∷ later) h = (h.0, omega (arith, h.1), h.2, listed_more P (x + 1) to later h.3)
 
--- one quiet section more
-pub shared_still : (T : Table) (i from to : ℕ) (xs : List ℕ) → IsQuiet T i to → AreShared T i from to xs → AreShared T i from (to + 1) xs
-shared_still T i from to [] quiet h = (
+-- one more that is left out
+pub listed_still : (P : ℕ → Type 0) (from to : ℕ) (xs : List ℕ) → P to → AreListed P from to xs → AreListed P from (to + 1) xs
+listed_still P from to [] here h = (
   omega (arith, h.0),
-  λ s l m. elim (cases_eq s to) [
-    | inl same ↦ subst (IsQuiet T i) (sym same) quiet
-    | inr other ↦ h.1 s l (omega (arith, m))
+  λ k l m. elim (cases_eq k to) [
+    | inl same ↦ subst P (sym same) here
+    | inr other ↦ h.1 k l (omega (arith, m))
   ],
 )
-shared_still T i from to (x ∷ later) quiet h = (h.0, omega (arith, h.1), h.2, shared_still T i (x + 1) to later quiet h.3)
+listed_still P from to (x ∷ later) here h = (h.0, omega (arith, h.1), h.2, listed_still P (x + 1) to later here h.3)
 
 -- the sums while they are changed, over the sections that are still listed
 pub record IsNarrowing (T : Table) (B : List Range) (i : ℕ) (r : Range) (later : List ℕ) (sums : List Sum) : Type 0 where

@@ -71,10 +71,18 @@ pub record IsPick (levels : List Level) (more picked : ℕ) : Type 0 where
 abbrev pub IsQuiet : Table → ℕ → ℕ → Type 0
 IsQuiet T i s = (k : ℕ) → k ≤ last T i → share T i s k ≡ pos 0
 
+-- Of the numbers from one on, up to `to`, these are listed in order, and all others fit P.
+abbrev pub AreListed : (ℕ → Type 0) → ℕ → ℕ → List ℕ → Type 0
+AreListed P from to [] = (from ≤ to) × ((k : ℕ) → from ≤ k → k < to → P k)
+AreListed P from to (x ∷ later) = (from ≤ x) × (x < to) × ((k : ℕ) → from ≤ k → k < x → P k) × AreListed P (x + 1) to later
+
 -- Of the sections from one number on, up to `to`, these and no others may have a share of train i, in order.
 abbrev pub AreShared : Table → ℕ → ℕ → ℕ → List ℕ → Type 0
-AreShared T i from to [] = (from ≤ to) × ((s : ℕ) → from ≤ s → s < to → IsQuiet T i s)
-AreShared T i from to (x ∷ later) = (from ≤ x) × (x < to) × ((s : ℕ) → from ≤ s → s < x → IsQuiet T i s) × AreShared T i (x + 1) to later
+AreShared T i from to xs = AreListed (IsQuiet T i) from to xs
+
+-- Of the trains from one number on, up to `to`, these and no others may have a share of the section, in order.
+abbrev pub AreMembers : Table → ℕ → ℕ → ℕ → List ℕ → Type 0
+AreMembers T s from to xs = AreListed (λ i. IsQuiet T i s) from to xs
 
 -- The levels of a train, by the length of a span the level to take, and the sections that the train may have a share of.
 pub record TrainShares : Type 0 where

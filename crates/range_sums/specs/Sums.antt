@@ -1,5 +1,5 @@
 -- What the trains' shares of a section sum to in a box, and where a train's step adds to a section.
-use Rattle.std.specs.Prelude.{◌≡◌, ◌<◌, ◌+◌, ℕ, zero, suc, nat_le, ℤ, pos, ◌≤ℤ◌, int_lt, Bool, ◌&&◌, if◌then◌else◌, List, [], ◌∷◌, ◌++◌, length}
+use Rattle.std.specs.Prelude.{◌≡◌, ◌<◌, ◌+◌, ℕ, zero, suc, nat_le, ℤ, pos, ◌≤ℤ◌, ◌<ℤ◌, int_lt, Bool, ◌&&◌, if◌then◌else◌, List, [], ◌∷◌, ◌++◌, length}
 use Rattle.rail_model.specs.Sums.{total_below}
 use Rattle.rail_model.specs.Table.{Table, trains, last, limit, change, share}
 use Rattle.rail_model.specs.Certificate.{Range, range, IsBox, greatest_share, least_count, most_with}
@@ -7,7 +7,7 @@ use Rattle.range_sums.specs.declared.sums.Sum.{Sum}
 use Rattle.range_sums.specs.declared.extremes.Extremes.{Extremes}
 use Rattle.range_sums.specs.declared.rises.Rise.{Rise}
 use Rattle.range_sums.specs.Each.{IsEach}
-use Rattle.range_sums.specs.Extremes.{TrainShares, IsShares}
+use Rattle.range_sums.specs.Extremes.{TrainShares, IsShares, AreMembers}
 use Rattle.range_sums.specs.declared.ways.Spot.{Spot}
 use Rattle.range_sums.specs.Ways.{AreWays}
 
@@ -46,26 +46,27 @@ pub record AreSums (T : Table) (S : Summed) : Type 0 where
   pub boxed : IsBox T S.ranges
   pub each_sum : IsEach (IsSum T S.ranges) (length T.sections) no_sum S.sums
 
--- the places below a from which a step of train i adds to section s, in order
-abbrev pub rises_in : Table → ℕ → ℕ → ℕ → List Rise
-rises_in T i s zero = []
-rises_in T i s (suc a) =
-    rises_in T i s a
-    ++ (if int_lt (pos 0) (change T i s (a + 1)) then record { section = s; place = a; share = share T i s (a + 1) } ∷ [] else [])
+-- the rises of train i at the place a: those of the sections below n to which its step from there adds, in order
+abbrev pub rises_at : Table → ℕ → ℕ → ℕ → List Rise
+rises_at T i a zero = []
+rises_at T i a (suc s) =
+    rises_at T i a s
+    ++ (if int_lt (pos 0) (change T i s (a + 1)) then record { section = s; place = a; share = share T i s (a + 1); by = change T i s (a + 1) } ∷ [] else [])
 
--- those of the sections below n, section by section
-abbrev pub rises : Table → ℕ → ℕ → List Rise
-rises T i zero = []
-rises T i (suc s) = rises T i s ++ rises_in T i s (last T i)
+-- For each place before a train's last the rises there.
+abbrev pub AreSteps : Table → ℕ → List (List Rise) → Type 0
+AreSteps T i rows = IsEach (λ a row. row ≡ rises_at T i a (length T.sections)) (last T i) [] rows
 
--- For each train its rises.
-abbrev pub AreRises : Table → List (List Rise) → Type 0
-AreRises T rows = IsEach (λ i row. row ≡ rises T i (length T.sections)) (trains T) [] rows
+-- For each train its rises, place by place.
+abbrev pub AreRises : Table → List (List (List Rise)) → Type 0
+AreRises T rows = IsEach (AreSteps T) (trains T) [] rows
 
 -- A rise of train i, with the train's share behind it.
 pub record IsRise (T : Table) (i : ℕ) (r : Rise) : Type 0 where
   pub section_in : r.section < length T.sections
   pub place_in : r.place < last T i
+  pub up : pos 0 <ℤ change T i r.section (r.place + 1)
+  pub by_is : r.by ≡ change T i r.section (r.place + 1)
   pub share_is : r.share ≡ share T i r.section (r.place + 1)
 
 -- whether the section may have no room for train i's step from the place of the rise
@@ -74,13 +75,19 @@ is_tight T B i r =
     (nat_le (range B i).lo r.place && nat_le r.place (range B i).hi)
     && int_lt (pos (limit T r.section)) (most_with T B r.section i (r.place + 1))
 
+-- For each section the trains that may have a share of it.
+abbrev pub AreAllMembers : Table → List (List ℕ) → Type 0
+AreAllMembers T rows = IsEach (λ s row. AreMembers T s 0 (trains T) row) (length T.sections) [] rows
+
 -- What is listed once of a table.
 pub record Lists : Type 0 where
   pub ways : List (List Spot)
   pub shares : List TrainShares
-  pub rises : List (List Rise)
+  pub rises : List (List (List Rise))
+  pub members : List (List ℕ)
 
 pub record AreLists (T : Table) (L : Lists) : Type 0 where
   pub are_ways : AreWays T L.ways
   pub are_shares : IsShares T L.shares
   pub are_rises : AreRises T L.rises
+  pub are_members : AreAllMembers T L.members

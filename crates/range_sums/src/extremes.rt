@@ -7,23 +7,26 @@ use rail_model::{Table, change_at, sections_of, share_at};
 use std::alloc::{AllocError, Global};
 use std::marker::Model;
 
-/// The least and the greatest of some shares.
+/// The least and the greatest of some shares. Shares are small, and rows of them are to be short.
 #[derive(Clone, Copy)]
 pub struct Extremes {
-    pub least: i32,
-    pub greatest: i32,
+    pub least: i8,
+    pub greatest: i8,
 }
 
 impl Extremes {
+    ghost use Rattle.std.specs.Prelude.{pos, ◌≤ℤ◌};
     ghost use Rattle.range_sums.specs.Extremes.{joined as joined_of, single as single_of};
 
     /// The extremes of one share.
     pub(crate) fn single(share: i32) -> Extremes
+        requires low { pos 0 ≤ℤ share }
+        requires high { share ≤ℤ pos 4 }
         ensures { result ≡ single_of share }
     {
         Extremes {
-            least: share,
-            greatest: share,
+            least: share as i8,
+            greatest: share as i8,
         }
     }
 
@@ -55,6 +58,13 @@ impl Model for Row {
 
 impl Row {
     ghost use Rattle.range_sums.specs.Extremes.{nothing};
+
+    /// The cells, one per section.
+    pub fn cells(&self) -> &[Extremes]
+        ensures { result.now ≡ self.now }
+    {
+        &self.cells
+    }
 
     pub fn cell(&self, section: u32) -> Extremes
         requires { section < length self.now }
@@ -92,7 +102,8 @@ pub fn next_row(
 {
     let mut cells = Vec::new(alloc);
     for section in 0..sections_of(table) {
-        let share = row.cell(section).least + change_at(table, train, section, place + 1);
+        let before = i32::from(row.cell(section).least);
+        let share = before + change_at(table, train, section, place + 1);
         cells.push(Extremes::single(share))?;
     }
     Ok(Row { cells })

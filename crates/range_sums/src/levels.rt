@@ -117,8 +117,8 @@ fn pick(table: &Table, train: u32, levels: &[Level], more: u32) -> u8
     unreachable!()
 }
 
-// Whether a train has a share of a section at some place.
-fn has_share(table: &Table, train: u32, section: u32) -> bool
+/// Whether a train has a share of a section at some place.
+pub(crate) fn has_share(table: &Table, train: u32, section: u32) -> bool
     requires train { train < trains table.now }
     requires section { section < length table.now.sections }
     ensures { IsTrue result ↔ (pos 0 <ℤ greatest (share table.now train section) 0 (last table.now train)) }

@@ -1,19 +1,21 @@
 // What is listed once of a table.
 ghost use Rattle.std.specs.Prelude.{◌≡◌, IfOk};
 
+use crate::members::members_of;
 use crate::rises::rises_of;
 use crate::ways::ways_of;
-use crate::{Rises, Shares, Ways};
+use crate::{Members, Rises, Shares, Ways};
 use rail_model::Table;
 use std::alloc::{AllocError, Global};
 use std::marker::Model;
 
-/// The ways, the shares and the rises of a table.
+/// The ways, the shares, the rises and the members of the sections of a table.
 #[derive(Drop)]
 pub struct Lists {
     ways: Ways,
     shares: Shares,
     rises: Rises,
+    members: Members,
 }
 
 impl Model for Lists {
@@ -21,7 +23,7 @@ impl Model for Lists {
 
     ghost Value = { ListsValue };
 
-    ghost view = { λ l. record { ways = l.ways; shares = l.shares; rises = l.rises } };
+    ghost view = { λ l. record { ways = l.ways; shares = l.shares; rises = l.rises; members = l.members } };
 }
 
 impl Lists {
@@ -34,10 +36,12 @@ impl Lists {
         let ways = ways_of(alloc, table)?;
         let shares = Shares::new(alloc, table)?;
         let rises = rises_of(alloc, table)?;
+        let members = members_of(alloc, table)?;
         Ok(Lists {
             ways,
             shares,
             rises,
+            members,
         })
     }
 
@@ -57,5 +61,11 @@ impl Lists {
         ensures { result.now ≡ self.now.rises }
     {
         &self.rises
+    }
+
+    pub fn members(&self) -> &Members
+        ensures { result.now ≡ self.now.members }
+    {
+        &self.members
     }
 }

@@ -1,37 +1,53 @@
 // Where a train's step adds to a section, listed once for a table.
-ghost use Rattle.std.specs.Prelude.{◌≡◌, ℕ, ◌+◌, ◌<◌, ◌≤◌, ◌++◌, ◌∷◌, [], pos, int_lt, if◌then◌else◌, find, length, All, IfOk, OnOk, IsTrue, ◌↔◌, ◌<ℤ◌, option_map, slice_index_or};
+ghost use Rattle.std.specs.Prelude.{◌≡◌, ℕ, ◌+◌, ◌<◌, ◌≤◌, ◌++◌, ◌∷◌, [], pos, int_lt, if◌then◌else◌, find, length, All, IfOk, OnOk, MatchOption, None, IsTrue, ◌↔◌, ◌<ℤ◌, option_map, slice_index_or};
 ghost use Rattle.rail_model.specs.Table.{IsTable, trains, last, limit, change, share};
 ghost use Rattle.rail_model.specs.Move.{IsFirstOrNone};
 ghost use Rattle.rail_model.specs.Certificate.{range, most_with, MayBeFull};
 ghost use Rattle.range_sums.specs.Extremes.{IsShares};
-ghost use Rattle.range_sums.specs.Sums.{AreSums, AreRises, IsRise, rises as rises_of_train, rises_in, is_tight as is_tight_of};
+ghost use Rattle.range_sums.specs.Sums.{AreSums, AreRises, AreSteps, IsRise, rises_at as rises_at_place, is_tight as is_tight_of};
 
 use crate::{RangeSums, Shares};
 use rail_model::{Table, change_at, last_of, limit_of, sections_of, share_at, trains_of};
 use std::alloc::{AllocError, Global};
 use std::marker::Model;
 
-/// A place from which a train's step adds to a section, and its share behind the step.
+/// A place from which a train's step adds to a section, its share behind the step, and by how much that is more.
 #[derive(Clone, Copy)]
 pub struct Rise {
     pub section: u32,
     pub place: u32,
     pub share: i32,
+    pub by: i32,
 }
 
-/// The rises of one train, in order of their sections.
+/// The rises of one train at one place, in order of their sections.
 #[derive(Drop)]
-pub struct TrainRises {
+pub struct PlaceRises {
     items: Vec<Rise>,
 }
 
-impl Model for TrainRises {
+impl Model for PlaceRises {
     ghost use Rattle.std.specs.Prelude.{List};
     ghost use Rattle.range_sums.specs.declared.rises.Rise.{Rise as RiseValue};
 
     ghost Value = { List RiseValue };
 
     ghost view = { λ r. r.items.items };
+}
+
+/// The rises of one train, place by place.
+#[derive(Drop)]
+pub struct TrainRises {
+    places: Vec<PlaceRises>,
+}
+
+impl Model for TrainRises {
+    ghost use Rattle.std.specs.Prelude.{List};
+    ghost use Rattle.range_sums.specs.declared.rises.Rise.{Rise as RiseValue};
+
+    ghost Value = { List (List RiseValue) };
+
+    ghost view = { λ r. r.places.items };
 }
 
 /// The rises of all trains.
@@ -44,7 +60,7 @@ impl Model for Rises {
     ghost use Rattle.std.specs.Prelude.{List};
     ghost use Rattle.range_sums.specs.declared.rises.Rise.{Rise as RiseValue};
 
-    ghost Value = { List (List RiseValue) };
+    ghost Value = { List (List (List RiseValue)) };
 
     ghost view = { λ r. r.trains.items };
 }
@@ -52,16 +68,17 @@ impl Model for Rises {
 impl Rises {
     ghost use Rattle.std.specs.Prelude.{length, slice_index_or, []};
 
-    // The rises of a train.
-    fn train(&self, train: u32) -> &[Rise]
-        requires { train < length self.now }
-        ensures { result.now ≡ slice_index_or self.now train [] }
+    // The rises of a train at a place.
+    fn at(&self, train: u32, place: u32) -> &[Rise]
+        requires train { train < length self.now }
+        requires place { place < length (slice_index_or self.now train []) }
+        ensures { result.now ≡ slice_index_or (slice_index_or self.now train []) place [] }
     {
-        &self.trains[train as usize].items
+        &self.trains[train as usize].places[place as usize].items
     }
 }
 
-// Adds a place, where the step from it adds to the section.
+// Adds a rise, where a train's step from a place adds to the section.
 fn add_rise(
     table: &Table,
     train: u32,
@@ -74,9 +91,10 @@ fn add_rise(
     requires place { place < last table.now train }
     requires formed { IsTable table.now }
     ensures { OnOk result (rises.new.items ≡ rises.old.items
-        ++ (if int_lt (pos 0) (change table.now train section (place + 1)) then record { section = section; place = place; share = share table.now train section (place + 1) } ∷ [] else [])) }
+        ++ (if int_lt (pos 0) (change table.now train section (place + 1)) then record { section = section; place = place; share = share table.now train section (place + 1); by = change table.now train section (place + 1) } ∷ [] else [])) }
 {
-    if change_at(table, train, section, place + 1) <= 0 {
+    let by = change_at(table, train, section, place + 1);
+    if by <= 0 {
         return Ok(());
     }
     let share = share_at(table, train, section, place + 1);
@@ -84,37 +102,39 @@ fn add_rise(
         section,
         place,
         share,
+        by,
     })?;
     Ok(())
 }
 
-// Adds the rises of a section.
-fn add_section(
+// The rises of a train at a place.
+fn place_rises(
+    alloc: Global,
     table: &Table,
     train: u32,
-    section: u32,
-    rises: &mut Vec<Rise>,
-) -> Result<(), AllocError>
+    place: u32,
+) -> Result<PlaceRises, AllocError>
     requires train { train < trains table.now }
-    requires section { section < length table.now.sections }
-    ensures { OnOk result (rises.new.items ≡ rises.old.items ++ rises_in table.now train section (last table.now train)) }
+    requires place { place < last table.now train }
+    ensures { IfOk result (λ rises. rises ≡ rises_at_place table.now train place (length table.now.sections)) }
 {
-    for place in 0..last_of(table, train) {
-        add_rise(table, train, section, place, rises)?;
+    let mut items = Vec::new(alloc);
+    for section in 0..sections_of(table) {
+        add_rise(table, train, section, place, &mut items)?;
     }
-    Ok(())
+    Ok(PlaceRises { items })
 }
 
 // The rises of a train.
 fn train_rises(alloc: Global, table: &Table, train: u32) -> Result<TrainRises, AllocError>
     requires { train < trains table.now }
-    ensures { IfOk result (λ rises. rises ≡ rises_of_train table.now train (length table.now.sections)) }
+    ensures { IfOk result (AreSteps table.now train) }
 {
-    let mut items = Vec::new(alloc);
-    for section in 0..sections_of(table) {
-        add_section(table, train, section, &mut items)?;
+    let mut places = Vec::new(alloc);
+    for place in 0..last_of(table, train) {
+        places.push(place_rises(alloc, table, train, place)?)?;
     }
-    Ok(TrainRises { items })
+    Ok(TrainRises { places })
 }
 
 /// The rises of all trains of a table.
@@ -128,8 +148,8 @@ pub(crate) fn rises_of(alloc: Global, table: &Table) -> Result<Rises, AllocError
     Ok(Rises { trains: all })
 }
 
-// A train's share behind a rise and the other trains' greatest shares.
-fn most_behind(table: &Table, shares: &Shares, sums: &RangeSums, train: u32, rise: Rise) -> i32
+// A train's share behind a rise and the other trains' greatest shares, by the rows of its range.
+fn most_by_rows(table: &Table, shares: &Shares, sums: &RangeSums, train: u32, rise: Rise) -> i32
     requires formed { IsTable table.now }
     requires shares { IsShares table.now shares.now }
     requires sums { AreSums table.now sums.now }
@@ -141,7 +161,37 @@ fn most_behind(table: &Table, shares: &Shares, sums: &RangeSums, train: u32, ris
     let own = shares
         .train(train)
         .extremes(table, train, span, rise.section);
-    sums.sum(rise.section).greatest - own.greatest + rise.share
+    sums.sum(rise.section).greatest - i32::from(own.greatest) + rise.share
+}
+
+// A train's share behind a rise at its only place and the other trains' greatest shares: all that they have now, and the rise.
+fn most_from_one(table: &Table, sums: &RangeSums, train: u32, rise: Rise) -> i32
+    requires formed { IsTable table.now }
+    requires sums { AreSums table.now sums.now }
+    requires train { train < trains table.now }
+    requires rise { IsRise table.now train rise }
+    requires low { (range sums.now.ranges train).lo ≡ rise.place }
+    requires high { (range sums.now.ranges train).hi ≡ rise.place }
+    ensures { result ≡ most_with table.now sums.now.ranges rise.section train (rise.place + 1) }
+{
+    sums.sum(rise.section).greatest + rise.by
+}
+
+// A train's share behind a rise and the other trains' greatest shares.
+fn most_behind(table: &Table, shares: &Shares, sums: &RangeSums, train: u32, rise: Rise) -> i32
+    requires formed { IsTable table.now }
+    requires shares { IsShares table.now shares.now }
+    requires sums { AreSums table.now sums.now }
+    requires train { train < trains table.now }
+    requires rise { IsRise table.now train rise }
+    ensures { result ≡ most_with table.now sums.now.ranges rise.section train (rise.place + 1) }
+{
+    let ranges = sums.ranges();
+    let span = ranges.span(train);
+    if span.lo() == rise.place && span.hi() == rise.place {
+        return most_from_one(table, sums, train, rise);
+    }
+    most_by_rows(table, shares, sums, train, rise)
 }
 
 // Whether a train's share behind a rise and the other trains' greatest shares may pass the limit.
@@ -190,8 +240,8 @@ fn first_tight(
     None
 }
 
-/// The first section that may have no room for a train's next place.
-pub fn first_without_room(
+/// The first section that may have no room for a train's step from its only place.
+pub fn first_without_room_from_one(
     table: &Table,
     rises: &Rises,
     shares: &Shares,
@@ -203,7 +253,105 @@ pub fn first_without_room(
     requires sums { AreSums table.now sums.now }
     requires train { train < trains table.now }
     requires unfinished { (range sums.now.ranges train).hi < last table.now train }
+    requires single { (range sums.now.ranges train).lo ≡ (range sums.now.ranges train).hi }
     ensures { IsFirstOrNone (MayBeFull table.now sums.now.ranges train) result }
 {
-    first_tight(table, shares, sums, train, rises.train(train))
+    let ranges = sums.ranges();
+    let place = ranges.span(train).lo();
+    first_tight(table, shares, sums, train, rises.at(train, place))
+}
+
+/// A rise of a train: its place, and its number among the rises there.
+#[derive(Clone, Copy)]
+pub struct RiseAt {
+    pub place: u32,
+    pub number: usize,
+}
+
+// Whether a rise has this number, and there may be no room at it.
+fn is_tight_at(
+    table: &Table,
+    shares: &Shares,
+    sums: &RangeSums,
+    train: u32,
+    rises: &[Rise],
+    number: usize,
+) -> bool
+    requires shares { IsShares table.now shares.now }
+    requires sums { AreSums table.now sums.now }
+    requires train { train < trains table.now }
+    requires known { All (IsRise table.now train) rises.now }
+    ensures { IsTrue result → (s : ℕ) × MayBeFull table.now sums.now.ranges train s }
+{
+    number < rises.len() && is_tight(table, shares, sums, train, rises[number])
+}
+
+// The number of the first rise at which there may be no room.
+fn tight_number(
+    table: &Table,
+    shares: &Shares,
+    sums: &RangeSums,
+    train: u32,
+    rises: &[Rise],
+) -> Option<usize>
+    requires shares { IsShares table.now shares.now }
+    requires sums { AreSums table.now sums.now }
+    requires train { train < trains table.now }
+    requires known { All (IsRise table.now train) rises.now }
+    ensures { MatchOption result (find (is_tight_of table.now sums.now.ranges train) rises.now ≡ None) (λ _. (s : ℕ) × MayBeFull table.now sums.now.ranges train s) }
+{
+    for number in 0..rises.len() {
+        if is_tight(table, shares, sums, train, rises[number]) {
+            return Some(number);
+        }
+    }
+    None
+}
+
+/// Whether there may be no room at a rise of a train.
+pub(crate) fn is_full_at(
+    table: &Table,
+    rises: &Rises,
+    shares: &Shares,
+    sums: &RangeSums,
+    train: u32,
+    known: RiseAt,
+) -> bool
+    requires rises { AreRises table.now rises.now }
+    requires shares { IsShares table.now shares.now }
+    requires sums { AreSums table.now sums.now }
+    requires train { train < trains table.now }
+    ensures { IsTrue result → (s : ℕ) × MayBeFull table.now sums.now.ranges train s }
+{
+    if known.place >= last_of(table, train) {
+        return false;
+    }
+    let here = rises.at(train, known.place);
+    is_tight_at(table, shares, sums, train, here, known.number)
+}
+
+/// The first rise in a train's range at which there may be no room.
+pub(crate) fn first_full(
+    table: &Table,
+    rises: &Rises,
+    shares: &Shares,
+    sums: &RangeSums,
+    train: u32,
+) -> Option<RiseAt>
+    requires rises { AreRises table.now rises.now }
+    requires shares { IsShares table.now shares.now }
+    requires sums { AreSums table.now sums.now }
+    requires train { train < trains table.now }
+    requires unfinished { (range sums.now.ranges train).hi < last table.now train }
+    ensures { MatchOption result ((s : ℕ) → MayBeFull table.now sums.now.ranges train s → ⊥) (λ _. (s : ℕ) × MayBeFull table.now sums.now.ranges train s) }
+{
+    let ranges = sums.ranges();
+    let span = ranges.span(train);
+    for place in span.lo()..=span.hi() {
+        let here = rises.at(train, place);
+        if let Some(number) = tight_number(table, shares, sums, train, here) {
+            return Some(RiseAt { place, number });
+        }
+    }
+    None
 }

@@ -39,7 +39,7 @@ pub fn least_share(table: &Table, train: u32, section: u32, span: Span) -> i32
     ensures formed { IsTable table.now }
 {
     let extremes = extremes_in(table, train, section, span);
-    extremes.least
+    i32::from(extremes.least)
 }
 
 /// The greatest share of a train in a span.
@@ -54,5 +54,5 @@ pub fn greatest_share(table: &Table, train: u32, section: u32, span: Span) -> i3
     ensures formed { IsTable table.now }
 {
     let extremes = extremes_in(table, train, section, span);
-    extremes.greatest
+    i32::from(extremes.greatest)
 }

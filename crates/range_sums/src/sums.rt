@@ -46,8 +46,8 @@ fn sum_of(table: &Table, ranges: &Ranges, section: u32) -> Sum
     let mut greatest: i32 = 0;
     for train in 0..trains_of(table) {
         let extremes = extremes_in(table, train, section, ranges.span(train));
-        least += extremes.least;
-        greatest += extremes.greatest;
+        least += i32::from(extremes.least);
+        greatest += i32::from(extremes.greatest);
     }
     Sum { least, greatest }
 }
@@ -60,8 +60,8 @@ fn moved(sum: Sum, old: Extremes, new: Extremes) -> Sum
     ensures least { result.least ≡ sum.least +ℤ (new.least -ℤ old.least) }
     ensures greatest { result.greatest ≡ sum.greatest +ℤ (new.greatest -ℤ old.greatest) }
 {
-    let least = sum.least + (new.least - old.least);
-    let greatest = sum.greatest + (new.greatest - old.greatest);
+    let least = sum.least + i32::from(new.least - old.least);
+    let greatest = sum.greatest + i32::from(new.greatest - old.greatest);
     Sum { least, greatest }
 }
 
@@ -85,13 +85,18 @@ fn move_sums(
     let rows = shares.train(train);
     let old = ranges.span(train);
     let old_front = rows.front(table, train, old);
+    let old_first = old_front.cells();
     let old_back = rows.back(table, train, old);
+    let old_last = old_back.cells();
     let front = rows.front(table, train, span);
+    let first = front.cells();
     let back = rows.back(table, train, span);
+    let last = back.cells();
     let sections = rows.sections();
     for &section in sections {
-        let before = old_front.cell(section).joined(old_back.cell(section));
-        let after = front.cell(section).joined(back.cell(section));
+        let at = section as usize;
+        let before = old_first[at].joined(old_last[at]);
+        let after = first[at].joined(last[at]);
         sums[section as usize] = moved(sums[section as usize], before, after);
     }
 }

@@ -9,28 +9,27 @@ use Rattle.cert_checker.specs.Walked.{IsStep, waiting}
 use Rattle.cert_checker.proofs.Steps.{planned}
 use Rattle.cert_checker.proofs.walk.plan.Goals as goal
 
-pub returns-in_ok-push-3-clause-boxes : goal.returns-in_ok-push-3-clause-boxes
-returns-in_ok-push-3-clause-boxes c =
+pub returns-in_ok-push-2-clause-boxes : goal.returns-in_ok-push-2-clause-boxes
+returns-in_ok-push-2-clause-boxes c =
     let B = c.args.sums.now.ranges in
     let old = c.args.steps.now.items in
-    let pushed = c.in_ok-push-3.ensures.items
-    ∙ ap (λ (steps : List Step). steps ++ c.step_left.result ∷ []) (c.in_ok-push-2.ensures.items ∙ ap (λ (steps : List Step). steps ++ c.step_right.result ∷ []) c.in_ok-push.ensures.items) in
+    let pushed = c.in_ok-push-2.ensures.items
+    ∙ ap (λ (steps : List Step). steps ++ c.step_left.result ∷ []) c.in_ok-push.ensures.items in
     ap (λ (steps : List Step). waiting B (reverse steps)) pushed
-    ∙ planned B c.in-Split.train c.in-Split.place old _ _ _ c.step_back.ensures c.step_right.ensures c.step_left.ensures
+    ∙ planned B c.in-Split.train c.in-Split.place c.plan_back.new.steps.items old _ _ c.in_ok-plan_back.ensures.boxes c.step_right.ensures c.step_left.ensures
     ∙ ap (λ (n : Node). opened B n (waiting B (reverse old))) (sym c.in-Split.is)
 
-pub returns-in_ok-push-3-clause-steps : goal.returns-in_ok-push-3-clause-steps
-returns-in_ok-push-3-clause-steps c =
+pub returns-in_ok-push-2-clause-steps : goal.returns-in_ok-push-2-clause-steps
+returns-in_ok-push-2-clause-steps c =
     let T = c.args.table.now in
     let B = c.args.sums.now.ranges in
     let i = c.in-Split.train in
     let m = c.in-Split.place in
     let good : IsSplit T B i m = subst (IsGood T B) c.in-Split.is c.requires.good in
     let ends = c.requires.sums.boxed.in_range i good.0 in
-    let pushed = c.in_ok-push-3.ensures.items
-    ∙ ap (λ (steps : List Step). steps ++ c.step_left.result ∷ []) (c.in_ok-push-2.ensures.items ∙ ap (λ (steps : List Step). steps ++ c.step_right.result ∷ []) c.in_ok-push.ensures.items) in
-    let back : IsStep T c.step_back.result = subst (IsStep T) (sym c.step_back.ensures) (record { train = good.0; some = omega (arith, good); in_range = ends }) in
+    let pushed = c.in_ok-push-2.ensures.items
+    ∙ ap (λ (steps : List Step). steps ++ c.step_left.result ∷ []) c.in_ok-push.ensures.items in
     let right : IsStep T c.step_right.result = subst (IsStep T) (sym c.step_right.ensures) (record { train = good.0; some = omega (arith, good); in_range = ends }) in
     let left : IsStep T c.step_left.result = subst (IsStep T) (sym c.step_left.ensures) (record { train = good.0; some = good.1; in_range = omega (arith, good, ends) }) in
     subst (λ (steps : List Step). All (λ step. IsStep T step) steps) (sym pushed)
-    (All-push (IsStep T) _ _ (All-push (IsStep T) _ _ (All-push (IsStep T) _ _ c.requires.steps back) right) left)
+    (All-push (IsStep T) _ _ (All-push (IsStep T) _ _ c.in_ok-plan_back.ensures.steps right) left)

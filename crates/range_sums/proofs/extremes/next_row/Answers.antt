@@ -34,3 +34,27 @@ loop-section-preserved c =
       least_is = omega (arith, ints, ap (λ (e : Extremes). e.least) c.single.ensures, here, read, c.change_at.ensures.change, share_next T i s k, bounds);
       greatest_is = omega (arith, ints, ap (λ (e : Extremes). e.greatest) c.single.ensures, here, read, c.change_at.ensures.change, share_next T i s k, bounds);
     }))
+
+pub single-requires-clause-low : goal.single-requires-clause-low
+single-requires-clause-low c =
+    let T = c.args.table.now in
+    let i = c.args.train in
+    let s = c.loop-section.section in
+    let k = c.args.place in
+    let s_in = c.loop-section-test.true in
+    let here = (c.requires.row.1 s (omega (arith, c.sections_of-section-end.ensures.count))).least_is in
+    let read = ap (λ (e : Extremes). e.least) c.cell.ensures in
+    let bounds = share_bounds T i s (k + 1) c.change_at.ensures.formed c.requires.train (omega (arith, c.sections_of-section-end.ensures.count)) (omega arith) in
+    omega (arith, ints, here, read, c.change_at.ensures.change, share_next T i s k, bounds)
+
+pub single-requires-clause-high : goal.single-requires-clause-high
+single-requires-clause-high c =
+    let T = c.args.table.now in
+    let i = c.args.train in
+    let s = c.loop-section.section in
+    let k = c.args.place in
+    let s_in = c.loop-section-test.true in
+    let here = (c.requires.row.1 s (omega (arith, c.sections_of-section-end.ensures.count))).least_is in
+    let read = ap (λ (e : Extremes). e.least) c.cell.ensures in
+    let bounds = share_bounds T i s (k + 1) c.change_at.ensures.formed c.requires.train (omega (arith, c.sections_of-section-end.ensures.count)) (omega arith) in
+    omega (arith, ints, here, read, c.change_at.ensures.change, share_next T i s k, bounds)

@@ -40,3 +40,23 @@ overflow_add-share c =
     let bounds = share_bounds T i s (k + 1) c.share_at-share.ensures.formed c.requires.train c.requires.section (omega arith) in
     let next = share_next T i s k in
     omega (arith, ints, c.change_at-share.ensures.change, c.loop-place.invariant.share_is, next, bounds)
+
+pub single-requires-clause-low : goal.single-requires-clause-low
+single-requires-clause-low c =
+    let T = c.args.table.now in
+    let i = c.args.train in
+    let s = c.args.section in
+    let k = c.loop-place.place in
+    let bounds = share_bounds T i s (k + 1) c.share_at-share.ensures.formed c.requires.train c.requires.section (omega arith) in
+    let next = share_next T i s k in
+    omega (arith, ints, c.change_at-share.ensures.change, c.loop-place.invariant.share_is, next, bounds)
+
+pub single-requires-clause-high : goal.single-requires-clause-high
+single-requires-clause-high c =
+    let T = c.args.table.now in
+    let i = c.args.train in
+    let s = c.args.section in
+    let k = c.loop-place.place in
+    let bounds = share_bounds T i s (k + 1) c.share_at-share.ensures.formed c.requires.train c.requires.section (omega arith) in
+    let next = share_next T i s k in
+    omega (arith, ints, c.change_at-share.ensures.change, c.loop-place.invariant.share_is, next, bounds)
