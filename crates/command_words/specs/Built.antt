@@ -1,6 +1,7 @@
 -- A command as it is built, piece by piece.
-use Rattle.std.specs.Prelude.{◌≡◌, false}
-use Rattle.clap.specs.Words.{App, app_of}
+use Rattle.std.specs.Prelude.{◌≡◌, ℕ, List, false, map}
+use Rattle.std.specs.Borrow.{Bor}
+use Rattle.clap.specs.Words.{App, Text, app_of}
 use Rattle.clap.specs.declared.Command.{Command}
 use Rattle.clap.specs.declared.Command.TheViews.{out-Command}
 
@@ -11,3 +12,7 @@ IsLocal command = (out-Command command).has_globals ≡ false
 -- What a parse reads of the command is `app`.
 abbrev pub Is : App → Command → Type 0
 Is app command = (app_of command ≡ app) × IsLocal command
+
+-- the texts of a slice of them
+abbrev pub texts : List (Bor (List ℕ)) → List Text
+texts words = map (λ (word : Bor (List ℕ)). word.now) words

@@ -1,28 +1,19 @@
 -- What the words of a command line ask for: they are read by clap's definition of a command with one required
 -- subcommand and long options alone, which has no help words.
-use Rattle.std.specs.Prelude.{List, [], ◌∷◌, ◌++◌, codes, fold, true, Option, Some, None, find, option_and_then}
+use Rattle.std.specs.Prelude.{List, [], ◌∷◌, ◌++◌, codes, fold, map, true, Option, Some, None, find, option_and_then}
 use Rattle.std.specs.Str.{bytes_eq}
 use Rattle.clap.specs.Words.{App, Rule, Shape, Row, Text, Kinds, new_app, new_rule, with_rule, with_subcommand, fault_of, subcommand_of}
-use Rattle.command_words.specs.Options.{NumberOption}
 use Rattle.command_words.specs.Subcommands as sub
 use Rattle.command_words.specs.Subcommands.{Subcommand}
 use Rattle.command_words.specs.declared.orders.Order.{Order}
 
--- what runs the trains
+-- what runs the trains, or checks a document or a journal
 abbrev pub runs : List Subcommand
-runs = sub.run ∷ sub.resume ∷ []
+runs = sub.run ∷ sub.resume ∷ sub.check ∷ sub.verify ∷ []
 
--- what checks a document or a journal
-abbrev pub checks : List Subcommand
-checks = sub.check ∷ sub.verify ∷ []
-
--- what makes a document of version 2, or certificates
+-- what makes a document of another, or certificates, or sections
 abbrev pub makers : List Subcommand
-makers = sub.migrate ∷ sub.make ∷ []
-
--- what makes sections
-abbrev pub section_makers : List Subcommand
-section_makers = sub.derive ∷ sub.repair ∷ []
+makers = sub.migrate ∷ sub.make ∷ sub.derive ∷ sub.repair ∷ []
 
 -- what tries a run, on a document or on a made one
 abbrev pub trials : List Subcommand
@@ -30,19 +21,23 @@ trials = sub.simulate ∷ sub.generate ∷ sub.drill ∷ sub.weave ∷ []
 
 -- all of them
 abbrev pub subcommands : List Subcommand
-subcommands = runs ++ checks ++ makers ++ section_makers ++ trials
+subcommands = runs ++ makers ++ trials
 
--- a long option with one value
-abbrev pub rule : NumberOption → Rule
-rule o = record (new_rule o.name) { long = Some o.name }
+-- a long option of this name, with one value
+abbrev pub rule : Text → Rule
+rule name = record (new_rule name) { long = Some name }
 
--- a subcommand with these options
-unfoldable pub leaf : Subcommand → App
-leaf s = fold (λ app o. with_rule app (rule o)) (new_app s.name) s.options
+-- a subcommand of this name, with options of these names
+unfoldable pub leaf : Text → List Text → App
+leaf name options = fold (λ app option. with_rule app (rule option)) (new_app name) options
+
+-- the command with this subcommand more
+abbrev pub with_one : App → Subcommand → App
+with_one app s = with_subcommand app (leaf s.name (map (λ o. o.name) s.options)).top
 
 -- the command with these subcommands more
 abbrev pub with_all : List Subcommand → App → App
-with_all more app = fold (λ app s. with_subcommand app (leaf s).top) app more
+with_all more app = fold with_one app more
 
 -- the settings of the command itself
 abbrev pub as_top : Shape → Shape

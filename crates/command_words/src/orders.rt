@@ -59,7 +59,7 @@ pub enum Order {
 }
 
 /// Why there is no order for the words.
-#[derive(Clone, Copy, Debug, PartialEq, Eq)]
+#[derive(Clone, Copy)]
 pub enum WordsRefused {
     /// The words ask for nothing that there is, or for two things, or have a number that is out of range.
     Words,

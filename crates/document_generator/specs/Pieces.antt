@@ -4,6 +4,8 @@ use Rattle.std.specs.Fmt.{decimal}
 use Rattle.rail_model.specs.Checks.{below}
 use Rattle.rail_model.specs.Table.{Section}
 use Rattle.document_generator.specs.Pairs.{Pair}
+use Rattle.document_generator.specs.declared.names.Spot.{Spot}
+use Rattle.document_generator.specs.declared.names.Spot.TheVariants.{Joint, Upper, Lower}
 
 -- The names of a pair's points: the joints 0 to c, and from each to the next a point of the upper and one of the lower track.
 abbrev pub joint : Pair → ℕ → List ℕ
@@ -14,6 +16,11 @@ upper g r = codes "P" ++ (decimal g.number ++ (codes "U" ++ decimal r))
 
 abbrev pub lower : Pair → ℕ → List ℕ
 lower g r = codes "P" ++ (decimal g.number ++ (codes "L" ++ decimal r))
+
+abbrev pub name : Pair → Spot → List ℕ
+name g (Joint r) = joint g r
+name g (Upper r) = upper g r
+name g (Lower r) = lower g r
 
 -- the zone of the point of this number
 abbrev pub zone : ℕ → ℕ

@@ -1,14 +1,29 @@
 // Points and links.
-ghost use Rattle.std.specs.Prelude.{◌≡◌, ◌<◌, ◌++◌, IfOk, OnOk, map, flat_map};
+ghost use Rattle.std.specs.Prelude.{◌≡◌, ◌<◌, ◌++◌, ◌∷◌, [], IfOk, OnOk, map, flat_map};
+ghost use Rattle.document_generator.specs.Pieces as piece;
 ghost use Rattle.document_generator.specs.Pieces.{loop_points, points_of, loop_links, links_of};
 ghost use Rattle.document_generator.specs.Seen.{point_seen, link_seen};
 
-use crate::names::{joint, lower, upper};
+use crate::names::{Spot, name};
 use crate::pairs::Pair;
 use std::alloc::{AllocError, Global};
 
 /// How many zones there are.
 pub(crate) const ZONES: u32 = 4;
+
+// Adds the point of this number in the document.
+fn add_point(
+    alloc: Global,
+    pair: &Pair,
+    spot: Spot,
+    number: u32,
+    found: &mut Vec<(String, u32)>,
+) -> Result<(), AllocError>
+    ensures { OnOk result (map point_seen found.new.items ≡ map point_seen found.old.items ++ (piece.name pair.now spot, piece.zone number) ∷ []) }
+{
+    found.push((name(alloc, pair, spot)?, number % ZONES))?;
+    Ok(())
+}
 
 // Adds the points of a loop behind its first joint.
 fn add_loop_points(
@@ -21,17 +36,16 @@ fn add_loop_points(
     ensures { OnOk result (map point_seen found.new.items ≡ map point_seen found.old.items ++ loop_points pair.now place) }
 {
     let start = pair.first_point() + 3 * place;
-    found.push((upper(alloc, pair, place)?, (start + 1) % ZONES))?;
-    found.push((lower(alloc, pair, place)?, (start + 2) % ZONES))?;
-    found.push((joint(alloc, pair, place + 1)?, (start + 3) % ZONES))?;
-    Ok(())
+    add_point(alloc, pair, Spot::Upper(place), start + 1, found)?;
+    add_point(alloc, pair, Spot::Lower(place), start + 2, found)?;
+    add_point(alloc, pair, Spot::Joint(place + 1), start + 3, found)
 }
 
 // Adds the points of a pair.
 fn add_points(alloc: Global, pair: &Pair, found: &mut Vec<(String, u32)>) -> Result<(), AllocError>
     ensures { OnOk result (map point_seen found.new.items ≡ map point_seen found.old.items ++ points_of pair.now) }
 {
-    found.push((joint(alloc, pair, 0)?, pair.first_point() % ZONES))?;
+    add_point(alloc, pair, Spot::Joint(0), pair.first_point(), found)?;
     for place in 0..pair.loops() {
         add_loop_points(alloc, pair, place, found)?;
     }
@@ -49,6 +63,20 @@ pub(crate) fn points(alloc: Global, pairs: &[Pair]) -> Result<Vec<(String, u32)>
     Ok(found)
 }
 
+// Adds a link from one point of a pair to another.
+fn add_link(
+    alloc: Global,
+    pair: &Pair,
+    from: Spot,
+    to: Spot,
+    found: &mut Vec<(String, String)>,
+) -> Result<(), AllocError>
+    ensures { OnOk result (map link_seen found.new.items ≡ map link_seen found.old.items ++ (piece.name pair.now from, piece.name pair.now to) ∷ []) }
+{
+    found.push((name(alloc, pair, from)?, name(alloc, pair, to)?))?;
+    Ok(())
+}
+
 // Adds the links of a loop.
 fn add_loop_links(
     alloc: Global,
@@ -59,12 +87,11 @@ fn add_loop_links(
     requires { place < 8 }
     ensures { OnOk result (map link_seen found.new.items ≡ map link_seen found.old.items ++ loop_links pair.now place) }
 {
-    let next = place + 1;
-    found.push((joint(alloc, pair, place)?, upper(alloc, pair, place)?))?;
-    found.push((upper(alloc, pair, place)?, joint(alloc, pair, next)?))?;
-    found.push((joint(alloc, pair, next)?, lower(alloc, pair, place)?))?;
-    found.push((lower(alloc, pair, place)?, joint(alloc, pair, place)?))?;
-    Ok(())
+    let (here, next) = (Spot::Joint(place), Spot::Joint(place + 1));
+    add_link(alloc, pair, here, Spot::Upper(place), found)?;
+    add_link(alloc, pair, Spot::Upper(place), next, found)?;
+    add_link(alloc, pair, next, Spot::Lower(place), found)?;
+    add_link(alloc, pair, Spot::Lower(place), here, found)
 }
 
 // Adds the links of a pair.

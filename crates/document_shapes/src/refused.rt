@@ -5,7 +5,7 @@ use crate::Member;
 use std::alloc::{AllocError, AllocFailed};
 
 /// Why bytes are not the members of a document.
-#[derive(Clone, Copy, Debug, PartialEq, Eq)]
+#[derive(Clone, Copy)]
 pub enum ShapeRefused {
     /// The bytes are no JSON text.
     NotJson,
@@ -23,7 +23,7 @@ pub enum ShapeRefused {
 }
 
 /// Why a value is not read: it has another shape, or memory ran out.
-#[derive(Clone, Copy, Debug, PartialEq, Eq)]
+#[derive(Clone, Copy)]
 pub(crate) enum Misfit {
     Shape,
     Memory,

@@ -17,3 +17,4 @@ pub mod Marked
 pub mod Remade
 pub mod MigratedLemmas
 pub mod FormedDoc
+pub mod Offered

@@ -44,7 +44,7 @@ fn made_layout(
     ensures { Answers DocRefused.Memory (λ l. l) result
         (refused_as DocRefused.Layout (layout_from (points_seen points.items) (links_seen links.items) zones)) }
 {
-    match layout(alloc, points, links, zones) {
+    match layout(alloc, points, &links, zones) {
         Ok(layout) => Ok(layout),
         Err(LayoutRefused::Memory) => Err(DocRefused::Memory),
         Err(refused) => Err(DocRefused::Layout(refused)),

@@ -9,7 +9,7 @@ use std::alloc::{AllocError, AllocFailed};
 use track_layout::LayoutRefused;
 
 /// Why bytes are no document: the first thing wrong with them, in this order. Tables go by number, counted from 0.
-#[derive(Clone, Copy, Debug, PartialEq, Eq)]
+#[derive(Clone, Copy)]
 pub enum DocRefused {
     /// Memory ran out.
     Memory,

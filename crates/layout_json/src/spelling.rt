@@ -12,7 +12,7 @@ use cert_tree::{Cert, CertRefused, tree};
 use std::alloc::{AllocFailed, Global};
 
 /// Why the nodes of a document spell no trees: the first table, and what is wrong with its nodes.
-#[derive(Clone, Copy, Debug, PartialEq, Eq)]
+#[derive(Clone, Copy)]
 pub enum TreeRefused {
     /// There was no memory.
     Memory,

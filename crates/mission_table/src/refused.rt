@@ -2,22 +2,18 @@
 ghost use Rattle.std.specs.Prelude.{◌≡◌};
 
 use std::alloc::{AllocError, AllocFailed};
-use thiserror::Error;
 use track_layout::NotNumbered;
 
 /// Why names are no trains. Trains go by number, counted from 0.
-#[derive(Clone, Copy, Debug, PartialEq, Eq, Error)]
+#[derive(Clone, Copy)]
 pub enum TrainRefused {
     /// More than 32 trains.
-    #[error("too many trains: {count}")]
     TooMany { count: usize },
     /// The first train whose name isn't 1 to 16 letters, digits and `_`.
-    #[error("bad name of train {train}")]
     Name { train: u32 },
     /// The first train whose name an earlier one has, with that earlier one.
-    #[error("the trains {first} and {second} have one name")]
     DoubleName { first: u32, second: u32 },
-    #[error("out of memory")]
+    /// Memory ran out.
     Memory,
 }
 
@@ -45,24 +41,19 @@ impl From<NotNumbered> for TrainRefused {
 }
 
 /// Why lists of names are no missions. Trains and places go by number, counted from 0.
-#[derive(Clone, Copy, Debug, PartialEq, Eq, Error)]
+#[derive(Clone, Copy)]
 pub enum MissionRefused {
     /// Another number of missions than trains.
-    #[error("{count} missions")]
     Lists { count: usize },
     /// Another number of exits than trains.
-    #[error("{count} exits")]
     Exits { count: usize },
     /// No point, more than 128, or more than 127 with an exit.
-    #[error("train {train} has {count} points")]
     Length { train: u32, count: usize },
     /// No point has the name at this place.
-    #[error("unknown point at place {place} of train {train}")]
     UnknownPoint { train: u32, place: u32 },
     /// The points before and at this place have no link.
-    #[error("no link to place {place} of train {train}")]
     NotLinked { train: u32, place: u32 },
-    #[error("out of memory")]
+    /// Memory ran out.
     Memory,
 }
 

@@ -3,7 +3,7 @@ use rail_model::Ask;
 use std::alloc::{AllocError, AllocFailed};
 
 /// The first fault of a text. Lines are counted from 1.
-#[derive(Clone, Copy, Debug, PartialEq, Eq)]
+#[derive(Clone, Copy)]
 pub enum BadText {
     /// Neither a line nor an end line: another form, an unknown name, or no newline.
     Line { line: u64 },
@@ -28,7 +28,7 @@ impl<T: Drop> From<AllocFailed<T>> for BadText {
 }
 
 /// The first line that isn't right, counted from 1, or what a journal lacks at its end.
-#[derive(Clone, Copy, Debug, PartialEq, Eq)]
+#[derive(Clone, Copy)]
 pub enum BadLine {
     /// A move that the train can't make: what it would be told.
     Move { line: u64, ask: Ask },

@@ -1,6 +1,7 @@
 -- Worked rows: a line for a refusal of each kind.
-use Rattle.std.proofs.Common.{◌≡◌, [], ◌∷◌, pos, negsuc, Some, None, refl, lit<}
+use Rattle.std.proofs.Common.{◌≡◌, ℕ, List, [], ◌∷◌, pos, negsuc, Some, None, refl, lit<}
 use Rattle.std.specs.Prelude.{codes}
+use Rattle.std.specs.Borrow.{Bor}
 use Rattle.std.proofs.lemmas.Fmt.{decimal_digit}
 use Rattle.track_layout.specs.declared.refused.LayoutRefused.TheVariants as layout
 use Rattle.mission_table.specs.declared.refused.TrainRefused.TheVariants as trains
@@ -15,7 +16,7 @@ use Rattle.move_journal.specs.declared.faults.BadLine.TheVariants as line
 use Rattle.document_shapes.specs.declared.member.Member.TheVariants as member
 use Rattle.document_shapes.specs.declared.refused.ShapeRefused.TheVariants as shape
 use Rattle.layout_json.specs.declared.refused.DocRefused.TheVariants as document
-use Rattle.refusal_lines.specs.Fields.{line as line_of}
+use Rattle.refusal_lines.specs.Fields.{fields_words, line as line_of}
 use Rattle.refusal_lines.specs.Layouts.{layout_words, trains_words}
 use Rattle.refusal_lines.specs.Missions.{missions_words}
 use Rattle.refusal_lines.specs.Marks.{marks_words}
@@ -24,6 +25,12 @@ use Rattle.refusal_lines.specs.Certificates.{tree_words, bad_words}
 use Rattle.refusal_lines.specs.Journals.{text_words, line_words}
 use Rattle.refusal_lines.specs.Documents.{document_words}
 use Rattle.refusal_lines.specs.Makers.{many_words, spent_words, stuck_words, rounds_words, connected_words}
+
+abbrev label : List ℕ → Bor (List ℕ)
+label text = record { ref_ptr = (0, 0); now = text }
+
+labels : fields_words ((label (codes "first="), 0) ∷ (label (codes " second="), 1) ∷ []) ≡ codes "first=0 second=1"
+labels = rw (decimal_digit 0 (lit< tt), decimal_digit 1 (lit< tt)) refl
 
 double_name : line_of (layout_words (layout.DoubleName 0 1)) ≡ codes "ats: 2 DoubleName first=0 second=1\n"
 double_name = rw (decimal_digit 0 (lit< tt), decimal_digit 1 (lit< tt)) refl

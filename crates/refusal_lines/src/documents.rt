@@ -2,6 +2,7 @@
 ghost use Rattle.std.specs.Prelude.{◌≡◌, ◌++◌, OnOk, string_bytes};
 ghost use Rattle.refusal_lines.specs.Documents.{member_words, shape_words, document_words};
 
+use crate::fields::tell;
 use crate::layouts::{write_layout, write_trains};
 use crate::marks::write_marks;
 use crate::missions::write_missions;
@@ -15,10 +16,10 @@ fn write_shape(out: &mut String, refused: &ShapeRefused) -> Result<(), AllocErro
     ensures { OnOk result (string_bytes out.new ≡ string_bytes out.old ++ shape_words refused.now) }
 {
     match *refused {
-        ShapeRefused::NotJson => write!(out, "101 NotJson"),
+        ShapeRefused::NotJson => out.push_str("101 NotJson"),
         ShapeRefused::Shape { table, member } => write_member(out, table, member),
-        ShapeRefused::Version { value } => write!(out, "103 Version value={value}"),
-        ShapeRefused::Memory => write!(out, "202 Memory"),
+        ShapeRefused::Version { value } => tell!(out; "103 Version value=" value),
+        ShapeRefused::Memory => out.push_str("202 Memory"),
     }
 }
 
@@ -43,27 +44,23 @@ pub fn write_document(out: &mut String, refused: &DocRefused) -> Result<(), Allo
         DocRefused::Trains(refused) => write_trains(out, refused),
         DocRefused::Missions { table, refused } => write_missions(out, *table, refused),
         DocRefused::Marks { table, refused } => write_marks(out, *table, refused),
-        DocRefused::After { table, value } => write!(out, "105 After table={table} value={value}"),
-        DocRefused::StartLength { count } => write!(out, "111 StartLength count={count}"),
+        DocRefused::After { table, value } =>
+            tell!(out; "105 After table=" *table, " value=" *value),
+        DocRefused::StartLength { count } => tell!(out; "111 StartLength count=" *count),
         DocRefused::Start(cause) => write_start(out, cause),
         DocRefused::TimesLength {
             table,
             train,
             count,
-        } => write!(
-            out,
-            "113 TimesLength table={table} train={train} count={count}"
-        ),
+        } => tell!(out; "113 TimesLength table=" *table, " train=" *train, " count=" *count),
         DocRefused::TimesValue {
             table,
             train,
             place,
             value,
-        } => write!(
-            out,
-            "114 TimesValue table={table} train={train} place={place} value={value}"
-        ),
-        DocRefused::Tables { count } => write!(out, "115 Tables count={count}"),
-        DocRefused::Memory => write!(out, "202 Memory"),
+        } =>
+            tell!(out; "114 TimesValue table=" *table, " train=" *train, " place=" *place, " value=" *value),
+        DocRefused::Tables { count } => tell!(out; "115 Tables count=" *count),
+        DocRefused::Memory => out.push_str("202 Memory"),
     }
 }

@@ -2,6 +2,7 @@
 ghost use Rattle.std.specs.Prelude.{◌≡◌, ◌++◌, OnOk, string_bytes};
 ghost use Rattle.refusal_lines.specs.Journals.{text_words, ask_words, line_words};
 
+use crate::fields::tell;
 use move_journal::{BadLine, BadText};
 use rail_model::Ask;
 use std::alloc::AllocError;
@@ -11,11 +12,11 @@ pub fn write_text(out: &mut String, fault: &BadText) -> Result<(), AllocError>
     ensures { OnOk result (string_bytes out.new ≡ string_bytes out.old ++ text_words fault.now) }
 {
     match *fault {
-        BadText::Line { line } => write!(out, "71 Line line={line}"),
-        BadText::Number { line } => write!(out, "72 Number line={line}"),
-        BadText::NoEnd => write!(out, "73 NoEnd"),
-        BadText::After => write!(out, "74 After"),
-        BadText::Memory => write!(out, "202 Memory"),
+        BadText::Line { line } => tell!(out; "71 Line line=" line),
+        BadText::Number { line } => tell!(out; "72 Number line=" line),
+        BadText::NoEnd => out.push_str("73 NoEnd"),
+        BadText::After => out.push_str("74 After"),
+        BadText::Memory => out.push_str("202 Memory"),
     }
 }
 
@@ -28,12 +29,12 @@ pub fn write_line(out: &mut String, fault: &BadLine) -> Result<(), AllocError>
             write!(out, "75 Move line={line} ")?;
             write_ask(out, ask)
         }
-        BadLine::Table { line } => write!(out, "76 Table line={line}"),
-        BadLine::Unfinished { train } => write!(out, "77 Unfinished train={train}"),
-        BadLine::Counts => write!(out, "78 Counts"),
-        BadLine::Place { line } => write!(out, "79 Place line={line}"),
-        BadLine::Open { table } => write!(out, "80 Open table={table}"),
-        BadLine::Memory => write!(out, "202 Memory"),
+        BadLine::Table { line } => tell!(out; "76 Table line=" line),
+        BadLine::Unfinished { train } => tell!(out; "77 Unfinished train=" train),
+        BadLine::Counts => out.push_str("78 Counts"),
+        BadLine::Place { line } => tell!(out; "79 Place line=" line),
+        BadLine::Open { table } => tell!(out; "80 Open table=" table),
+        BadLine::Memory => out.push_str("202 Memory"),
     }
 }
 
@@ -42,10 +43,10 @@ fn write_ask(out: &mut String, ask: Ask) -> Result<(), AllocError>
     ensures { OnOk result (string_bytes out.new ≡ string_bytes out.old ++ ask_words ask) }
 {
     match ask {
-        Ask::Yes => write!(out, "Yes"),
-        Ask::Arrived => write!(out, "Arrived"),
-        Ask::Occupied { by } => write!(out, "Occupied by={by}"),
-        Ask::Full { section, count } => write!(out, "Full section={section} count={count}"),
-        Ask::Waits { connection } => write!(out, "Waits connection={connection}"),
+        Ask::Yes => out.push_str("Yes"),
+        Ask::Arrived => out.push_str("Arrived"),
+        Ask::Occupied { by } => tell!(out; "Occupied by=" by),
+        Ask::Full { section, count } => tell!(out; "Full section=" section, " count=" count),
+        Ask::Waits { connection } => tell!(out; "Waits connection=" connection),
     }
 }

@@ -4,6 +4,7 @@
 
 mod certificates;
 mod documents;
+mod fields;
 mod journals;
 mod layouts;
 mod makers;

@@ -2,6 +2,7 @@
 ghost use Rattle.std.specs.Prelude.{◌≡◌, ◌++◌, OnOk, string_bytes};
 ghost use Rattle.refusal_lines.specs.Makers.{places_words, many_words, spent_words, stuck_words, rounds_words, connected_words};
 
+use crate::fields::tell;
 use rail_model::State;
 use std::alloc::AllocError;
 
@@ -9,14 +10,14 @@ use std::alloc::AllocError;
 pub fn write_many(out: &mut String, table: u32, count: u32) -> Result<(), AllocError>
     ensures { OnOk result (string_bytes out.new ≡ string_bytes out.old ++ many_words table count) }
 {
-    write!(out, "121 Many table={table} count={count}")
+    tell!(out; "121 Many table=" table, " count=" count)
 }
 
 /// Adds how many nodes a table's certificate was allowed.
 pub fn write_spent(out: &mut String, table: u32, nodes: u32) -> Result<(), AllocError>
     ensures { OnOk result (string_bytes out.new ≡ string_bytes out.old ++ spent_words table nodes) }
 {
-    write!(out, "205 Spent table={table} nodes={nodes}")
+    tell!(out; "205 Spent table=" table, " nodes=" nodes)
 }
 
 /// Adds where a table is stuck.
@@ -39,7 +40,7 @@ pub fn write_rounds(out: &mut String, table: u32, rounds: u32, at: &State) -> Re
 pub fn write_connected(out: &mut String, table: u32) -> Result<(), AllocError>
     ensures { OnOk result (string_bytes out.new ≡ string_bytes out.old ++ connected_words table) }
 {
-    write!(out, "210 Connected table={table}")
+    tell!(out; "210 Connected table=" table)
 }
 
 // Adds the positions of the trains, with commas between them.

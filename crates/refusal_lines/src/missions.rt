@@ -2,6 +2,7 @@
 ghost use Rattle.std.specs.Prelude.{◌≡◌, ◌++◌, OnOk, string_bytes};
 ghost use Rattle.refusal_lines.specs.Missions.{missions_words};
 
+use crate::fields::tell;
 use mission_table::MissionRefused;
 use std::alloc::AllocError;
 
@@ -14,23 +15,14 @@ pub fn write_missions(
     ensures { OnOk result (string_bytes out.new ≡ string_bytes out.old ++ missions_words table refused.now) }
 {
     match *refused {
-        MissionRefused::Length { train, count } => {
-            write!(out, "12 Length table={table} train={train} count={count}")
-        }
-        MissionRefused::UnknownPoint { train, place } => {
-            write!(
-                out,
-                "13 UnknownPoint table={table} train={train} place={place}"
-            )
-        }
-        MissionRefused::NotLinked { train, place } => {
-            write!(
-                out,
-                "14 NotLinked table={table} train={train} place={place}"
-            )
-        }
-        MissionRefused::Lists { count } => write!(out, "16 Lists table={table} count={count}"),
-        MissionRefused::Exits { count } => write!(out, "18 Exits table={table} count={count}"),
-        MissionRefused::Memory => write!(out, "202 Memory"),
+        MissionRefused::Length { train, count } =>
+            tell!(out; "12 Length table=" table, " train=" train, " count=" count),
+        MissionRefused::UnknownPoint { train, place } =>
+            tell!(out; "13 UnknownPoint table=" table, " train=" train, " place=" place),
+        MissionRefused::NotLinked { train, place } =>
+            tell!(out; "14 NotLinked table=" table, " train=" train, " place=" place),
+        MissionRefused::Lists { count } => tell!(out; "16 Lists table=" table, " count=" count),
+        MissionRefused::Exits { count } => tell!(out; "18 Exits table=" table, " count=" count),
+        MissionRefused::Memory => out.push_str("202 Memory"),
     }
 }

@@ -2,6 +2,7 @@
 ghost use Rattle.std.specs.Prelude.{◌≡◌, ◌++◌, OnOk, string_bytes};
 ghost use Rattle.refusal_lines.specs.Starts.{illegal_words, start_words};
 
+use crate::fields::tell;
 use legal_state::Illegal;
 use std::alloc::AllocError;
 
@@ -18,17 +19,17 @@ fn write_illegal(out: &mut String, cause: &Illegal) -> Result<(), AllocError>
     ensures { OnOk result (string_bytes out.new ≡ string_bytes out.old ++ illegal_words cause.now) }
 {
     match *cause {
-        Illegal::Length { count } => write!(out, "31 Length count={count}"),
-        Illegal::Range { train } => write!(out, "32 Range train={train}"),
+        Illegal::Length { count } => tell!(out; "31 Length count=" count),
+        Illegal::Range { train } => tell!(out; "32 Range train=" train),
         Illegal::Clash {
             first,
             second,
             point,
-        } => write!(out, "33 Clash first={first} second={second} point={point}"),
+        } => tell!(out; "33 Clash first=" first, " second=" second, " point=" point),
         Illegal::Over {
             section,
             count,
             limit,
-        } => write!(out, "34 Over section={section} count={count} limit={limit}"),
+        } => tell!(out; "34 Over section=" section, " count=" count, " limit=" limit),
     }
 }

@@ -2,15 +2,13 @@
 ghost use Rattle.std.specs.Prelude.{◌≡◌};
 
 use std::alloc::{AllocError, AllocFailed};
-use thiserror::Error;
 
 /// Why the circular waits are not listed.
-#[derive(Clone, Copy, Debug, PartialEq, Eq, Error)]
+#[derive(Clone, Copy, Debug, PartialEq, Eq)]
 pub enum Rings {
     /// More than 64; `count` is 65.
-    #[error("too many rings: {count}")]
     Many { count: u32 },
-    #[error("out of memory")]
+    /// Memory ran out.
     Memory,
 }
 

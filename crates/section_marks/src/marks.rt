@@ -3,7 +3,7 @@ ghost use Rattle.std.specs.Prelude.{◌≡◌, pos};
 ghost use Rattle.section_marks.specs.Marking.{most_share, most_limit};
 
 /// The greatest share of a train: 1, with limits up to 32, or 4, with limits up to 128.
-#[derive(Clone, Copy, Debug, PartialEq, Eq)]
+#[derive(Clone, Copy)]
 pub enum Marks {
     One,
     Four,

@@ -26,18 +26,18 @@ const MOST_ZONES: usize = 16;
 pub fn layout(
     alloc: Global,
     points: Vec<(String, u32)>,
-    links: Vec<(String, String)>,
+    links: &[(String, String)],
     zones: u32,
 ) -> Result<Layout, LayoutRefused>
-    ensures { Answers LayoutRefused.Memory (λ made. made) result (layout_from (points_seen points.items) (links_seen links.items) zones) }
+    ensures { Answers LayoutRefused.Memory (λ made. made) result (layout_from (points_seen points.items) (links_seen links.now) zones) }
 {
     check_counts(points.len(), links.len(), zones)?;
     let (names, in_zones) = parted(alloc, points)?;
     check_names(&names)?;
     let numbers = Numbers::new(alloc, names)?;
     check_zones(&in_zones, zones)?;
-    let joined = joined(alloc, &numbers, &links)?;
-    check_self_links(&links)?;
+    let joined = joined(alloc, &numbers, links)?;
+    check_self_links(links)?;
     let points = listed(alloc, numbers.into_names(alloc)?, in_zones)?;
     Ok(Layout::new(points, joined, zones))
 }

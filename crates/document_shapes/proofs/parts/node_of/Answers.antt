@@ -1,7 +1,6 @@
 use Rattle.std.proofs.Common.{sym, arith}
-use Rattle.std.proofs.lemmas.Grind.{common_steps}
 use Rattle.document_shapes.proofs.PartLemmas.{node_other}
 use Rattle.document_shapes.proofs.parts.node_of.Goals as goal
 
 pub returns-in_default-2 : goal.returns-in_default-2
-returns-in_default-2 c = sym (node_other c.args.values.now (λ low high. grind (arith, common_steps)))
+returns-in_default-2 c = sym (node_other c.args.values.now (λ low high. omega arith))

@@ -1,8 +1,7 @@
-use Rattle.std.proofs.Common.{append_assoc}
 use Rattle.refusal_lines.proofs.certificates.write_tree.Goals as goal
 
 pub returns-in-Short : goal.returns-in-Short
-returns-in-Short c = simp (c.in-Short.is, append_assoc) c.write.ensures.bytes
+returns-in-Short c = rw c.in-Short.is c.write_fields.ensures
 
 pub returns-in-Over : goal.returns-in-Over
-returns-in-Over c = simp (c.in-Over.is, append_assoc) c.write-in-Over.ensures.bytes
+returns-in-Over c = rw c.in-Over.is c.write_fields-in-Over.ensures

@@ -1,8 +1,7 @@
-use Rattle.std.proofs.Common.{append_assoc}
 use Rattle.refusal_lines.proofs.documents.write_document.Goals as goal
 
 pub returns-in-TimesLength : goal.returns-in-TimesLength
-returns-in-TimesLength c = simp (c.in-TimesLength.is, append_assoc) c.write-in-TimesLength.ensures.bytes
+returns-in-TimesLength c = rw c.in-TimesLength.is c.write_fields-in-TimesLength.ensures
 
 pub returns-in-TimesValue : goal.returns-in-TimesValue
-returns-in-TimesValue c = simp (c.in-TimesValue.is, append_assoc) c.write-in-TimesValue.ensures.bytes
+returns-in-TimesValue c = rw c.in-TimesValue.is c.write_fields-in-TimesValue.ensures

@@ -8,15 +8,3 @@ returns-in_ok-write-in-Move c =
     let whole : string_bytes c.write.new.self ++ told ≡ string_bytes c.args.out.now ++ line_words c.args.fault.now =
     ap (λ front. front ++ told) c.in_ok-write-in-Move.ensures.bytes ∙ simp (c.in-Move.is, append_assoc) refl in
     subst (λ bytes. OnOk c.write_ask.result (string_bytes c.write_ask.new.out ≡ bytes)) whole c.write_ask.ensures
-
-pub returns-in-Table : goal.returns-in-Table
-returns-in-Table c = simp (c.in-Table.is, append_assoc) c.write-in-Table.ensures.bytes
-
-pub returns-in-Unfinished : goal.returns-in-Unfinished
-returns-in-Unfinished c = simp (c.in-Unfinished.is, append_assoc) c.write-in-Unfinished.ensures.bytes
-
-pub returns-in-Place : goal.returns-in-Place
-returns-in-Place c = simp (c.in-Place.is, append_assoc) c.write-in-Place.ensures.bytes
-
-pub returns-in-Open : goal.returns-in-Open
-returns-in-Open c = simp (c.in-Open.is, append_assoc) c.write-in-Open.ensures.bytes

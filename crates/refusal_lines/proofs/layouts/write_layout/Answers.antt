@@ -6,6 +6,3 @@ pub returns-in-TooMany : goal.returns-in-TooMany
 returns-in-TooMany c =
     rw (c.in-TooMany.is, sym c.name-what.ensures, append_assoc c.name-what.result.now (codes " count=") (decimal c.in-TooMany.count))
     c.write.ensures.bytes
-
-pub returns-in-Name : goal.returns-in-Name
-returns-in-Name c = simp (c.in-Name.is, append_assoc) c.write-in-Name.ensures.bytes

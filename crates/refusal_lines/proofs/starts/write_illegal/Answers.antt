@@ -1,8 +1,7 @@
-use Rattle.std.proofs.Common.{append_assoc}
 use Rattle.refusal_lines.proofs.starts.write_illegal.Goals as goal
 
 pub returns-in-Clash : goal.returns-in-Clash
-returns-in-Clash c = simp (c.in-Clash.is, append_assoc) c.write-in-Clash.ensures.bytes
+returns-in-Clash c = rw c.in-Clash.is c.write_fields-in-Clash.ensures
 
 pub returns-in-Over : goal.returns-in-Over
-returns-in-Over c = simp (c.in-Over.is, append_assoc) c.write-in-Over.ensures.bytes
+returns-in-Over c = rw c.in-Over.is c.write_fields-in-Over.ensures

@@ -1,5 +1,0 @@
-use Rattle.std.proofs.Common.{append_assoc}
-use Rattle.refusal_lines.proofs.certificates.write_wait.Goals as goal
-
-pub returns : goal.returns
-returns c = simp (append_assoc) c.write.ensures.bytes
