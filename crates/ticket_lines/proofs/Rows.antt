@@ -1,5 +1,7 @@
 -- Worked rows: the lines of two trains, and of a train beside the control.
-use Rattle.std.proofs.Common.{◌≡◌, ℕ, List, [], ◌∷◌, map, false, Some, None, refl}
+use Rattle.std.proofs.Common.{◌≡◌, ℕ, ◌<◌, List, [], ◌∷◌, length, map, false, Some, None, refl, arith}
+use Rattle.std.specs.Prelude.{slice_index_or}
+use Rattle.std.proofs.lemmas.List.Elements.{All-nil, All-head}
 use Rattle.rail_model.specs.declared.types.Ask.TheVariants.{Yes, Occupied}
 use Rattle.rail_model.specs.declared.types.Tried.TheVariants.{Exchanged, Early}
 use Rattle.rail_model.specs.declared.types.Reply.TheVariants.{Driver, Control}
@@ -10,7 +12,7 @@ use Rattle.rail_model.specs.Table.{Table}
 use Rattle.rail_model.specs.Yard.{Offer, Yard, opening}
 use Rattle.rail_model.specs.Lines.{journal_of}
 use Rattle.ticket_lines.specs.Tickets.{at_ticket, marks_of, all_lines, own_lines, lines_of}
-use Rattle.ticket_lines.specs.Merging.{bare}
+use Rattle.ticket_lines.specs.Merging.{Row, AreRows, bare}
 
 -- missions without sections
 abbrev table_of : List (List ℕ) → Table
@@ -65,3 +67,12 @@ one_line = refl
 
 no_line : at_ticket 3 None ≡ []
 no_line = refl
+
+-- rows without lines are those of a yard without entries; who has made an entry has a row
+none_yet : (own : List Row) → ((p : ℕ) (d : Row) → (slice_index_or own p d).items ≡ []) → AreRows own (record { tables = tables; opening = opened; history = [] })
+none_yet own empty = record { each = λ p d lt. empty p d; low = All-nil (λ (e : Entry). e.who < length own) }
+
+not_without_rows : AreRows [] (record { tables = tables; opening = opened; history = record { who = 0; reply = Driver Yes } ∷ [] }) → ⊥
+not_without_rows rows =
+    let low : 0 < 0 = All-head (λ (e : Entry). e.who < 0) (record { who = 0; reply = Driver Yes }) [] rows.low in
+    omega (arith, low)

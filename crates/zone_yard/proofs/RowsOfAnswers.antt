@@ -3,11 +3,14 @@ use Rattle.std.proofs.Common.{◌≡◌, [], ◌∷◌, refl, arith}
 use Rattle.rail_model.specs.declared.types.Ask.TheVariants.{Yes as Go, Arrived, Occupied, Waits}
 use Rattle.rail_model.specs.declared.types.BlockAsk.TheVariants.{Yes, First, NotWhole}
 use Rattle.rail_model.specs.declared.types.Reply.TheVariants as reply
+use Rattle.rail_model.specs.declared.types.Tried.TheVariants.{Differs, Over, NoMore}
 use Rattle.zone_yard.specs.declared.replies.Reply.TheVariants as one
 use Rattle.zone_yard.specs.declared.replies.BlockReply.TheVariants as block
+use Rattle.zone_yard.specs.declared.replies.Turn.TheVariants as turn
 use Rattle.zone_yard.specs.declared.requests.Attempt.TheVariants.{Told, Busy}
 use Rattle.zone_yard.specs.Blocks.{needs, replies_of, CanAnswer, steps_left}
 use Rattle.zone_yard.specs.Asked.{reply_of, block_reply_of, IsAnswer}
+use Rattle.zone_yard.specs.Replies.{turn_to}
 use Rattle.zone_yard.proofs.Samples.{boarded, first_path, two_tables}
 
 -- three steps are granted, each by an entry
@@ -63,3 +66,13 @@ block_waits = refl
 
 not_answered : IsAnswer (Busy 2 5) → ⊥
 not_answered h = h
+
+-- the answers to the control
+differs : turn_to 7 (Differs 0 2) ≡ turn.Differs 7 0 2
+differs = refl
+
+over : turn_to 7 (Over 0 2) ≡ turn.Over 7 0 2
+over = refl
+
+no_more : turn_to 7 NoMore ≡ turn.NoMore
+no_more = refl

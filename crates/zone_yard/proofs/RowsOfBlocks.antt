@@ -2,6 +2,7 @@
 use Rattle.std.proofs.Common.{◌≡◌, ℕ, List, [], ◌∷◌, ◌++◌, refl, ap, ◌∙◌, subst, arith, lit<, min}
 use Rattle.std.proofs.lemmas.Bool.Decides.{not_from_Decides}
 use Rattle.rail_model.specs.declared.types.Ask.TheVariants.{Arrived, Occupied}
+use Rattle.rail_model.specs.declared.types.BlockAsk.TheVariants.{Yes}
 use Rattle.rail_model.specs.declared.types.Reply.{Reply}
 use Rattle.rail_model.specs.declared.types.Reply.TheVariants.{Driver, NotWhole}
 use Rattle.rail_model.specs.declared.types.Entry.{Entry}
@@ -13,6 +14,7 @@ use Rattle.zone_yard.specs.Setup.{SharedYard}
 use Rattle.zone_yard.specs.Passes.{Pass}
 use Rattle.zone_yard.specs.Entering.{Enters}
 use Rattle.zone_yard.specs.Replies.{BlockReplies, steps_after}
+use Rattle.zone_yard.specs.Blocks.{IsAnswered, steps_left}
 use Rattle.zone_yard.proofs.Samples.{boarded, yes, first_path, passing_loop, corridor}
 use Rattle.zone_yard.proofs.Rows.{goes, nothing}
 
@@ -32,7 +34,7 @@ through = record (boarded (first_path 9) 0) {
   mine = record { ticket = 0; entry = yes 0 } ∷ record { ticket = 1; entry = yes 0 } ∷ [];
 }
 
-two_steps : BlockReplies 4 (boarded (first_path 9) 0) (block.Granted 0 2) through
+abbrev two_steps : BlockReplies 4 (boarded (first_path 9) 0) (block.Granted 0 2) through
 two_steps = (
   lit< tt,
   (
@@ -53,6 +55,16 @@ two_steps = (
     refl,
   ),
 )
+
+-- four are asked for, and two remain
+answered : IsAnswered 4 Yes 2 0 (boarded (first_path 9) 0) through
+answered = record { entered = two_steps.1.0; remain = refl; can = lit< tt }
+
+not_a_third : (new : Pass) → IsAnswered 4 Yes 3 0 (boarded (first_path 9) 0) new → ⊥
+not_a_third new h =
+    let old : Pass = boarded (first_path 9) 0 in
+    let is : 3 ≡ 2 = h.remain ∙ ap (λ H. steps_left old H 4) (from_start 0 _ old new refl h.entered) in
+    cc is
 
 -- one step alone isn't all that was asked for
 not_one_step : (new : Pass) → BlockReplies 4 (boarded (first_path 9) 0) (block.Granted 0 1) new → ⊥

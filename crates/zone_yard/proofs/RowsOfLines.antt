@@ -1,9 +1,11 @@
 -- Rows of the lines that passes keep.
-use Rattle.std.proofs.Common.{◌≡◌, [], ◌∷◌, Some, refl, lit≤}
+use Rattle.std.proofs.Common.{◌≡◌, ℕ, List, [], ◌∷◌, length, Some, refl, lit≤}
+use Rattle.std.specs.Prelude.{slice_index_or}
 use Rattle.rail_model.specs.declared.types.Line.TheVariants.{Move as MoveLine}
 use Rattle.ticket_lines.specs.declared.tickets.TicketLine.{TicketLine}
 use Rattle.zone_yard.specs.Views.{View, root_view, pass_view}
-use Rattle.zone_yard.specs.Lines.{AreLines, IsLeft, most_lines, moves_from}
+use Rattle.ticket_lines.specs.Merging.{Row}
+use Rattle.zone_yard.specs.Lines.{AreLines, IsLeft, AreLeft, most_lines, moves_from}
 use Rattle.zone_yard.proofs.Samples.{table_of, yes, first_path}
 
 most_of_train : most_lines 31 ≡ 127
@@ -49,3 +51,10 @@ kept = record { seen = yes 0 ∷ []; begins = ([], refl); own = refl; items = re
 
 none_of_another : IsLeft left 1 []
 none_of_another = record { seen = yes 0 ∷ []; begins = ([], refl); own = refl; items = refl }
+
+-- the root of a new yard has a row for each pass, without lines
+rows_of_none : (rows : List Row) → length rows ≡ 33 → ((p : ℕ) (d : Row) → (slice_index_or rows p d).items ≡ []) → AreLeft opened rows
+rows_of_none rows wide empty = record { wide = wide; each = λ p d lt. record { seen = []; begins = ([], refl); own = refl; items = empty p d } }
+
+not_without_rows : AreLeft opened [] → ⊥
+not_without_rows h = cc h.wide

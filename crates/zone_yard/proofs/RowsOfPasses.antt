@@ -1,10 +1,10 @@
 -- Rows of passes: boarding, leaving, and a yard that is closed.
-use Rattle.std.proofs.Common.{◌≡◌, [], ◌∷◌, true≢false, Ok, Err, Some, refl, sym, lit<}
+use Rattle.std.proofs.Common.{◌≡◌, [], ◌∷◌, true≢false, Ok, Err, Some, refl, sym, lit<, inl}
 use Rattle.rail_model.specs.declared.types.Line.TheVariants.{Move as MoveLine}
 use Rattle.zone_yard.specs.declared.replies.Board.TheVariants.{Taken, Memory}
 use Rattle.zone_yard.specs.declared.replies.Reply.TheVariants as one
 use Rattle.zone_yard.specs.Setup.{state_after}
-use Rattle.zone_yard.specs.Passes.{Pass, Root}
+use Rattle.zone_yard.specs.Passes.{Pass, Root, IsAshore}
 use Rattle.zone_yard.specs.Replies.{Replies}
 use Rattle.zone_yard.specs.Boarding.{fresh_root, with_pass, Boards, TakesBack}
 use Rattle.rail_model.specs.Lines.{journal_of}
@@ -40,6 +40,13 @@ leaves = record {
   own = (yes 0 ∷ [], refl);
   theirs = ([], refl);
 }
+
+-- who hasn't boarded stands where the yard opened
+ashore : IsAshore one_zone.setup (0 ∷ []) []
+ashore p is none = refl
+
+not_ashore : IsAshore one_zone.setup [] (yes 0 ∷ []) → ⊥
+not_ashore h = cc (h 0 (inl (lit< tt)) refl)
 
 -- the root hasn't seen what the pass has
 not_unseen : TakesBack (with_pass (fresh_root one_zone) 0) (granted_after one_zone 0 []) (record has_left { seen = [] }) → ⊥

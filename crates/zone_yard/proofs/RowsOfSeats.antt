@@ -2,11 +2,13 @@
 use Rattle.std.proofs.Common.{◌≡◌, ℕ, [], ◌∷◌, Some, refl, arith, lit<, lit≤}
 use Rattle.rail_model.specs.declared.types.Ask.TheVariants.{Occupied}
 use Rattle.rail_model.specs.declared.types.BlockAsk.TheVariants.{Yes, First, NotWhole}
+use Rattle.move_claim.specs.declared.cells.Cell.TheVariants.{Table as TableCell}
+use Rattle.move_claim.specs.Cells.{number_of}
 use Rattle.zone_yard.specs.Blocks.{granted_steps}
 use Rattle.zone_yard.specs.Setup.{SharedYard}
-use Rattle.zone_yard.specs.Views.{root_view, pass_view}
+use Rattle.zone_yard.specs.Views.{root_view, pass_view, knower}
 use Rattle.zone_yard.specs.Tells.{Sat}
-use Rattle.zone_yard.specs.Aboard.{IsDriver}
+use Rattle.zone_yard.specs.Aboard.{IsDriver, IsControl}
 use Rattle.zone_yard.specs.Attempts.{Refuses, Moves, Since, TurnsAway}
 use Rattle.zone_yard.proofs.Samples.{four_zones, one_zone, two_tables}
 
@@ -35,6 +37,30 @@ no_train h = let lt = h.named in omega (arith, lt)
 
 not_another : IsDriver 0 0 0 (seat one_zone 1) → ⊥
 not_another h = cc h.pass.number_is
+
+-- the control has boarded a yard of one train, whose first table is in force
+control : IsControl 0 0 (0 ∷ []) (seat two_tables 32)
+control = record {
+  pass = record {
+    aboard = refl;
+    number_is = refl;
+    idle = record { stage = refl; held = refl; known = refl; owed = refl; still = refl; stands = refl };
+    made = refl;
+    room = lit≤ tt;
+    few_calls = lit< tt;
+    legal = tt;
+    slots = refl;
+  };
+  answered = refl;
+  one_each = refl;
+}
+
+no_room : IsControl 0 0 [] (seat two_tables 32) → ⊥
+no_room h = cc h.one_each
+
+-- it knows the number of the table in force
+knows : number_of TableCell (knower ((TableCell, 1) ∷ []) 0).known ≡ Some 1
+knows = refl
 
 -- a grant alone leads on
 on : granted_steps 3 Yes ≡ 3

@@ -45,12 +45,12 @@ pub record IsBack (places : ℕ) (old new : Sat) : Type 0 where
   pub idle : IsIdle (old.0.actor.position + places) new.0.actor
   pub slots : new.1 ≡ old.1
 
--- The pass was told the answer to the steps asked for, and is idle where the granted ones end.
+-- The pass was answered about the steps asked for, and is idle where the granted ones end.
 abbrev pub IsToldBlock : TableId → ℕ → BlockAsk → ℕ → ℕ → Sat → Sat → Type 0
 IsToldBlock id asked answer steps ticket old new =
     IsAnswered asked answer steps ticket (pass_of id old.0) (pass_of id new.0) × IsBack (granted_steps steps answer) old new
 
--- It was told the answer, or a zone was held, or another table is in force.
+-- It was answered, or a zone was held, or another table is in force.
 abbrev pub Attempts : TableId → Wanted → ℕ → List ℕ → Sat → Option Attempt → Sat → Type 0
 Attempts id w zones needed old (Some (Told answer steps ticket)) new = IsToldBlock id w.steps answer steps ticket old new
 Attempts id w zones needed old (Some (Busy zone holder)) new = Refuses zones needed old new zone (suc holder)

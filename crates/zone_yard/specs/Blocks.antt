@@ -42,7 +42,7 @@ steps_left pass H asked =
     let S = pass.yard.setup in
     (claim_of (in_force S.tables (state_after S H)) pass.number pass.position asked).steps
 
--- The pass was told the answer to those of the steps asked for that remain, in entries at this ticket and the places after it.
+-- Those of the steps asked for that remain were answered so, in entries at this ticket and the places after it.
 pub record IsAnswered (asked : ℕ) (answer : BlockAsk) (steps ticket : ℕ) (old new : Pass) : Type 0 where
   pub entered : Enters ticket (replies_of steps answer) old new
   pub remain : steps ≡ steps_left old entered.before asked

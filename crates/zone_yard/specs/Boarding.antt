@@ -49,7 +49,7 @@ pub record Closes (root : Root) (state : Plain) : Type 0 where
   pub lines : state.lines ≡ root.yard.setup.opening.lines ++ journal_of root.yard.setup.tables root.yard.setup.opening.yard root.seen
   pub keeps : Keeps root.yard.setup.tables state.yard state.lines
 
--- What a pass that boards is told: a pass where it never boarded before, else `Taken`; `Memory` comes only after that test. Where
+-- What a pass that boards is answered: a pass where it never boarded before, else `Taken`; `Memory` comes only after that test. Where
 -- it gets no pass the root is as it was.
 abbrev pub Boards : Root → ℕ → Result Pass Board → Root → Type 0
 Boards old p (Ok pass) new = (HasBoarded old p → ⊥) × (pass ≡ boarded_pass old p) × (new ≡ with_pass old p)

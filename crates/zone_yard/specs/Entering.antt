@@ -5,7 +5,7 @@ use Rattle.rail_model.specs.declared.types.Reply.{Reply}
 use Rattle.zone_yard.specs.Setup.{state_after, IsLegalHistory}
 use Rattle.zone_yard.specs.Passes.{Pass, StartsWith, IsFree, told, receipts_from, entries_of, standing}
 
--- The pass was told these replies in entries at the ticket and the places after it: they end a legal history that begins with all that
+-- The pass was answered by these replies in entries at the ticket and the places after it: they end a legal history that begins with all that
 -- the pass had seen, and are all that its own entries have gained.
 pub record Enters (ticket : ℕ) (replies : List Reply) (old new : Pass) : Type 0 where
   pub before : List Entry

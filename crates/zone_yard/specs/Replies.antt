@@ -50,7 +50,7 @@ pub record IsBusy (want zone holder : ℕ) (old new : Pass) : Type 0 where
   pub rest : new ≡ record old { tries = new.tries }
   pub free : IsFree new
 
--- A request was told this in one entry.
+-- A request was answered so in one entry.
 abbrev pub IsTold : Pass → ℕ → Ask → Pass → Type 0
 IsTold old ticket answer new = HasRoom old × Enters ticket (entry.Driver answer ∷ []) old new
 
@@ -59,7 +59,7 @@ abbrev pub IsGranted : ℕ → Pass → ℕ → ℕ → Pass → Type 0
 IsGranted want old ticket steps new =
     HasRoom old × ((entered : Enters ticket (replicate steps (entry.Driver ask.Yes)) old new) × (steps ≡ steps_after old entered.before want))
 
--- The steps that were asked for couldn't be granted whole: the one after the first `step` of them was told `answer`.
+-- The steps that were asked for couldn't be granted whole: the one after the first `step` of them has the answer `answer`.
 abbrev pub IsNotWhole : ℕ → Pass → ℕ → ℕ → Ask → Pass → Type 0
 IsNotWhole want old ticket step answer new =
     HasRoom old × ((entered : Enters ticket (entry.NotWhole step answer ∷ []) old new) × (step < steps_after old entered.before want))
@@ -99,7 +99,7 @@ IsBlockServed reply = Unit {0}
 abbrev pub SeesOpen : Pass → Type 0
 SeesOpen pass = IsOpen pass.yard.setup.tables (state_after pass.yard.setup pass.seen)
 
--- The control was told this of the next table in one entry.
+-- The control was answered so of the next table in one entry.
 abbrev pub IsTurned : Pass → ℕ → Tried → Pass → Type 0
 IsTurned old ticket answer new = HasRoom old × SeesOpen old × Enters ticket (entry.Control answer ∷ []) old new
 
@@ -112,7 +112,7 @@ Turns old (turn.Early ticket m) new = IsTurned old ticket (tried.Early m) new
 Turns old turn.NoMore new = HasRoom old × (SeesOpen old → ⊥) × IsKept old new
 Turns old turn.Spent new = IsSpent old × IsKept old new
 
--- the answer to the control that was told this
+-- the turn of the control that is answered so
 abbrev pub turn_to : ℕ → Tried → Turn
 turn_to ticket tried.Exchanged = turn.Exchanged ticket
 turn_to ticket (tried.Differs i k) = turn.Differs ticket i k
@@ -120,7 +120,7 @@ turn_to ticket (tried.Over s n) = turn.Over ticket s n
 turn_to ticket (tried.Early m) = turn.Early ticket m
 turn_to ticket tried.NoMore = turn.NoMore
 
--- the answer to a request for one step that was told this
+-- the reply to a request for one step that is answered so
 abbrev pub reply_to : ℕ → Ask → Reply
 reply_to ticket ask.Yes = one.Granted ticket
 reply_to ticket ask.Arrived = one.Arrived ticket
@@ -128,7 +128,7 @@ reply_to ticket (ask.Occupied by) = one.Occupied ticket by
 reply_to ticket (ask.Full s n) = one.Full ticket s n
 reply_to ticket (ask.Waits c) = one.Waits ticket c
 
--- the answer to a request for a block that was told this of n steps
+-- the reply to a request for a block of which n steps are answered so
 abbrev pub block_reply_to : ℕ → ℕ → BlockAsk → BlockReply
 block_reply_to ticket n told.Yes = block.Granted ticket n
 block_reply_to ticket n (told.NotWhole step answer) = block.NotWhole ticket step answer

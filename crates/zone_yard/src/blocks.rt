@@ -12,7 +12,7 @@ use ats_io::Gate;
 use rail_model::{Ask, BlockAsk};
 use std::sync::Wait;
 
-// The reply to a block of this many steps that was told this.
+// The reply to a block of this many steps that is answered so.
 fn told(answer: BlockAsk, steps: u32, ticket: u64) -> BlockReply
     requires { CanAnswer steps answer }
     ensures { result ≡ block_reply_to ticket steps answer }

@@ -112,7 +112,7 @@ fn know_state(yard: &Yard<'_>, seat: &mut Place, known: &mut Known)
     read_positions(yard, seat, known);
 }
 
-// What the control is told of the table after the last one that has its answer, by the numbers that it knows. Its positions are noted.
+// What the control is answered of the table after the last one that has its answer, by the numbers that it knows. Its positions are noted.
 pub(crate) fn told_of_next(
     yard: &Yard<'_>,
     tried: u32,
@@ -132,8 +132,8 @@ pub(crate) fn told_of_next(
     tell(tables[table as usize].table(), next, positions, moves)
 }
 
-// All zones are held and all that the control asks about is known: adds its entry. What it is told, and the entry's ticket; what it owes
-// is noted.
+// All zones are held and all that the control asks about is known: adds its entry. What it is answered, and the entry's ticket; what it
+// owes is noted.
 fn enter_turn(
     yard: &Yard<'_>,
     seat: &mut Place,
@@ -175,7 +175,7 @@ fn enter_turn(
     (told, ticket)
 }
 
-// The answer to the control that was told this.
+// The turn of the control that is answered so.
 fn turn_of(told: Tried, ticket: u64) -> Turn
     ensures { result ≡ turn_to ticket told }
 {

@@ -22,7 +22,7 @@ fn ask_of(answer: BlockAsk) -> Ask
     }
 }
 
-// The reply to a request that was told this.
+// The reply to a request that is answered so.
 fn told(ask: Ask, ticket: u64) -> Reply
     ensures { result ≡ reply_to ticket ask }
 {

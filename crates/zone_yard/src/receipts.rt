@@ -140,7 +140,7 @@ pub(crate) fn enter_answer<J: HowMany>(
     ticket
 }
 
-// The line of what the control is told of the table, where the table has its answer.
+// The line of what the control is answered of the table, where the table has its answer.
 fn table_line(table: u32, told: Tried) -> Option<Line>
     ensures { (tables : List Offer) (y : YardValue) → table ≡ y.tried + 1 → result ≡ line_of tables y (record { who = control; reply = ControlReply told }) }
 {
@@ -161,7 +161,7 @@ fn table_line(table: u32, told: Tried) -> Option<Line>
 }
 
 // The control holds all zones and knows all that it asks about: the answer of the next table is entered, and its line is kept. What it is
-// told, and the ticket; the positions that it knows are noted.
+// answered, and the ticket; the positions that it knows are noted.
 pub(crate) fn enter_tried(
     yard: &Yard<'_>,
     seat: &mut Place,

@@ -7,7 +7,7 @@ use cert_checker::Accepted;
 use rail_model::{HasTable, Layout, PlainState, Table};
 use std::marker::{Brand, Model, PhantomData};
 
-/// What the rule is told once, when the table is made.
+/// What the rule is given once, when the table is made.
 #[derive(Drop)]
 pub struct Key<'a> {
     pub(crate) layout: &'a Layout,

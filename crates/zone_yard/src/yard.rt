@@ -9,8 +9,8 @@ use std::alloc::{AllocError, Global};
 use std::marker::Model;
 use ticket_lines::TicketLine;
 
-/// Trains and the control work at it at once, each by a pass of its own. All answers stand in one legal history, and what a pass is told
-/// is the one-thread yard's answer at its ticket. It borrows the layout and the tables.
+/// Trains and the control work at it at once, each by a pass of its own. All answers stand in one legal history, and what a pass is
+/// answered is the one-thread yard's answer at its ticket. It borrows the layout and the tables.
 #[derive(Drop)]
 pub struct Yard<'a> {
     pub(crate) table: Table<(), View, Key<'a>, Law, Global>,
