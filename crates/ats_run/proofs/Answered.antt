@@ -1,14 +1,14 @@
 -- From what was read and written to the cause of a call's end.
-use Rattle.std.proofs.Common.{◌≡◌, ◌≢◌, ◌⊎◌, ℕ, List, [], Some, refl, sym, subst, inl, inr}
-use Rattle.std.specs.Prelude.{Option, None, Result, Ok, Err, IfErr}
-use Rattle.std.proofs.lemmas.List.{append-nil}
-use Rattle.ats_io.specs.Bytes.{Adds}
+use Rattle.std.proofs.Common.{◌≡◌, ◌⊎◌, ℕ, List, Some, refl, sym, subst, inl, inr}
+use Rattle.std.specs.Prelude.{Option, Result, Ok, Err, IfErr}
+use Rattle.std.specs.Result.{IsErrAnd}
+use Rattle.std.specs.Io.KnownBytes.{IsAtEnd}
 use Rattle.command_words.specs.declared.orders.Order.{Order}
 use Rattle.command_words.specs.declared.orders.Order.TheVariants.{Run, Resume, Check, Verify, Migrate, Make, Derive, Repair, Simulate, Generate, Drill, Weave}
 use Rattle.layout_json.specs.Doc.{Doc, table_at}
 use Rattle.ats_run.specs.declared.failure.Failure.{Failure}
 use Rattle.ats_run.specs.declared.failure.Failure.TheVariants as failure
-use Rattle.ats_run.specs.Causes.{Call, IsRead, IsCause, IsUnwritten}
+use Rattle.ats_run.specs.Causes.{Call, IsRead, IsReadWhole, IsServed, IsCause}
 use Rattle.ats_run.specs.Command.{Comes, IsUnchecked, IsUnverifiedInput, IsUnresumedInput, IsNoDoc, IsUnmadeInput, IsUnderivedInput}
 use Rattle.ats_run.specs.Deriving.{derived, HasTooManyRings}
 use Rattle.document_generator.specs.Generated.{generated}
@@ -84,17 +84,21 @@ answered call order bytes failure.TooLong asked whole same h = absurd (never ord
 answered call order bytes failure.Memory asked whole same h = tt
 answered call order bytes e asked whole same h = (order, asked, (whole, of_bytes order call.held bytes (λ input. Comes order input (Err e)) same h))
 
--- why it was not written is the cause
-pub unwritten : (call : Call) (order : Order) (bytes : List ℕ) (e : Failure) → call.order ≡ Some order → IsRead call order
-    → OnInput order call.held (λ input. bytes ≡ input) → IsUnwritten order bytes call.sink_failed e → IsCause call e
-unwritten call order bytes e asked whole same h = elim h [
+-- why there is no text is the cause
+pub no_text : (call : Call) (order : Order) (bytes : List ℕ) (e : Failure) → call.order ≡ Some order → IsRead call order
+    → OnInput order call.held (λ input. bytes ≡ input) → (e ≡ failure.Memory) ⊎ Comes order bytes (Err e) → IsCause call e
+no_text call order bytes e asked whole same h = elim h [
   | inl is ↦ subst (IsCause call) (sym is) tt
-  | inr (inl (is, failed)) ↦ subst (IsCause call) (sym is) (order, asked, (whole, failed))
-  | inr (inr comes) ↦ answered call order bytes e asked whole same comes
+  | inr comes ↦ answered call order bytes e asked whole same comes
 ]
 
--- a failure before anything was written
-pub nothing_written : {V : Type 0} (taken : Option (List ℕ)) (result : Result V Failure) → IfErr result (λ e. e ≢ failure.WriteFault → Adds taken taken [])
-nothing_written taken (Ok v) = tt
-nothing_written None (Err e) = λ other. tt
-nothing_written (Some bytes) (Err e) = λ other. sym (append-nil bytes)
+-- what is true of an error is true of it where it is handed on
+pub handed_on : {V E : Type 0} (result : Result V E) (e : E) (P : E → Type 0) → IsErrAnd result (λ y. y ≡ e) → P e → IfErr result P
+handed_on (Ok v) e P is p = tt
+handed_on (Err y) e P is p = subst P (sym is) p
+
+-- what was read whole comes to a text, of which the fact holds
+pub is_served : (order : Order) (held left : Option (List ℕ)) (bytes text : List ℕ) (Taken : List ℕ → Type 0) → IsReadWhole order held (IsAtEnd left)
+    → OnInput order held (λ input. bytes ≡ input) → Comes order bytes (Ok text) → Taken text → IsServed (Some order) held left Taken
+is_served order held left bytes text Taken whole same comes taken =
+    (order, refl, whole, of_bytes order held bytes (λ input. (written : List ℕ) × Comes order input (Ok written) × Taken written) same (text, comes, taken))

@@ -12,6 +12,7 @@ use Rattle.move_journal.specs.Answers.{IsFrontOf}
 use Rattle.shared_run.specs.declared.crews.Crew.{Crew}
 use Rattle.layout_json.specs.Doc.{Doc, IsDoc, offers_of, names_of}
 use Rattle.layout_json.specs.Reading.{doc_of}
+use Rattle.layout_json.proofs.Offered.{offer_count, legal_start}
 use Rattle.ats_run.specs.declared.failure.Failure.{Failure}
 use Rattle.ats_run.specs.declared.failure.Failure.TheVariants.{Memory as NoMemory}
 use Rattle.ats_run.specs.declared.tasks.Task.{Task}
@@ -26,9 +27,8 @@ use Rattle.ats_run.specs.Orders.{crew_in}
 use Rattle.ats_run.specs.Tasks.{RunsTrains, PrintsText, PrintsCounts, Prints, LeadsTo, TaskLeads}
 use Rattle.ats_run.proofs.Drilled.{drilled}
 use Rattle.ats_run.proofs.Inputs.{resumed_input}
-use Rattle.ats_run.proofs.Offered.{offer_count}
 use Rattle.ats_run.proofs.Resumed.{resumed_front}
-use Rattle.ats_run.proofs.Runs.{legal_start, runs}
+use Rattle.ats_run.proofs.Runs.{runs}
 
 begun_keeps : (D : Doc) (from : Plain) → IsDoc D → from ≡ plain_after D [] → Keeps (offers_of D) from.yard from.lines
 begun_keeps D from doc is = subst (λ (s : Plain). Keeps (offers_of D) s.yard s.lines) (sym is)

@@ -18,11 +18,11 @@ use Rattle.layout_json.specs.Reading.{doc_of}
 use Rattle.layout_json.specs.Replaced.{replaced, IsLight, IsRemarked, new_table}
 use Rattle.layout_json.specs.Written.{written}
 use Rattle.layout_json.proofs.Remade.{remarked-is-taken}
+use Rattle.layout_json.proofs.Offered.{offer_count}
 use Rattle.ats_run.specs.Deriving.{derived_table, derived, HasFewRings, HaveFewRings, IsDerived}
 use Rattle.ats_run.specs.Making.{table_in, HaveMade}
 use Rattle.ats_run.proofs.AcceptedText.{derived_text}
 use Rattle.ats_run.proofs.LightMarked.{light}
-use Rattle.ats_run.proofs.Offered.{offer_count}
 
 -- a connection looks at no section
 connected_as : (T : Table) (S : List Section) (k : Connection) → IsConnection T k → IsConnection (record { missions = T.missions; sections = S; connections = [] }) k

@@ -16,7 +16,6 @@ mod LightMarked
 mod LineFaults
 pub mod Made
 mod MakeRows
-mod Offered
 mod OneTable
 pub mod Reading
 mod Repairable

@@ -13,9 +13,9 @@ use Rattle.rail_model.proofs.Moves.{remaining_move, none_remain}
 use Rattle.plain_yard.specs.Keeps.{Keeps}
 use Rattle.plain_yard.proofs.Keeping.{keeps_moves}
 use Rattle.layout_json.specs.Doc.{Doc, table_at, offers_of}
+use Rattle.layout_json.proofs.Offered.{offer_count, table_offered}
 use Rattle.shared_run.specs.declared.crews.Crew.{Crew}
 use Rattle.ats_run.specs.Headline.{Ends, plain_after}
-use Rattle.ats_run.proofs.Offered.{offer_count, table_offered}
 
 -- Behind the lines the table is the same, and as many moves more were made as fewer remain.
 record IsBehind (T : Table) (y z : Yard) : Type 0 where

@@ -21,6 +21,7 @@ use Rattle.layout_json.specs.Keeps.{IsTaken}
 use Rattle.layout_json.specs.Replaced.{replaced, IsLight, IsRemarked}
 use Rattle.layout_json.specs.Written.{written}
 use Rattle.layout_json.proofs.Remade.{remarked-is-taken}
+use Rattle.layout_json.proofs.Offered.{offer_count}
 use Rattle.ats_run.specs.Making.{part_in}
 use Rattle.ats_run.specs.Repairing.{IsRepairedAs, EndsRepair, AreRepaired, IsUnconnected, IsRepaired, IsRefusedStart, IsUnrepaired}
 use Rattle.ats_run.specs.Command.{IsUnrepairedInput}
@@ -29,7 +30,6 @@ use Rattle.ats_run.specs.declared.failure.Failure.{Failure}
 use Rattle.ats_run.specs.declared.failure.Failure.TheVariants.{Memory}
 use Rattle.ats_run.proofs.AcceptedText.{repaired_text}
 use Rattle.ats_run.proofs.LightMarked.{light}
-use Rattle.ats_run.proofs.Offered.{offer_count}
 
 -- ---- how a repair ends
 

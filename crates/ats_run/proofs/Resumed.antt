@@ -17,13 +17,14 @@ use Rattle.move_journal.specs.Replays.{Replays}
 use Rattle.move_journal.proofs.Fronts.{text_goes_on}
 use Rattle.shared_run.specs.declared.crews.Crew.{Crew}
 use Rattle.layout_json.specs.Doc.{Doc, IsDoc, offers_of, names_of}
+use Rattle.layout_json.proofs.Offered.{legal_start}
 use Rattle.ats_run.specs.declared.failure.Failure.{Failure}
 use Rattle.ats_run.specs.declared.failure.Failure.TheVariants.{Memory as NoMemory}
 use Rattle.ats_run.specs.Ending.{failure_of_line}
 use Rattle.ats_run.specs.Certificates.{AreAccepted}
 use Rattle.ats_run.specs.Headline.{IsRun, Ends}
 use Rattle.ats_run.specs.Journals.{IsFrontFault, IsResumed}
-use Rattle.ats_run.proofs.Runs.{goes_on_well, legal_start}
+use Rattle.ats_run.proofs.Runs.{goes_on_well}
 
 -- the text of a whole journal is that of a run
 run_of_whole : (D : Doc) (trees : List Tree) (J : Journal) (written : List ℕ) → IsDoc D → AreAccepted D trees → IsWhole (offers_of D) (opening D.start) J

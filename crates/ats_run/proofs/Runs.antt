@@ -4,10 +4,9 @@ use Rattle.std.specs.List.{All}
 use Rattle.std.proofs.lemmas.List.{length-map}
 use Rattle.rail_model.specs.declared.types.Line.{Line}
 use Rattle.rail_model.specs.Table.{Table, trains, point, IsTable}
-use Rattle.rail_model.specs.State.{Legal}
 use Rattle.rail_model.specs.Move.{Live}
 use Rattle.rail_model.specs.Certificate.{Tree}
-use Rattle.rail_model.specs.Yard.{Offer, Yard, opening, offer, in_force}
+use Rattle.rail_model.specs.Yard.{Offer, Yard, opening, in_force}
 use Rattle.rail_model.specs.Plain.{Plain}
 use Rattle.rail_model.specs.Journal.{IsRight, after_line, after_lines, text, with_counts}
 use Rattle.rail_model.proofs.Live.{completes}
@@ -19,9 +18,9 @@ use Rattle.move_journal.specs.Printable.{IsNamed, AreEnough}
 use Rattle.move_journal.proofs.Named.{named_right}
 use Rattle.shared_run.specs.declared.crews.Crew.{Crew}
 use Rattle.layout_json.specs.Doc.{Doc, IsDoc, table_at, offers_of, names_of}
+use Rattle.layout_json.proofs.Offered.{offer_count, table_offered, legal_start}
 use Rattle.ats_run.specs.Certificates.{AreAccepted}
 use Rattle.ats_run.specs.Headline.{GoesOnWell, IsRun, IsRunBy, Ends, plain_after}
-use Rattle.ats_run.proofs.Offered.{offer_count, table_offered}
 
 right_front : (tables : List Offer) (y : Yard) (front later : List Line) → IsRight tables y (front ++ later) → IsRight tables y front
 right_front tables y [] later right = tt
@@ -30,11 +29,6 @@ right_front tables y (l ∷ front) later right = (right.0, right_front tables (a
 -- a table in force is one of the document's
 in_document : (D : Doc) (y : Yard) → Stands (offers_of D) y → y.table < length D.tables
 in_document D y stands = subst (λ n. y.table < n) (offer_count D) stands.in_range
-
-pub legal_start : (D : Doc) → IsDoc D → Legal (offer (offers_of D) 0).table D.start
-legal_start D doc =
-    let some : 0 < length D.tables = subst (λ n. 0 < n) (offer_count D) doc.tables.some in
-    subst (λ (T : Table). Legal T D.start) (sym (table_offered D 0 some)) doc.start
 
 live_in_force : (D : Doc) (trees : List Tree) (y : Yard) → AreAccepted D trees → Stands (offers_of D) y → Live (in_force (offers_of D) y)
 live_in_force D trees y accepted stands =

@@ -15,10 +15,10 @@ use Rattle.train_sim.specs.Report.{HaveTimes, Simulates, IsSoon}
 use Rattle.train_sim.specs.Timed.{starting, lines_of, timed_lines}
 use Rattle.train_sim.proofs.Righting.{timed_right}
 use Rattle.layout_json.specs.Doc.{Doc, IsDoc, offers_of, names_of, times_of, doc_table, table_at}
+use Rattle.layout_json.proofs.Offered.{offer_count, table_offered, legal_start}
 use Rattle.ats_run.specs.Certificates.{AreAccepted}
 use Rattle.ats_run.specs.Simulating.{IsSimulated, timed_text, last_text}
-use Rattle.ats_run.proofs.Offered.{offer_count, table_offered}
-use Rattle.ats_run.proofs.Runs.{goes_on_well, legal_start}
+use Rattle.ats_run.proofs.Runs.{goes_on_well}
 
 times_at : (D : Doc) (t : ℕ) → t < length D.tables → slice_index_or (times_of D) t [] ≡ (doc_table D t).times
 times_at D t lt = get_or-map (λ t. t.times) D.tables t _ _ lt

@@ -1,15 +1,14 @@
 -- Runs that begin with drawn turns.
-use Rattle.std.proofs.Common.{◌≡◌, ℕ, suc, ◌+◌, ◌-◌, ◌<◌, ◌≤◌, List, [], ◌∷◌, length, get_or, map, Some, None, Result, Ok, Err, refl, sym, ◌∙◌, ap, ap₂, subst, arith}
+use Rattle.std.proofs.Common.{◌≡◌, ℕ, suc, ◌+◌, ◌-◌, ◌<◌, ◌≤◌, List, [], ◌∷◌, length, get_or, Some, None, Result, Ok, Err, sym, ◌∙◌, ap, ap₂, subst, arith}
 use Rattle.std.specs.Prelude.{Option}
 use Rattle.rail_model.specs.declared.types.Line.{Line}
-use Rattle.rail_model.specs.Table.{Table, trains, point}
+use Rattle.rail_model.specs.Table.{trains}
 use Rattle.rail_model.specs.Certificate.{Tree}
 use Rattle.rail_model.specs.Plain.{Plain}
 use Rattle.rail_model.specs.Layout.{Layout}
 use Rattle.rail_model.specs.Yard.{Offer, Yard, opening, offer, after, IsHistory}
 use Rattle.rail_model.specs.Lines.{journal_of as lines_of}
 use Rattle.rail_model.specs.Journal.{IsDone, text, with_counts}
-use Rattle.rail_model.specs.Ways.{IsOn}
 use Rattle.rail_model.proofs.Histories.{journal_right, journal_leads}
 use Rattle.plain_yard.specs.Keeps.{Keeps}
 use Rattle.plain_yard.specs.Rounds.{Finishes}
@@ -24,18 +23,11 @@ use Rattle.zone_machine.specs.Weave.{first_world, plain_of}
 use Rattle.zone_machine.specs.Calls.{Steps}
 use Rattle.document_generator.specs.Draws.{next_draw, drawn_of}
 use Rattle.layout_json.specs.Doc.{Doc, IsDoc, offers_of, names_of}
+use Rattle.layout_json.proofs.Offered.{legal_start}
 use Rattle.ats_run.specs.Certificates.{AreAccepted}
 use Rattle.ats_run.specs.Headline.{IsRun}
 use Rattle.ats_run.specs.Weaving.{IsWoven, core_of, woven, after_turn, drawn_actor, drawn_world}
-use Rattle.ats_run.proofs.Offered.{offer_count, table_offered}
-use Rattle.ats_run.proofs.Runs.{legal_start, goes_on_well}
-
--- the points of a document's tables are its layout's
-pub on_layout : (D : Doc) → IsDoc D → (t : ℕ) → t < length (offers_of D) → IsOn D.layout (offer (offers_of D) t).table
-on_layout D doc t lt i k q at =
-    let within = subst (λ n. t < n) (offer_count D) lt in
-    let there = subst (λ (T : Table). point T i k ≡ Some q) (table_offered D t within) at in
-    doc.points t within i k q there
+use Rattle.ats_run.proofs.Runs.{goes_on_well}
 
 -- what a step leaves, whether it is made or refused
 made : (r : Result (Seen × World) NotAllowed) (told : Result Seen NotAllowed) (w v : World) → Steps r w told v → v ≡ elim r [ Ok after ↦ after.1 | Err e ↦ w ]
@@ -76,10 +68,6 @@ all_turned S count turns k x w all le so_far =
 pub same_setup : (L M : Layout) (ts us : List Offer) (p q : List ℕ) (m n : ℕ) → L ≡ M → ts ≡ us → p ≡ q → m ≡ n
     → ◌≡◌ {A = Setup} (record { layout = L; tables = ts; opening = opening p; most = m }) (record { layout = M; tables = us; opening = opening q; most = n })
 same_setup L M ts us p q m n l t o k = λ i. record { layout = l i; tables = t i; opening = opening (o i); most = k i }
-
-pub map_self : (os : List Offer) → map (λ (o : Offer). o) os ≡ os
-map_self [] = refl
-map_self (o ∷ os) = ap (λ (l : List Offer). o ∷ l) (map_self os)
 
 -- the first of some tables
 pub first_offer : (os : List Offer) (o : Offer) → 0 < length os → o ≡ get_or os 0 o → o ≡ offer os 0

@@ -67,11 +67,6 @@ abbrev pub IsUnread : Option (List ℕ) → Type 0 → Failure → Type 0
 IsUnread held source_failed e =
     (e ≡ Memory) ⊎ ((e ≡ ReadFault) × source_failed) ⊎ ((e ≡ TooLong) × IfSome held (λ input. most_bytes < length input))
 
--- Why nothing, or a part alone, was written of what an order comes to on an input.
-abbrev pub IsUnwritten : Order → List ℕ → Type 0 → Failure → Type 0
-IsUnwritten order input sink_failed e =
-    (e ≡ Memory) ⊎ ((e ≡ WriteFault) × sink_failed) ⊎ Comes order input (Err e)
-
 -- A refusal with this status has its cause, and its line was told: whole, unless the error sink failed.
 pub record Tells (call : Call) (status : Status) (err_failed : Type 0) (old new : Option (List ℕ)) : Type 0 where
   pub failure : Failure

@@ -13,11 +13,11 @@ ghost use Rattle.ats_run.specs.Command.{Comes, IsDocWith, IsRunInput, IsAnyDrill
 ghost use Rattle.ats_run.specs.Complete.{IsAcceptedInput, IsGoodInput, IsDoneOrMemory};
 ghost use Rattle.rail_model.specs.Yard.{opening};
 ghost use Rattle.ats_run.specs.Headline.{IsRun, IsRoundRobin};
-ghost use Rattle.ats_run.specs.Causes.{call_of, IsReadWhole, IsServed, IsCause, IsUnread, IsUnwritten, Tells, most_bytes};
+ghost use Rattle.ats_run.specs.Causes.{call_of, IsReadWhole, IsServed, IsCause, IsUnread, Tells, most_bytes};
 ghost use Rattle.ats_run.specs.Ending.{status_of};
 ghost use Rattle.ats_run.specs.Report.{line_of as line_of_failure, IsLineMade};
 
-use crate::answer::{answer_alone, answer_by, crew_of};
+use crate::answer::{answer, answer_alone};
 use crate::lines::{NO_MEMORY, fixed_line, line_of};
 use crate::{Failure, Status};
 use ats_io::{Gate, ReadAll, Sink, Source, WriteFault, read_all, write_all};
@@ -47,64 +47,44 @@ fn read_input<S: Source>(alloc: Global, source: &mut S) -> Result<Vec<u8>, Failu
     }
 }
 
-// What an order without workers comes to on an input, written to the sink.
-fn write_answer<K: Sink>(
-    rt: &(impl Threads + Sync),
-    alloc: Global,
-    order: Order,
-    input: &[u8],
-    out: &mut K,
-) -> Result<(), Failure>
-    requires numbers { HasItsNumbers order }
-    requires alone { IsAlone order }
-    ensures done { OnOk result ((written : List ℕ) × Comes order input.now (Ok written) × Adds (K.taken out.old) (K.taken out.new) written) }
-
-    ensures failed { IfErr result (IsUnwritten order input.now (Rose (K.faults out.old) (K.faults out.new))) }
-    ensures nothing { IfErr result (λ e. e ≢ Failure.WriteFault → Adds (K.taken out.old) (K.taken out.new) []) }
-    ensures prefix { result ≡ Err Failure.WriteFault → (written : List ℕ) × Comes order input.now (Ok written) × AddsPrefix (K.taken out.old) (K.taken out.new) written }
-
-    ensures same_plan { K.planned out.new ≡ K.planned out.old }
-{
-    let text = answer_alone(rt, alloc, order, input)?;
-    match write_all(out, &text) {
-        Ok(()) => Ok(()),
-        Err(WriteFault) => Err(Failure::WriteFault),
-    }
-}
-
-// What such an order comes to on what the source holds, written to the sink.
-fn serve_input<S: Source, K: Sink>(
-    rt: &(impl Threads + Sync),
-    alloc: Global,
-    order: Order,
-    source: &mut S,
-    out: &mut K,
-) -> Result<(), Failure>
-    requires reads { Reads order }
-    requires numbers { HasItsNumbers order }
-    requires alone { IsAlone order }
-    ensures read { OnOk result (IsReadWhole order (S.left source.old) (IsAtEnd (S.left source.new))) }
-    ensures done { OnOk result (OnInput order (S.left source.old)
-        (λ input. (written : List ℕ) × Comes order input (Ok written) × Adds (K.taken out.old) (K.taken out.new) written)) }
-
-    ensures cause { IfErr result (IsCause (call_of (Some order) (S.left source.old) (S.left source.new)
-        (Rose (S.faults source.old) (S.faults source.new)) (Rose (K.faults out.old) (K.faults out.new)))) }
-    ensures nothing { IfErr result (λ e. e ≢ Failure.WriteFault → Adds (K.taken out.old) (K.taken out.new) []) }
-    ensures prefix { result ≡ Err Failure.WriteFault → IsReadWhole order (S.left source.old) (IsAtEnd (S.left source.new)) × OnInput order (S.left source.old)
-        (λ input. (written : List ℕ) × Comes order input (Ok written) × AddsPrefix (K.taken out.old) (K.taken out.new) written) }
-
-    ensures at_most { ConsumesAtMost (most_bytes + 1) (S.left source.old) (S.left source.new) }
-    ensures same_plans { (S.planned source.new ≡ S.planned source.old) × (K.planned out.new ≡ K.planned out.old) }
-{
-    let bytes = read_input(alloc, source)?;
-    write_answer(rt, alloc, order, &bytes, out)
-}
-
 // Whether the order reads its input.
 fn is_reading(order: Order) -> bool
     ensures { IsTrue result ↔ Reads order }
 {
     !matches!(order, Order::Generate { .. } | Order::Drill { .. })
+}
+
+// The input of an order: all that the source has left, or nothing where the order reads none.
+fn input_of<S: Source>(alloc: Global, order: Order, source: &mut S) -> Result<Vec<u8>, Failure>
+    ensures whole { OnOk result (IsReadWhole order (S.left source.old) (IsAtEnd (S.left source.new))) }
+    ensures input { IfOk result (λ input. OnInput order (S.left source.old) (λ all. input.items ≡ all)) }
+
+    ensures unread { IfErr result (λ e. Reads order × IsUnread (S.left source.old) (Rose (S.faults source.old) (S.faults source.new)) e) }
+
+    ensures untouched { (Reads order → ⊥) → source.new ≡ source.old }
+    ensures at_most { ConsumesAtMost (most_bytes + 1) (S.left source.old) (S.left source.new) }
+    ensures same_plan { S.planned source.new ≡ S.planned source.old }
+{
+    if is_reading(order) {
+        read_input(alloc, source)
+    } else {
+        Ok(Vec::new(alloc))
+    }
+}
+
+// Writes a text to the sink.
+fn write_text<K: Sink>(text: &[u8], out: &mut K) -> Result<(), Failure>
+    ensures done { OnOk result (Adds (K.taken out.old) (K.taken out.new) text.now) }
+
+    ensures failed { IfErr result (λ e. (e ≡ Failure.WriteFault) × Rose (K.faults out.old) (K.faults out.new)) }
+    ensures prefix { AddsPrefix (K.taken out.old) (K.taken out.new) text.now }
+
+    ensures same_plan { K.planned out.new ≡ K.planned out.old }
+{
+    match write_all(out, text) {
+        Ok(()) => Ok(()),
+        Err(WriteFault) => Err(Failure::WriteFault),
+    }
 }
 
 /// Does what an order asks for: it reads the source to its end, where the order reads, and writes what the order comes to. It waits for
@@ -134,99 +114,12 @@ pub fn serve_alone<S: Source, K: Sink>(
     ensures at_most { ConsumesAtMost (most_bytes + 1) (S.left source.old) (S.left source.new) }
     ensures same_plans { (S.planned source.new ≡ S.planned source.old) × (K.planned out.new ≡ K.planned out.old) }
 {
-    if is_reading(order) {
-        serve_input(rt, alloc, order, source, out)
-    } else {
-        write_answer(rt, alloc, order, &[], out)
-    }
+    let input = input_of(alloc, order, source)?;
+    let text = answer_alone(rt, alloc, order, &input)?;
+    write_text(&text, out)
 }
 
-// What an order with workers comes to on an input, written to the sink.
-fn write_answer_by<K: Sink, R: Threads + Wait + Sync, G: Gate>(
-    rt: &R,
-    alloc: Global,
-    order: Order,
-    input: &[u8],
-    out: &mut K,
-    gate: &G,
-) -> Result<(), Failure>
-    requires numbers { HasItsNumbers order }
-    requires workers { 1 ≤ (crew_in order).workers }
-    ensures done { OnOk result ((written : List ℕ) × Comes order input.now (Ok written) × Adds (K.taken out.old) (K.taken out.new) written) }
-
-    ensures failed { IfErr result (IsUnwritten order input.now (Rose (K.faults out.old) (K.faults out.new))) }
-    ensures nothing { IfErr result (λ e. e ≢ Failure.WriteFault → Adds (K.taken out.old) (K.taken out.new) []) }
-    ensures prefix { result ≡ Err Failure.WriteFault → (written : List ℕ) × Comes order input.now (Ok written) × AddsPrefix (K.taken out.old) (K.taken out.new) written }
-
-    ensures same_plan { K.planned out.new ≡ K.planned out.old }
-{
-    let text = answer_by(rt, alloc, order, input, gate)?;
-    match write_all(out, &text) {
-        Ok(()) => Ok(()),
-        Err(WriteFault) => Err(Failure::WriteFault),
-    }
-}
-
-// What such an order comes to on what the source holds, written to the sink.
-fn serve_input_by<S: Source, K: Sink, R: Threads + Wait + Sync, G: Gate>(
-    rt: &R,
-    alloc: Global,
-    order: Order,
-    source: &mut S,
-    out: &mut K,
-    gate: &G,
-) -> Result<(), Failure>
-    requires reads { Reads order }
-    requires numbers { HasItsNumbers order }
-    requires workers { 1 ≤ (crew_in order).workers }
-    ensures read { OnOk result (IsReadWhole order (S.left source.old) (IsAtEnd (S.left source.new))) }
-    ensures done { OnOk result (OnInput order (S.left source.old)
-        (λ input. (written : List ℕ) × Comes order input (Ok written) × Adds (K.taken out.old) (K.taken out.new) written)) }
-
-    ensures cause { IfErr result (IsCause (call_of (Some order) (S.left source.old) (S.left source.new)
-        (Rose (S.faults source.old) (S.faults source.new)) (Rose (K.faults out.old) (K.faults out.new)))) }
-    ensures nothing { IfErr result (λ e. e ≢ Failure.WriteFault → Adds (K.taken out.old) (K.taken out.new) []) }
-    ensures prefix { result ≡ Err Failure.WriteFault → IsReadWhole order (S.left source.old) (IsAtEnd (S.left source.new)) × OnInput order (S.left source.old)
-        (λ input. (written : List ℕ) × Comes order input (Ok written) × AddsPrefix (K.taken out.old) (K.taken out.new) written) }
-
-    ensures at_most { ConsumesAtMost (most_bytes + 1) (S.left source.old) (S.left source.new) }
-    ensures same_plans { (S.planned source.new ≡ S.planned source.old) × (K.planned out.new ≡ K.planned out.old) }
-{
-    let bytes = read_input(alloc, source)?;
-    write_answer_by(rt, alloc, order, &bytes, out, gate)
-}
-
-// What an order with workers asks for is done, as `serve_alone` does it. It may wait.
-fn serve_by<S: Source, K: Sink, R: Threads + Wait + Sync, G: Gate>(
-    rt: &R,
-    alloc: Global,
-    order: Order,
-    source: &mut S,
-    out: &mut K,
-    gate: &G,
-) -> Result<(), Failure>
-    requires numbers { HasItsNumbers order }
-    requires workers { 1 ≤ (crew_in order).workers }
-    ensures done { OnOk result (IsServed (Some order) (S.left source.old) (S.left source.new) (Adds (K.taken out.old) (K.taken out.new))) }
-
-    ensures cause { IfErr result (IsCause (call_of (Some order) (S.left source.old) (S.left source.new)
-        (Rose (S.faults source.old) (S.faults source.new)) (Rose (K.faults out.old) (K.faults out.new)))) }
-    ensures nothing { IfErr result (λ e. e ≢ Failure.WriteFault → Adds (K.taken out.old) (K.taken out.new) []) }
-    ensures prefix { result ≡ Err Failure.WriteFault
-        → IsServed (Some order) (S.left source.old) (S.left source.new) (AddsPrefix (K.taken out.old) (K.taken out.new)) }
-
-    ensures untouched { (Reads order → ⊥) → source.new ≡ source.old }
-    ensures at_most { ConsumesAtMost (most_bytes + 1) (S.left source.old) (S.left source.new) }
-    ensures same_plans { (S.planned source.new ≡ S.planned source.old) × (K.planned out.new ≡ K.planned out.old) }
-{
-    if is_reading(order) {
-        serve_input_by(rt, alloc, order, source, out, gate)
-    } else {
-        write_answer_by(rt, alloc, order, &[], out, gate)
-    }
-}
-
-// Does what any order asks for. It may wait where workers run the order's trains.
+// Does what any order asks for, as `serve_alone` does it. It may wait where workers run the order's trains.
 fn serve_any<S: Source, K: Sink, R: Threads + Wait + Sync, G: Gate>(
     rt: &R,
     alloc: Global,
@@ -248,12 +141,9 @@ fn serve_any<S: Source, K: Sink, R: Threads + Wait + Sync, G: Gate>(
     ensures at_most { ConsumesAtMost (most_bytes + 1) (S.left source.old) (S.left source.new) }
     ensures same_plans { (S.planned source.new ≡ S.planned source.old) × (K.planned out.new ≡ K.planned out.old) }
 {
-    let crew = crew_of(order);
-    if crew.workers == 0 {
-        serve_alone(rt, alloc, order, source, out)
-    } else {
-        serve_by(rt, alloc, order, source, out, gate)
-    }
+    let input = input_of(alloc, order, source)?;
+    let text = answer(rt, alloc, order, &input, gate)?;
+    write_text(&text, out)
 }
 
 // What the words of a command line ask for, on what the source holds, written to the sink.

@@ -7,6 +7,7 @@ ghost use Rattle.dispatch_workers.specs.Rounds.{GoesRound, IsEnd, IsLastTurn, Al
 use ats_io::Gate;
 use rail_model::Ask;
 use std::sync::Wait;
+use std::thread;
 use zone_yard::{BlockReply, Control, Driver, Reply, Turn, Yard};
 
 /// What a driver was told in one round: one request's answer, a block's answer, or that the block can't be made whole and then the answer
@@ -61,7 +62,21 @@ fn go_round<R: Wait, G: Gate>(
     }
 }
 
-// One round of each driver, in order. True where none of them has more to ask for.
+// Whether a driver was granted steps.
+fn is_granted(round: Round) -> bool {
+    matches!(
+        round,
+        Round::One(Reply::Granted { .. })
+            | Round::Block(BlockReply::Granted { .. })
+            | Round::Halved {
+                reply: Reply::Granted { .. },
+                ..
+            }
+    )
+}
+
+// One round of each driver, in order. True where none of them has more to ask for. Where nobody was granted a step, other threads go first:
+// one of them has the train that these wait for.
 fn go_all<R: Wait, G: Gate>(
     rt: &R,
     yard: &Yard<'_>,
@@ -75,10 +90,18 @@ fn go_all<R: Wait, G: Gate>(
     ensures asked { (k : ℕ) (d : Pass) → k < length drivers.old → Asked block result (slice_index_or drivers.old k d) (slice_index_or drivers.new k d) }
 {
     let mut all = true;
+    let mut waits = true;
     for driver in drivers.iter_mut() {
-        if !is_end(go_round(rt, yard, driver, block, gate)) {
+        let round = go_round(rt, yard, driver, block, gate);
+        if !is_end(round) {
             all = false;
         }
+        if is_granted(round) {
+            waits = false;
+        }
+    }
+    if waits {
+        thread::yield_now();
     }
     all
 }

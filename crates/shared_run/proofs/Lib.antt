@@ -1,4 +1,5 @@
 pub mod Added
+mod Ashore
 mod Boards
 mod Done
 mod Grouped

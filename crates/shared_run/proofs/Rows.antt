@@ -13,7 +13,7 @@ use Rattle.dispatch_workers.specs.declared.groups.Group.TheVariants.{Control}
 use Rattle.dispatch_workers.specs.Rounds.{DriverWorked, Worked}
 use Rattle.shared_run.specs.Crews.{crew_of, IsCrew, trains_of, dealt}
 use Rattle.shared_run.specs.Shared.{fresh_pass, fresh_passes, IsRecorded, IsWorked, IsShared, IsAddedBy}
-use Rattle.shared_run.specs.Boarding.{onto, AreOnce, passes_in, IsFresh, HaveBoarded, IsControl}
+use Rattle.shared_run.specs.Boarding.{onto, AreOnce, passes_in, IsFresh, HaveBoarded, AreAshore, IsControl}
 use Rattle.shared_run.specs.Leaving.{entries_with, HaveLeft, IsDone}
 
 -- five trains dealt to two workers, and two to three
@@ -38,6 +38,10 @@ once = (((λ h. cc h), ((λ h. cc h), tt)), λ more. more.0 refl)
 -- the first train has boarded
 has_boarded : HaveBoarded (fresh_root one_zone) (boarded one_zone 0 ∷ []) (with_pass (fresh_root one_zone) 0)
 has_boarded = record { now = refl; once = λ o. ((λ h. cc h), o); each = All-cons (IsFresh one_zone) (boarded one_zone 0) [] (refl, lit< tt, refl) (All-nil (IsFresh one_zone)) }
+
+-- before that nobody had, and now one train of worker 0 has
+ashore : AreAshore 2 0 (fresh_root one_zone) × (AreAshore 2 0 (with_pass (fresh_root one_zone) 0) → ⊥)
+ashore = (((λ p at h. cc h), λ h. cc h), λ still. still.0 0 (lit≤ tt) refl)
 
 -- it has left with its entry
 has_left : HaveLeft (with_pass (fresh_root one_zone) 0) (granted_after one_zone 0 [] ∷ [])

@@ -1,10 +1,10 @@
 -- Groups of passes that board a yard.
-use Rattle.std.specs.Prelude.{◌≡◌, ℕ, ◌+◌, ◌<◌, List, [], ◌∷◌, map, length, slice_index_or, true, All}
+use Rattle.std.specs.Prelude.{◌≡◌, ℕ, ◌+◌, ◌%◌, ◌<◌, ◌≤◌, List, [], ◌∷◌, map, length, slice_index_or, true, All}
 use Rattle.std.specs.List.{flat_map}
 use Rattle.rail_model.specs.Yard.{control as control_number}
 use Rattle.zone_locks.specs.Zones.{has}
 use Rattle.zone_yard.specs.Setup.{SharedYard, most_passes}
-use Rattle.zone_yard.specs.Passes.{Pass, Root}
+use Rattle.zone_yard.specs.Passes.{Pass, Root, HasBoarded}
 use Rattle.dispatch_workers.specs.declared.groups.Group.{Group}
 use Rattle.dispatch_workers.specs.declared.groups.Group.TheVariants.{Drivers, Control}
 use Rattle.shared_run.specs.Shared.{fresh_pass, fresh_passes}
@@ -40,6 +40,11 @@ pub record HaveBoarded (old : Root) (passes : List Pass) (new : Root) : Type 0 w
   pub now : new ≡ record old { boarded = onto (numbers passes) old.boarded; out = old.out + length passes }
   pub once : AreOnce old.boarded → AreOnce new.boarded
   pub each : All (IsFresh old.yard) passes
+
+-- No train of this worker and of those after it has boarded, nor has the control.
+abbrev pub AreAshore : ℕ → ℕ → Root → Type 0
+AreAshore workers group root =
+    ((p : ℕ) → group ≤ p % workers → HasBoarded root p → ⊥) × (HasBoarded root control_number → ⊥)
 
 -- The group has these drivers.
 abbrev pub HasDrivers : List Pass → Group → Type 0

@@ -3,12 +3,12 @@ ghost use Rattle.std.specs.Prelude.{◌≡◌, ◌+◌, ◌≤◌, ◌<◌, [], 
 ghost use Rattle.std.specs.Vec.{vec_capacity};
 ghost use Rattle.zone_yard.specs.Boarding.{fresh_root, boarded_pass};
 ghost use Rattle.dispatch_workers.specs.Groups.{IsOurGroup};
-ghost use Rattle.shared_run.specs.Boarding.{HaveBoarded, AreDealt, passes_in};
+ghost use Rattle.shared_run.specs.Boarding.{HaveBoarded, AreAshore, AreDealt, passes_in};
 ghost use Rattle.shared_run.specs.Crews.{trains_of, dealt};
 
 use dispatch_workers::Group;
 use std::alloc::{AllocError, Global};
-use zone_yard::{Driver, Root, Yard};
+use zone_yard::{Board, Driver, Root, Yard};
 
 const MOST_TRAINS: usize = 32;
 
@@ -26,17 +26,20 @@ fn board_group(
     requires trains { trains ≡ trains_of root.old.yard.setup }
     requires few { trains ≤ 32 }
     requires workers { 1 ≤ workers }
+    requires ashore { AreAshore workers group root.old }
     requires empty { drivers.old.items ≡ [] }
     requires room { trains ≤ vec_capacity drivers.old }
     ensures boarded { HaveBoarded root.old drivers.new.items root.new }
+    ensures ashore { OnOk result (AreAshore workers (group + 1) root.new) }
     ensures dealt { OnOk result (drivers.new.items ≡ map (boarded_pass root.old) (dealt trains workers group)) }
 {
     for train in 0..trains {
         if train % workers == group {
-            let Ok(driver) = yard.board(alloc, root, train) else {
-                return Err(AllocError);
-            };
-            drivers.push_reserved(driver);
+            match yard.board(alloc, root, train) {
+                Ok(driver) => drivers.push_reserved(driver),
+                Err(Board::Memory) => return Err(AllocError),
+                Err(Board::Taken) => unreachable!(),
+            }
         }
     }
     Ok(())
@@ -67,8 +70,10 @@ pub(crate) fn board_all(
         groups.push_reserved(Group::Drivers(drivers));
         boarded?;
     }
-    let Ok(control) = yard.board_control(alloc, root) else {
-        return Err(AllocError);
+    let control = match yard.board_control(alloc, root) {
+        Ok(control) => control,
+        Err(Board::Memory) => return Err(AllocError),
+        Err(Board::Taken) => unreachable!(),
     };
     groups.push_reserved(Group::Control(control));
     Ok(())

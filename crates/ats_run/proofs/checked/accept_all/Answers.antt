@@ -1,5 +1,5 @@
 use Rattle.std.proofs.Common.{◌<◌, length, arith}
-use Rattle.ats_run.proofs.Offered.{offers_more, accepts_more}
+use Rattle.layout_json.proofs.Offered.{offers_more, accepts_more}
 use Rattle.ats_run.proofs.checked.accept_all.Goals as goal
 
 pub loop-table-preserved : goal.loop-table-preserved

@@ -1,24 +1,19 @@
-use Rattle.std.proofs.Common.{◌≡◌, ◌<◌, List, length, Some, sym, ap, ◌∙◌, subst}
+use Rattle.std.proofs.Common.{◌<◌, List, length, sym, ap, ◌∙◌, subst}
+use Rattle.std.proofs.lemmas.List.{map-id}
 use Rattle.std.proofs.lemmas.Result.{IfOk-weaker}
-use Rattle.rail_model.specs.Layout.{Layout}
-use Rattle.rail_model.specs.Table.{trains, point}
+use Rattle.rail_model.specs.Table.{trains}
 use Rattle.rail_model.specs.Yard.{Offer, offer}
-use Rattle.layout_json.specs.Doc.{offers_of}
-use Rattle.ats_run.proofs.Woven.{on_layout, map_self, same_setup, first_offer, plain_is, legal_is}
+use Rattle.layout_json.proofs.Offered.{given_on_layout}
+use Rattle.ats_run.proofs.Woven.{same_setup, first_offer, plain_is, legal_is}
 use Rattle.ats_run.proofs.weaving.state_after.Goals as goal
 
 pub new-requires-clause-points : goal.new-requires-clause-points
-new-requires-clause-points c = λ t lt i k q at.
-    let D = c.args.doc.now in
-    let tables = map_self c.args.tables.now ∙ c.requires.tables in
-    let within : t < length (offers_of D) = subst (λ (os : List Offer). t < length os) c.requires.tables lt in
-    let there = subst (λ (os : List Offer). point (offer os t).table i k ≡ Some q) tables at in
-    subst (λ (L : Layout). q < length L.points) (sym c.layout_of.ensures.layout) (on_layout D c.layout_of.ensures.formed t within i k q there)
+new-requires-clause-points c = given_on_layout c.args.doc.now c.layout_of.result.now c.args.tables.now c.layout_of.ensures.formed c.layout_of.ensures.layout c.requires.tables
 
 pub returns-clause-plain : goal.returns-clause-plain
 returns-clause-plain c =
     let D = c.args.doc.now in
-    let tables = map_self c.args.tables.now ∙ c.requires.tables in
+    let tables = map-id c.args.tables.now ∙ c.requires.tables in
     let core_is = c.in_ok-core.ensures.setup ∙ same_setup _ _ _ _ _ _ _ _ c.layout_of.ensures.layout tables c.start_of.ensures.start c.from.ensures in
     let some : 0 < length c.args.tables.now = subst (λ (os : List Offer). 0 < length os) (sym c.requires.tables) c.layout_of.ensures.formed.tables.some in
     let first = first_offer c.args.tables.now c.index-tables-0.result some c.index-tables-0.is ∙ ap (λ (os : List Offer). offer os 0) c.requires.tables in
@@ -31,7 +26,7 @@ returns-clause-plain c =
 pub returns-clause-legal : goal.returns-clause-legal
 returns-clause-legal c =
     let D = c.args.doc.now in
-    let tables = map_self c.args.tables.now ∙ c.requires.tables in
+    let tables = map-id c.args.tables.now ∙ c.requires.tables in
     let core_is = c.in_ok-core.ensures.setup ∙ same_setup _ _ _ _ _ _ _ _ c.layout_of.ensures.layout tables c.start_of.ensures.start c.from.ensures in
     let some : 0 < length c.args.tables.now = subst (λ (os : List Offer). 0 < length os) (sym c.requires.tables) c.layout_of.ensures.formed.tables.some in
     let first = first_offer c.args.tables.now c.index-tables-0.result some c.index-tables-0.is ∙ ap (λ (os : List Offer). offer os 0) c.requires.tables in

@@ -1,4 +1,5 @@
 use Rattle.std.proofs.Common.{◌+◌, ◌∷◌, inl, inr, refl, arith}
+use Rattle.dispatch_workers.specs.Rounds.{DriverWorked}
 use Rattle.dispatch_workers.proofs.Gone.{within_last, zipped}
 use Rattle.dispatch_workers.proofs.rounds.drive.Goals as goal
 
@@ -8,7 +9,7 @@ returns-then-go_all-clause-worked g c =
     record {
       made = c.loop-round._round + 1;
       within = within_last c.args.rounds c.loop-round._round (omega arith);
-      each = zipped _ _ _ (omega arith) (λ k d lt.
+      each = zipped (DriverWorked c.args.rounds c.args.block (c.loop-round._round + 1)) c.args.drivers.now c.go_all.new.drivers (omega arith) (λ k d lt.
           let old = inv.made k d lt in
           let now = c.go_all.ensures.asked k d (omega arith) in
           (now.0 ∷ old.0, (let e = old.1 in omega arith), (_, old.2, now.1), inr (now.2 c.if-go_all.true)));
@@ -31,5 +32,5 @@ returns-clause-worked g c =
     record {
       made = c.args.rounds;
       within = inl refl;
-      each = zipped _ _ _ (omega arith) (λ k d lt. let old = inv.made k d lt in (old.0, (let e = old.1 in omega arith), old.2, inl refl));
+      each = zipped (DriverWorked c.args.rounds c.args.block c.args.rounds) c.args.drivers.now c.loop-round.drivers (omega arith) (λ k d lt. let old = inv.made k d lt in (old.0, (let e = old.1 in omega arith), old.2, inl refl));
     }

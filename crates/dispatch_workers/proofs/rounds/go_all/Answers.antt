@@ -10,13 +10,13 @@ loop-driver-preserved g c =
     let i = c.loop-driver.driver-index in
     let ds = c.loop-driver.drivers in
     let inv = c.loop-driver.invariant in
-    let e = c.go_round.new.driver in
+    let e = c.go_round-round.new.driver in
     let lt : c.loop-driver.driver-index < length c.loop-driver.drivers = omega arith in
     let item = c.driver-item.result in
     record {
-      ours = ours_set c.args.yard.now ds i e lt inv.ours (c.go_round.ensures.same.1 ∙ inv.ours i item lt);
-      asked = asked_more c.args.block c.args.drivers.now ds c.loop-driver.all c.if-not-is_end.all i e c.go_round.result lt inv.asked inv.rest
-          (λ d. subst (λ (x : Pass). GoesRound c.args.block c.go_round.result x c.go_round.new.driver) (any_default ds i item d lt) c.go_round.ensures.round)
+      ours = ours_set c.args.yard.now ds i e lt inv.ours (c.go_round-round.ensures.same.1 ∙ inv.ours i item lt);
+      asked = asked_more c.args.block c.args.drivers.now ds c.loop-driver.all c.if-not-is_end.all i e c.go_round-round.result lt inv.asked inv.rest
+          (λ d. subst (λ (x : Pass). GoesRound c.args.block c.go_round-round.result x c.go_round-round.new.driver) (any_default ds i item d lt) c.go_round-round.ensures.round)
           (elim c.if-not-is_end.branch [
             | then-not-is_end w ↦ λ t. absurd (true≢false (sym t ∙ w.all-is))
             | else-not-is_end w ↦ λ t. (sym w.all-is ∙ t, c.is_end.ensures w.if-not-is_end.false)

@@ -38,6 +38,7 @@ loop-group-preserved c =
           (groups_have (fresh_passes yard c.args.workers) groups last c.loop-group.group (search rules) inv.drivers
           (drivers_fresh yard old mid (passes_in groups) c.board_group-boarded.new.drivers.items c.args.trains c.args.workers c.loop-group.group c.requires.fresh inv.boarded
           c.requires.trains c.in_ok-boarded.ensures.dealt));
+      ashore = c.in_ok-boarded.ensures.ashore;
       len = let more = c.push_reserved.ensures.len in let so_far = inv.len in omega (arith, more, so_far);
       room = c.push_reserved.ensures.capacity ∙ inv.room;
     }
