@@ -1,4 +1,6 @@
 // Worked examples, as a user meets them at the command line.
+ghost use Rattle.std.specs.Prelude.{◌<◌};
+
 use ats_io::NoGate;
 use ats_rows::{Faults, Played, play};
 use ats_run::{Status, code};
@@ -9,10 +11,11 @@ use std::thread::Threads;
 
 pub(crate) mod documents;
 
+use crate::devices::first_path_journal;
 use documents::document_called;
 
 // A call in each line: its words; its document, and where it has one its journal; and its exit code and what it writes, if that is 0, or
-// tells. `/` ends a line of a journal or an answer, and `+` names a document.
+// tells. `/` ends a line of a journal or an answer, `+` names a document, and `or` stands between the answers of a call that may have either.
 const CALLS: &str = "\
 run: first-path => 0 1 move T0 A B/2 move T0 B C/end moves=2 tables=0/
 run --rounds 5: first-path => 0 1 move T0 A B/2 move T0 B C/end moves=2 tables=0/
@@ -38,11 +41,18 @@ run: exits => 0 1 move T0 A B/2 move T0 B -/3 move T1 C B/4 move T1 B -/end move
 run: shares => 0 1 move T0 A M/2 move T0 M B/3 move T1 C N/4 move T1 N D/end moves=4 tables=0/
 run: connected => 0 1 move T1 C D/2 move T0 A B/end moves=2 tables=0/
 run: same-point => 0 1 move T0 A B/2 move T0 B A/3 kept 1 differs T0 1/4 move T0 A C/end moves=3 tables=0/
+run --workers 2: first-path => 0 1 move T0 A B/2 move T0 B C/end moves=2 tables=0/
+run --workers 2 --rounds 0: passing-loop => 0 1 move T0 W L1/2 move T1 E L2/3 move T0 L1 E/4 move T1 L2 W/end moves=4 tables=0/
+run --workers 1: exits => 0 1 move T0 A B/2 move T0 B -/3 move T1 C B/4 move T1 B -/end moves=4 tables=0/
+run --workers 2: exits => 0 1 move T0 A B/2 move T0 B -/3 move T1 C B/4 move T1 B -/end moves=4 tables=0/ or 1 move T1 C B/2 move T1 B -/3 move T0 A B/4 move T0 B -/end moves=4 tables=0/
+run --workers 1: same-point => 0 1 move T0 A B/2 move T0 B A/3 kept 1 differs T0 1/4 move T0 A C/end moves=3 tables=0/ or 1 move T0 A B/2 move T0 B A/3 move T0 A C/4 kept 1 differs T0 1/end moves=3 tables=0/
+drill --seed 2 --workers 4:  => 0 trains=2 moves=4 tables=0 nodes=9/
 sim: loop-of-threes => 0 0 move T0 W L1/0 move T1 E L2/3 move T0 L1 E/3 move T1 L2 W/end moves=4 tables=0 last=3/
 verify: passing-loop 1 move T0 W L1/2 move T1 E L2/3 move T0 L1 E/4 move T1 L2 W/end moves=4 tables=0/ => 0 ok moves=4 tables=0/
 verify: passing-loop 1 move T0 W L1/2 move T1 E L2/ => 9 ats: 73 NoEnd/
 resume: passing-loop 1 move T0 W L1/2 move T1 E L2/ => 0 1 move T0 W L1/2 move T1 E L2/3 move T0 L1 E/4 move T1 L2 W/end moves=4 tables=0/
 resume: passing-loop 1 move T0 W L1/2 move T1 E L2/3 move T0 L1 E/4 move T1 L2 W/end moves=4 tables=0/ => 0 1 move T0 W L1/2 move T1 E L2/3 move T0 L1 E/4 move T1 L2 W/end moves=4 tables=0/
+resume --workers 2: same-point 1 move T0 A B/2 move T0 B A/3 kept 1 differs T0 1/ => 0 1 move T0 A B/2 move T0 B A/3 kept 1 differs T0 1/4 move T0 A C/end moves=3 tables=0/
 resume: passing-loop 2 move T0 W L1/ => 9 ats: 72 Number line=1/
 : first-path => 1 ats: 201 Words/
 run --workers 17: first-path => 1 ats: 201 Words/
@@ -60,20 +70,12 @@ make: unmarked-corridor => 6 ats: 206 Stuck table=0 at=1,1/
 repair: head-on => 3 ats: 112 StartIllegal 34 Over section=0 count=2 limit=1/
 repair --rounds 2: long-corridor => 5 ats: 209 Rounds table=0 rounds=2 at=1,1/";
 
+// Devices that don't fail.
 pub(crate) const SURE: Faults<'static> = Faults {
     most: 4096,
     reads: &[],
     writes: &[],
 };
-
-// Several texts, one after the other.
-pub(crate) fn joined(alloc: Global, parts: &[&str]) -> Result<Vec<u8>, AllocError> {
-    let mut bytes = Vec::new(alloc);
-    for part in parts {
-        bytes.extend_from_slice(part.as_bytes())?;
-    }
-    Ok(bytes)
-}
 
 // The text after what is there, with the ends of its lines.
 pub(crate) fn push_lines(bytes: &mut Vec<u8>, text: &str) -> Result<(), AllocError> {
@@ -124,20 +126,74 @@ fn answer_called(alloc: Global, answer: &str) -> Result<Vec<u8>, Fail> {
     Ok(bytes)
 }
 
-// Whether a call by devices that never fail ends as its row says.
-fn is_answered(rt: &(impl Threads + Wait + Sync), alloc: Global, row: &str) -> Result<bool, Fail> {
-    let (words, rest) = row.split_once(": ").ok_or("words")?;
-    let (input, rest) = rest.split_once(" => ").ok_or("an input")?;
-    let (exit_code, answer) = rest.split_once(' ').ok_or("an exit code")?;
-    let input = input_called(alloc, input)?;
-    let answer = answer_called(alloc, answer)?;
-    let played = play(rt, alloc, &line(alloc, words)?, input, SURE, &NoGate)?;
-    let is_text = if exit_code == "0" {
-        played.written.as_slice() == answer.as_slice() && is_told(&played, b"")
+// What a call by devices with these faults comes to.
+fn call_by(
+    rt: &(impl Threads + Wait + Sync),
+    alloc: Global,
+    words: &str,
+    input: Vec<u8>,
+    faults: Faults<'_>,
+) -> Result<Played, AllocError>
+    requires { 0 < faults.most }
+{
+    let words = line(alloc, words)?;
+    play(rt, alloc, &words, input, faults, &NoGate)
+}
+
+// What a call by devices that never fail comes to.
+pub(crate) fn call(
+    rt: &(impl Threads + Wait + Sync),
+    alloc: Global,
+    words: &str,
+    input: Vec<u8>,
+) -> Result<Played, AllocError> {
+    call_by(rt, alloc, words, input, SURE)
+}
+
+// The parts of a row.
+#[derive(Clone, Copy)]
+struct Row<'a> {
+    words: &'a str,
+    input: &'a str,
+    exit_code: &'a str,
+    answers: &'a str,
+}
+
+fn row_of(text: &str) -> Option<Row<'_>> {
+    let (words, rest) = text.split_once(": ")?;
+    let (input, rest) = rest.split_once(" => ")?;
+    let (exit_code, answers) = rest.split_once(' ')?;
+    Some(Row {
+        words,
+        input,
+        exit_code,
+        answers,
+    })
+}
+
+// Whether a call ended with this code, and wrote this, if that is 0, or told it, and nothing else.
+fn is_ended(played: &Played, exit_code: &str, answer: &[u8]) -> bool {
+    let (written, told) = if exit_code == "0" {
+        (answer, b"".as_slice())
     } else {
-        played.written.is_empty() && is_told(&played, answer.as_slice())
+        (b"".as_slice(), answer)
     };
-    Ok(is_text && exit_code.parse::<u32>().ok() == Some(u32::from(code(played.status))))
+    exit_code.parse::<u32>().ok() == Some(u32::from(code(played.status)))
+        && played.written.as_slice() == written
+        && is_told(played, told)
+}
+
+// Whether a call by devices that never fail ends as its row says.
+fn is_answered(rt: &(impl Threads + Wait + Sync), alloc: Global, text: &str) -> Result<bool, Fail> {
+    let row = row_of(text).ok_or("a call")?;
+    let played = call(rt, alloc, row.words, input_called(alloc, row.input)?)?;
+    for answer in row.answers.split(" or ") {
+        let answer = answer_called(alloc, answer)?;
+        if is_ended(&played, row.exit_code, answer.as_slice()) {
+            return Ok(true);
+        }
+    }
+    Ok(false)
 }
 
 #[test]
@@ -149,38 +205,43 @@ fn calls_end_as_their_rows_say(rt: HostRuntime) -> Result<(), Fail> {
     Ok(())
 }
 
-// The document of the first path is read in calls of sixteen bytes; its journal takes four calls of sixteen.
+// Whether a run of the first path ends so by devices that take sixteen bytes a call and fail at these calls: its exit code, how many bytes
+// it reads, and how many of its journal it writes.
+fn is_stopped(
+    rt: &(impl Threads + Wait + Sync),
+    alloc: Global,
+    reads: &[u64],
+    writes: &[u64],
+    stop: &str,
+) -> Result<bool, Fail> {
+    let text = document_called("first-path").ok_or("a document")?;
+    let input = Vec::from_slice(alloc, text.as_bytes())?;
+    let faults = Faults {
+        most: 16,
+        reads,
+        writes,
+    };
+    let played = call_by(rt, alloc, "run", input, faults)?;
+    let exit_code = code(played.status);
+    let read = text.len().saturating_sub(played.left.len());
+    let written = played.written.len();
+    let ended = format!(in alloc; "{exit_code} {read} {written}")?;
+    Ok(ended.as_str() == stop && first_path_journal().starts_with(played.written.as_slice()))
+}
+
 #[test]
 fn a_device_that_fails_ends_the_call(rt: HostRuntime) -> Result<(), Fail> {
     let alloc = rt.alloc();
-    let text = document_called("first-path")
-        .ok_or("a document")?
-        .as_bytes();
-    let journal = b"1 move T0 A B\n2 move T0 B C\nend moves=2 tables=0\n".as_slice();
-    for (reads, writes, status, given, taken) in [
-        (&[0u64] as &[u64], &[] as &[u64], Status::ReadFault, 0, 0),
-        (&[11], &[], Status::ReadFault, 176, 0),
-        (&[], &[0], Status::WriteFault, text.len(), 0),
-        (&[], &[1], Status::WriteFault, text.len(), 16),
-        (&[], &[3], Status::WriteFault, text.len(), 48),
-        (&[], &[4], Status::Done, text.len(), 49),
+    for (call, stop) in [(0, "7 0 0"), (11, "7 176 0")] {
+        assert!(rt; is_stopped(&rt, alloc, &[call], &[], stop)?, "{stop}");
+    }
+    for (call, stop) in [
+        (0, "8 190 0"),
+        (1, "8 190 16"),
+        (3, "8 190 48"),
+        (4, "0 190 49"),
     ] {
-        let faults = Faults {
-            most: 16,
-            reads,
-            writes,
-        };
-        let played = play(
-            &rt,
-            alloc,
-            &line(alloc, "run")?,
-            Vec::from_slice(alloc, text)?,
-            faults,
-            &NoGate,
-        )?;
-        assert!(rt; played.status == status);
-        assert!(rt; Some(played.written.as_slice()) == journal.get(..taken));
-        assert!(rt; Some(played.left.as_slice()) == text.get(given..));
+        assert!(rt; is_stopped(&rt, alloc, &[], &[call], stop)?, "{stop}");
     }
     Ok(())
 }
@@ -193,7 +254,7 @@ fn an_input_has_a_greatest_length(rt: HostRuntime) -> Result<(), Fail> {
         (16_777_217, "ats: 104 TooLong limit=16777216\n"),
     ] {
         let spaces = vec![in alloc; b' '; length]?;
-        let played = play(&rt, alloc, &line(alloc, "check")?, spaces, SURE, &NoGate)?;
+        let played = call(&rt, alloc, "check", spaces)?;
         assert!(rt; played.status == Status::Refused && is_told(&played, told.as_bytes()));
     }
     Ok(())

@@ -6,6 +6,8 @@ mod devices;
 #[cfg(test)]
 mod examples;
 #[cfg(test)]
+mod held;
+#[cfg(test)]
 mod orders;
 #[cfg(test)]
 mod refusals;
@@ -13,6 +15,8 @@ mod refusals;
 mod sections;
 #[cfg(test)]
 mod shapes;
+#[cfg(test)]
+mod steps;
 #[cfg(test)]
 mod trees;
 #[cfg(test)]

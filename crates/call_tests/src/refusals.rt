@@ -1,8 +1,6 @@
 // What is printed for documents and journals that are refused. Each row is a part of an input, and the words for it.
 use crate::examples::documents::document_called;
-use crate::examples::{SURE, is_told, joined, line, push_lines};
-use ats_io::NoGate;
-use ats_rows::play;
+use crate::examples::{call, is_told, push_lines};
 use refusal_lines::push_many;
 use std::alloc::{AllocError, Global};
 use std::sync::Wait;
@@ -89,16 +87,26 @@ fn without(text: &str, bytes: usize) -> &str {
     text.get(..text.len().saturating_sub(bytes)).unwrap_or("")
 }
 
-// Whether a call on this input writes nothing and tells these words.
+// Several texts, one after the other, with the ends of their lines.
+fn joined(alloc: Global, parts: &[&str]) -> Result<Vec<u8>, AllocError> {
+    let mut bytes = Vec::new(alloc);
+    for part in parts {
+        push_lines(&mut bytes, part)?;
+    }
+    Ok(bytes)
+}
+
+// Whether a call on these parts of an input writes nothing and tells these words.
 fn is_refused(
     rt: &(impl Threads + Wait + Sync),
     alloc: Global,
     words: &str,
-    input: Vec<u8>,
+    parts: &[&str],
     told: &str,
 ) -> Result<bool, AllocError> {
-    let played = play(rt, alloc, &line(alloc, words)?, input, SURE, &NoGate)?;
-    let wanted = joined(alloc, &["ats: ", told, "\n"])?;
+    let input = joined(alloc, parts)?;
+    let played = call(rt, alloc, words, input)?;
+    let wanted = joined(alloc, &["ats: ", told, "/"])?;
     Ok(played.written.is_empty() && is_told(&played, wanted.as_slice()))
 }
 
@@ -108,8 +116,8 @@ fn documents_are_refused(rt: HostRuntime) -> Result<(), Fail> {
     let head = without(document_called("first-path").ok_or("a document")?, 1);
     for row in MEMBERS.split('\n') {
         let (members, told) = row.split_once(" => ").ok_or("words")?;
-        let input = joined(alloc, &[head, ",", members, "}"])?;
-        assert!(rt; is_refused(&rt, alloc, "check", input, told)?, "{row}");
+        let parts = [head, ",", members, "}"];
+        assert!(rt; is_refused(&rt, alloc, "check", &parts, told)?, "{row}");
     }
     Ok(())
 }
@@ -122,13 +130,19 @@ fn certificates_are_refused(rt: HostRuntime) -> Result<(), Fail> {
     for row in NODES.split('\n') {
         let (nodes, told) = row.split_once(" => ").ok_or("words")?;
         let nodes = if nodes == "[]" { "" } else { nodes };
-        let input = joined(alloc, &[head, table, nodes, "]}]}"])?;
-        assert!(rt; is_refused(&rt, alloc, "check", input, told)?, "{row}");
+        let parts = [head, table, nodes, "]}]}"];
+        assert!(rt; is_refused(&rt, alloc, "check", &parts, told)?, "{row}");
     }
+    Ok(())
+}
+
+#[test]
+fn certificates_of_a_section_are_refused(rt: HostRuntime) -> Result<(), Fail> {
+    let alloc = rt.alloc();
     for row in NODES_IN_A_SECTION.split('\n') {
         let (nodes, told) = row.split_once(" => ").ok_or("words")?;
-        let input = joined(alloc, &[ENTERING, nodes, "]}]}"])?;
-        assert!(rt; is_refused(&rt, alloc, "check", input, told)?, "{row}");
+        let parts = [ENTERING, nodes, "]}]}"];
+        assert!(rt; is_refused(&rt, alloc, "check", &parts, told)?, "{row}");
     }
     Ok(())
 }
@@ -139,9 +153,8 @@ fn journals_are_refused(rt: HostRuntime) -> Result<(), Fail> {
     let head = without(document_called("first-path").ok_or("a document")?, 1);
     for row in JOURNALS.split('\n') {
         let (journal, told) = row.split_once(" => ").ok_or("words")?;
-        let mut input = joined(alloc, &[head, ",", TWO_TABLES, "\njournal\n"])?;
-        push_lines(&mut input, journal)?;
-        assert!(rt; is_refused(&rt, alloc, "verify", input, told)?, "{row}");
+        let parts = [head, ",", TWO_TABLES, "/journal/", journal];
+        assert!(rt; is_refused(&rt, alloc, "verify", &parts, told)?, "{row}");
     }
     Ok(())
 }

@@ -1,7 +1,7 @@
 // Circular waits of worked missions, and the sections that are made of missions.
 ghost use Rattle.std.specs.Prelude.{◌≡◌, ◌<◌, ◌≤◌, ◌∷◌, IfOk, length, false};
 
-use rail_model::{Mission, Missions};
+use rail_model::{Mission, Missions, Section};
 use ring_sections::{Rings, mark_rings, rings};
 use std::alloc::{AllocError, Global};
 use std::test::Fail;
@@ -40,6 +40,16 @@ fn ladder(alloc: Global) -> Result<Missions, Fail> {
     Ok(Missions::checked(missions).ok_or("missions")?)
 }
 
+// Whether a section has limit 2, and each train counts in it at its first place alone.
+fn is_for_two(section: &Section) -> bool {
+    for changes in section.all_changes() {
+        if changes.as_slice() != [1, -1].as_slice() {
+            return false;
+        }
+    }
+    section.limit() == 2
+}
+
 #[test]
 fn circular_waits_are_listed_and_marked(rt: HostRuntime) -> Result<(), Fail> {
     let alloc = rt.alloc();
@@ -52,10 +62,7 @@ fn circular_waits_are_listed_and_marked(rt: HostRuntime) -> Result<(), Fail> {
     let table = mark_rings(alloc, missions, &found)?;
     assert_eq!(rt; (found.len(), table.sections().len()), (1, 1));
     for section in table.sections() {
-        assert_eq!(rt; section.limit(), 2);
-        for changes in section.all_changes() {
-            assert_eq!(rt; changes.as_slice(), [1, -1].as_slice());
-        }
+        assert!(rt; is_for_two(section));
     }
     Ok(())
 }

@@ -1,17 +1,20 @@
 // Certificates of worked examples: read, checked by both checks, and made again.
+ghost use Rattle.std.specs.Prelude.{◌≡◌, IfOk};
+ghost use Rattle.layout_json.specs.Doc.{offers_of};
+
 use crate::examples::documents::document_called;
-use cert_checker::{accept, check, check_par};
+use cert_checker::{Accepted, accept, check, check_par};
 use cert_maker::{Made, make};
 use cert_tree::{Cert, CertRefused, count, preorder, tree};
-use layout_json::{Doc, document, nodes_of, table_of, tables_of};
-use rail_model::{Node, copy_table, trains_of};
+use layout_json::{Doc, after_of, document, nodes_of, table_of, tables_of};
+use rail_model::{Node, Table, copy_table, trains_of};
 use std::alloc::Global;
 use std::process::Abort;
 use std::test::Fail;
 use std::thread::Threads;
 
 // The document of this name.
-fn read(alloc: Global, name: &str) -> Result<Doc, Fail> {
+pub(crate) fn read(alloc: Global, name: &str) -> Result<Doc, Fail> {
     let text = document_called(name).ok_or("a text")?;
     match document(alloc, text.as_bytes()) {
         Ok(doc) => Ok(doc),
@@ -19,26 +22,55 @@ fn read(alloc: Global, name: &str) -> Result<Doc, Fail> {
     }
 }
 
-// The tree of the first table of a document.
-fn cert_of(alloc: Global, doc: &Doc) -> Result<Cert, Fail> {
+// The first table of a document, if there is one.
+fn first_table(doc: &Doc) -> Option<&Table> {
     if tables_of(doc) == 0 {
-        return Err("a table".into());
+        None
+    } else {
+        Some(table_of(doc, 0))
     }
-    match tree(alloc, nodes_of(doc, 0)) {
+}
+
+// The nodes of the first table.
+fn first_nodes(doc: &Doc) -> &[Node] {
+    if tables_of(doc) == 0 {
+        &[]
+    } else {
+        nodes_of(doc, 0)
+    }
+}
+
+// The tree of the first table.
+fn cert_of(alloc: Global, doc: &Doc) -> Result<Cert, Fail> {
+    match tree(alloc, first_nodes(doc)) {
         Ok(cert) => Ok(cert),
         Err(_) => Err("a tree".into()),
     }
+}
+
+// The tables of a document, if each accepts its certificate.
+pub(crate) fn accepted(alloc: Global, doc: &Doc) -> Result<Vec<Accepted>, Fail>
+    ensures { IfOk result (λ tables. tables.items ≡ offers_of doc.now) }
+{
+    let mut tables = Vec::new(alloc);
+    for number in 0..tables_of(doc) {
+        let cert = tree(alloc, nodes_of(doc, number)).ok().ok_or("a tree")?;
+        let table = copy_table(alloc, table_of(doc, number))?;
+        match accept(alloc, table, after_of(doc, number), &cert) {
+            Ok(table) => tables.push(table)?,
+            Err(_) => return Err("a table that is accepted".into()),
+        }
+    }
+    Ok(tables)
 }
 
 // Whether both checks take the certificate of a document's first table.
 fn is_good(rt: &(impl Abort + Threads + Sync), alloc: Global, name: &str) -> Result<bool, Fail> {
     let doc = read(alloc, name)?;
     let cert = cert_of(alloc, &doc)?;
-    if tables_of(&doc) == 0 {
-        return Err("a table".into());
-    }
-    let answer = check(alloc, table_of(&doc, 0), &cert);
-    assert_eq!(rt; check_par(rt, alloc, table_of(&doc, 0), &cert), answer);
+    let table = first_table(&doc).ok_or("a table")?;
+    let answer = check(alloc, table, &cert);
+    assert_eq!(rt; check_par(rt, alloc, table, &cert), answer);
     Ok(answer.is_ok())
 }
 
@@ -54,47 +86,31 @@ fn both_checks_take_good_certificates(rt: HostRuntime) -> Result<(), Fail> {
     Ok(())
 }
 
-#[test]
-fn a_table_is_accepted(rt: HostRuntime) -> Result<(), Fail> {
-    let alloc = rt.alloc();
-    let doc = read(alloc, "passing-loop")?;
-    let cert = cert_of(alloc, &doc)?;
-    if tables_of(&doc) == 0 {
-        return Err("a table".into());
+// The trains of a document's first table, and when it is due if it accepts a certificate; else it comes back.
+fn offered(alloc: Global, doc: &Doc, cert: &Cert) -> Result<(u32, Option<u32>), Fail> {
+    let table = copy_table(alloc, first_table(doc).ok_or("a table")?)?;
+    match accept(alloc, table, 3, cert) {
+        Ok(accepted) => Ok((trains_of(accepted.table()), Some(accepted.after()))),
+        Err((table, _)) => Ok((trains_of(&table), None)),
     }
-    let Ok(accepted) = accept(alloc, copy_table(alloc, table_of(&doc, 0))?, 3, &cert) else {
-        return Err("an accepted table".into());
-    };
-    assert_eq!(rt; trains_of(accepted.table()), 2);
-    assert_eq!(rt; accepted.after(), 3);
-    Ok(())
 }
 
 #[test]
-fn a_table_that_is_refused_comes_back(rt: HostRuntime) -> Result<(), Fail> {
+fn a_table_is_accepted_or_comes_back(rt: HostRuntime) -> Result<(), Fail> {
     let alloc = rt.alloc();
     let doc = read(alloc, "passing-loop")?;
-    if tables_of(&doc) == 0 {
-        return Err("a table".into());
-    }
-    let Ok(leaf) = tree(alloc, &[Node::Arrived]) else {
-        return Err("a tree".into());
-    };
-    match accept(alloc, copy_table(alloc, table_of(&doc, 0))?, 3, &leaf) {
-        Ok(_) => return Err("a refused table".into()),
-        Err((table, _)) => assert_eq!(rt; trains_of(&table), 2),
-    }
+    let cert = cert_of(alloc, &doc)?;
+    assert_eq!(rt; offered(alloc, &doc, &cert)?, (2, Some(3)));
+    let leaf = tree(alloc, &[Node::Arrived]).ok().ok_or("a tree")?;
+    assert_eq!(rt; offered(alloc, &doc, &leaf)?, (2, None));
     Ok(())
 }
 
 // Whether the certificate that is made for a document's first table is its own.
 fn makes_its_own(alloc: Global, name: &str) -> Result<bool, Fail> {
     let doc = read(alloc, name)?;
-    if tables_of(&doc) == 0 {
-        return Err("a table".into());
-    }
-    match make(alloc, table_of(&doc, 0), 17)? {
-        Made::Cert(cert) => Ok(cert.as_slice() == nodes_of(&doc, 0)),
+    match make(alloc, first_table(&doc).ok_or("a table")?, 17)? {
+        Made::Cert(cert) => Ok(cert.as_slice() == first_nodes(&doc)),
         _ => Ok(false),
     }
 }

@@ -1,42 +1,33 @@
 // Runs: a yard that is asked question by question, journals read and written, and runs of worked examples.
-ghost use Rattle.std.specs.Prelude.{◌≡◌, IfOk};
-ghost use Rattle.rail_model.specs.Table.{trains};
+ghost use Rattle.std.specs.Prelude.{◌≡◌};
+ghost use Rattle.layout_json.specs.Doc.{offers_of};
 
-use crate::examples::documents::document_called;
-use cert_checker::{Accepted, accept};
-use cert_tree::tree;
-use layout_json::{Doc, after_of, document, names_of, nodes_of, start_of, table_of, tables_of};
-use legal_state::judge;
-use move_journal::{Part, read, read_prefix, text};
-use plain_yard::{CheckedTable, PlainYard, begin};
-use rail_model::{Ask, Tried, copy_table, trains_of};
+use crate::trees::{accepted, read};
+use cert_checker::Accepted;
+use layout_json::{Doc, names_of, start_of};
+use move_journal::{Part, read as read_journal, read_prefix, text};
+use plain_yard::{PlainYard, begin};
+use rail_model::{Ask, Tried, trains_of};
 use std::alloc::Global;
 use std::test::Fail;
-use table_exchange::in_force;
 
-// The document of the first path.
-fn first_path(alloc: Global) -> Result<Doc, Fail> {
-    let text = document_called("first-path").ok_or("a text")?;
-    Ok(document(alloc, text.as_bytes()).ok().ok_or("a document")?)
-}
-
-// The first table of a document, which its certificate shows to be live.
-fn accepted(alloc: Global, doc: &Doc) -> Result<Accepted, Fail>
-    ensures { IfOk result (λ offer. trains offer.table ≡ 1) }
+// The yard of a document at its start.
+fn opened<'a>(
+    alloc: Global,
+    doc: &Doc,
+    tables: &'a [Accepted],
+) -> Result<PlainYard<'a, Accepted>, Fail>
+    requires { tables.now ≡ offers_of doc.now }
 {
-    if tables_of(doc) == 0 || trains_of(table_of(doc, 0)) != 1 {
-        return Err("a table of one train".into());
-    }
-    let cert = tree(alloc, nodes_of(doc, 0)).ok().ok_or("a tree")?;
-    let table = copy_table(alloc, table_of(doc, 0))?;
-    match accept(alloc, table, after_of(doc, 0), &cert) {
-        Ok(table) => Ok(table),
-        Err(_) => Err("a table that is accepted".into()),
+    let begun = begin(alloc, start_of(doc))?;
+    match PlainYard::new(tables, begun) {
+        Ok(yard) => Ok(yard),
+        Err(_) => Err("room for the lines".into()),
     }
 }
 
 // What a train is told, if there is one of this number.
-fn told<A: CheckedTable>(yard: &mut PlainYard<'_, A>, train: u32) -> Option<Ask> {
+fn told(yard: &mut PlainYard<'_, Accepted>, train: u32) -> Option<Ask> {
     if train < trains_of(yard.live_in_force()) {
         Some(yard.ask(train))
     } else {
@@ -44,48 +35,51 @@ fn told<A: CheckedTable>(yard: &mut PlainYard<'_, A>, train: u32) -> Option<Ask>
     }
 }
 
+// What the control is told.
+fn tried(yard: &mut PlainYard<'_, Accepted>) -> Tried {
+    yard.try_table()
+}
+
+// How many lines the journal has once all trains have arrived, and what train 0 is told then.
+fn finished(mut yard: PlainYard<'_, Accepted>) -> (Option<Ask>, usize) {
+    yard.finish();
+    (told(&mut yard, 0), yard.into_state().lines().len())
+}
+
 #[test]
 fn a_yard_answers_question_by_question(rt: HostRuntime) -> Result<(), Fail> {
     let alloc = rt.alloc();
-    let doc = first_path(alloc)?;
-    let tables = [accepted(alloc, &doc)?];
-    let begun = begin(alloc, start_of(&doc))?;
-    if judge(in_force(&tables, begun.yard()), start_of(&doc)).is_err() {
-        return Err("a legal start".into());
-    }
-    let Ok(mut yard) = PlainYard::new(&tables, begun) else {
-        return Err("room for the lines".into());
-    };
+    let doc = read(alloc, "first-path")?;
+    let tables = accepted(alloc, &doc)?;
+    let mut yard = opened(alloc, &doc, &tables)?;
     assert_eq!(rt; told(&mut yard, 1), None);
     assert_eq!(rt; told(&mut yard, 0), Some(Ask::Yes));
-    assert_eq!(rt; yard.try_table(), Tried::NoMore);
-    yard.finish();
-    assert_eq!(rt; told(&mut yard, 0), Some(Ask::Arrived));
-    assert_eq!(rt; yard.into_state().lines().len(), 2);
+    assert_eq!(rt; tried(&mut yard), Tried::NoMore);
+    assert_eq!(rt; finished(yard), (Some(Ask::Arrived), 2));
     Ok(())
+}
+
+// How many lines the first lines of a journal have, and how many moves and tables.
+fn front_of(alloc: Global, doc: &Doc, front: &str) -> Result<(usize, u32, u32), Fail> {
+    match read_prefix(alloc, names_of(doc), front.as_bytes()) {
+        Ok(Part::Open(open)) => Ok((open.lines().len(), open.moves(), open.tables())),
+        _ => Err("a front".into()),
+    }
 }
 
 #[test]
 fn a_journal_is_read_and_written(rt: HostRuntime) -> Result<(), Fail> {
     let alloc = rt.alloc();
-    let doc = first_path(alloc)?;
+    let doc = read(alloc, "first-path")?;
     let names = names_of(&doc);
-    let journal = read(alloc, names, MANY_LINES.as_bytes())
+    let journal = read_journal(alloc, names, MANY_LINES.as_bytes())
         .ok()
         .ok_or("a text")?;
     assert_eq!(rt; journal.lines().len(), 5);
     let again = text(alloc, names, &journal)?;
     assert_eq!(rt; again.as_slice(), MANY_LINES.as_bytes());
     let (front, _) = MANY_LINES.split_once("end").ok_or("an end line")?;
-    match read_prefix(alloc, names, front.as_bytes()) {
-        Ok(Part::Open(open)) => {
-            assert_eq!(rt;
-                (open.lines().len(), open.moves(), open.tables()),
-                (5, 2, 1)
-            );
-        }
-        _ => return Err("a front".into()),
-    }
+    assert_eq!(rt; front_of(alloc, &doc, front)?, (5, 2, 1));
     Ok(())
 }
 

@@ -1,0 +1,92 @@
+// A run by threads under a gate that holds a pass with its zones until another one has given its own back.
+use crate::examples::{SURE, is_told, line};
+use ats_io::{Gate, Moment};
+use ats_rows::{Played, play};
+use ats_run::Status;
+use std::alloc::Global;
+use std::sync::Wait;
+use std::sync::atomic::{AtomicBool, Ordering};
+use std::test::Fail;
+use std::thread::{Threads, yield_now};
+
+// Two trains that share no zone.
+const APART: &str =
+    r#"{"version":1,"points":[["A",0],["B",0],["C",1],["D",1]],"links":[["A","B"],["C","D"]],"zones":2,"trains":["T0","T1"],"start":[0,0],"tables":[{"missions":[["A","B"],["C","D"]],"certificate":[[0,0,0],[4,0],[0,1,0],[4,1],[3]]}]}"#;
+
+// Pass 1 was served while pass 0 held its zones, so its move stands first.
+const JOURNAL: &str = "\
+1 move T1 C D
+2 move T0 A B
+end moves=2 tables=0
+";
+
+// How many turns a pass is held at most: far more than it takes, so that the test ends where the other pass never comes.
+const MOST_TURNS: u32 = 10_000_000;
+
+// Holds pass 0, once it has its zones, until pass 1 has given its own back; and pass 1, which has none yet, until pass 0 has its zones.
+#[derive(Drop)]
+struct Hold {
+    taken: AtomicBool,
+    is_first_let_go: AtomicBool,
+    released: AtomicBool,
+    is_second_let_go: AtomicBool,
+}
+
+impl Hold {
+    fn new() -> Self {
+        Hold {
+            taken: AtomicBool::new(false),
+            is_first_let_go: AtomicBool::new(false),
+            released: AtomicBool::new(false),
+            is_second_let_go: AtomicBool::new(false),
+        }
+    }
+}
+
+// Waits for a flag, and then raises another. Where the flag doesn't come in so many turns, the other one stays down.
+fn follow(flag: &AtomicBool, raised: &AtomicBool) {
+    for _turn in 0..MOST_TURNS {
+        if flag.load(Ordering::SeqCst) {
+            raised.store(true, Ordering::SeqCst);
+            return;
+        }
+        yield_now();
+    }
+}
+
+impl Gate for Hold {
+    fn at(&self, who: u32, moment: Moment) {
+        match (who, moment) {
+            (0, Moment::Taken) => {
+                self.taken.store(true, Ordering::SeqCst);
+                follow(&self.released, &self.is_first_let_go);
+            }
+            (1, Moment::Glanced) => follow(&self.taken, &self.is_second_let_go),
+            (1, Moment::Released) => self.released.store(true, Ordering::SeqCst),
+            _ => {}
+        }
+    }
+}
+
+// A run of both trains under the gate.
+fn run_under(
+    rt: &(impl Threads + Wait + Sync),
+    alloc: Global,
+    gate: &Hold,
+) -> Result<Played, Fail> {
+    let words = line(alloc, "run --workers 3")?;
+    let input = Vec::from_slice(alloc, APART.as_bytes())?;
+    Ok(play(rt, alloc, &words, input, SURE, gate)?)
+}
+
+#[test]
+fn zones_are_not_one_lock(rt: HostRuntime) -> Result<(), Fail> {
+    let alloc = rt.alloc();
+    let gate = Hold::new();
+    let played = run_under(&rt, alloc, &gate)?;
+    assert!(rt; gate.is_second_let_go.load(Ordering::SeqCst));
+    assert!(rt; gate.is_first_let_go.load(Ordering::SeqCst));
+    assert!(rt; played.status == Status::Done && is_told(&played, b""));
+    assert!(rt; played.written.as_slice() == JOURNAL.as_bytes());
+    Ok(())
+}

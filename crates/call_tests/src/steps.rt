@@ -1,0 +1,157 @@
+// Steps of a core that aren't allowed, each with the first cause.
+ghost use Rattle.std.specs.Prelude.{◌≡◌};
+ghost use Rattle.layout_json.specs.Doc.{offers_of};
+
+use crate::trees::{accepted, read};
+use cert_checker::Accepted;
+use layout_json::{Doc, layout_of, start_of};
+use move_claim::Cell;
+use std::alloc::{AllocError, Global};
+use std::test::Fail;
+use zone_machine::{Core, Step};
+
+// In each line an actor, a driver or 32, which is the control; its steps; and the place of the one that isn't allowed, and why. The core
+// has room for one entry. Point 0 and the section are in zone 0, points 1, 2 and 3 in zones 1, 2 and 3. Driver 0 goes by points 0, 1
+// and 3, driver 1 by points 3, 2 and 0.
+const REFUSED: &str = "\
+0: Glance => 0 Actor { actor: 0 }
+0: Board, Board => 1 Actor { actor: 0 }
+0: Board, Leave, Board => 2 Actor { actor: 0 }
+0: Board, Leave, Glance => 2 Actor { actor: 0 }
+2: Board => 0 Actor { actor: 2 }
+33: Board => 0 Actor { actor: 33 }
+0: Board, Take 1, Take 2, Glance => 3 Held { zone: 1 }
+0: Board, Take 1, Take 2, Leave => 3 Held { zone: 1 }
+0: Board, Take 4 => 1 Zone { zone: 4 }
+0: Board, Take 1, Take 0 => 2 Order { zone: 0 }
+0: Board, Take 1, Take 1 => 2 Order { zone: 1 }
+0: Board, Read Table => 1 Cell { cell: Table }
+0: Board, Take 0, Read Point 1 => 2 Cell { cell: Point { point: 1 } }
+0: Board, Take 0, Read Point 4 => 2 Cell { cell: Point { point: 4 } }
+0: Board, Take 1, Read Count 0 => 2 Cell { cell: Count { section: 0 } }
+0: Board, Take 0, Take 1, Take 2, Read Position 0 => 4 Cell { cell: Position { train: 0 } }
+0: Board, Take 0, Take 1, Take 2, Take 3, Read Count 1 => 5 Cell { cell: Count { section: 1 } }
+0: Board, Take 0, Take 1, Take 2, Take 3, Read Position 2 => 5 Cell { cell: Position { train: 2 } }
+0: Board, Take 0, Append => 2 Unknown { cell: Table }
+0: Board, Take 0, Read Table, Append => 3 Zone { zone: 1 }
+0: Board, Take 1, Read Table, Append => 3 Zone { zone: 0 }
+0: Board, Take 0, Read Table, Take 1, Append => 4 Unknown { cell: Point { point: 1 } }
+0: Board, Take 0, Read Table, Take 1, Read Point 1, Append => 5 Unknown { cell: Count { section: 0 } }
+0: Board, Block 0 => 1 Steps { steps: 0 }
+0: Board, Block 5 => 1 Steps { steps: 5 }
+0: Board, Take 0, Block 2 => 2 Unknown { cell: Table }
+0: Board, Take 0, Take 1, Read Table, Block 2 => 4 Zone { zone: 3 }
+0: Board, Take 0, Take 1, Take 3, Read Table, Read Point 1, Block 2 => 6 Unknown { cell: Point { point: 3 } }
+0: Board, Take 0, Take 1, Take 3, Read Table, Read Point 1, Read Point 3, Read Count 0, Block 2 => 8 Full { most: 1 }
+0: Board, Take 0, Pay Point 0 => 2 Cell { cell: Point { point: 0 } }
+0: Board, Take 0, Pay Point 4 => 2 Cell { cell: Point { point: 4 } }
+0: Board, Release 4 => 1 Zone { zone: 4 }
+0: Board, Take 1, Release 0 => 2 Zone { zone: 0 }
+0: Board, Take 0, Take 1, Release 1, Take 2 => 4 Closing
+0: Board, Take 0, Take 1, Release 1, Take 4 => 4 Closing
+0: Board, Take 0, Take 1, Release 1, Read Table => 4 Closing
+0: Board, Take 0, Take 1, Release 1, Append => 4 Closing
+0: Board, Take 0, Take 1, Release 1, Block 2 => 4 Closing
+0: Board, Take 0, Read Table, Take 1, Read Point 1, Read Count 0, Append, Append => 7 Closing
+0: Board, Take 0, Read Table, Take 1, Read Point 1, Read Count 0, Append, Release 0 => 7 Owed { cell: Point { point: 0 } }
+0: Board, Take 0, Read Table, Take 1, Read Point 1, Read Count 0, Append, Pay Point 0, Release 1 => 8 Owed { cell: Point { point: 1 } }
+0: Board, Take 0, Read Table, Take 1, Read Point 1, Read Count 0, Append, Pay Point 0, Pay Point 0 => 8 Cell { cell: Point { point: 0 } }
+0: Board, Take 0, Take 1, Read Table, Read Point 1, Read Count 0, Append, Pay Point 0, Pay Point 1, Pay Position 0, Pay Count 0, Release 0, Release 1, Glance, Take 0, Take 1, Take 3, Read Table, Read Point 3, Read Count 0, Append => 20 Full { most: 1 }
+1: Board, Take 0, Take 2, Take 3, Read Table, Read Point 2, Read Count 0, Append, Release 4 => 8 Zone { zone: 4 }
+32: Board, Block 1 => 1 Actor { actor: 32 }
+32: Board, Take 0, Append => 2 Unknown { cell: Table }
+32: Board, Take 0, Take 1, Take 3, Read Table, Append => 5 Zone { zone: 2 }
+32: Board, Take 0, Take 1, Take 2, Take 3, Read Table, Append => 6 Unknown { cell: Position { train: 0 } }
+32: Board, Take 0, Take 1, Take 2, Take 3, Read Table, Read Position 0, Read Position 1, Append => 8 NoMore
+32: Board, Take 0, Release 0, Leave, Board => 4 Actor { actor: 32 }";
+
+// The same in a core of a train with two tables, the second of which isn't due when the control tries it for the first time.
+const SECOND_TRY: &str =
+    "32: Board, Take 0, Read Table, Read Position 0, Append, Release 0, Take 0, Read Table, Read Position 0, Append => 9 Full { most: 1 }";
+
+// The cell of this name.
+fn cell_called(text: &str) -> Option<Cell> {
+    let (kind, number) = text.split_once(' ').unwrap_or((text, "0"));
+    let number = number.parse::<u32>().ok()?;
+    match kind {
+        "Point" => Some(Cell::Point { point: number }),
+        "Count" => Some(Cell::Count { section: number }),
+        "Position" => Some(Cell::Position { train: number }),
+        "Table" => Some(Cell::Table),
+        _ => None,
+    }
+}
+
+// A step of this kind on a zone, or of so many steps.
+fn numbered_step(kind: &str, number: u32) -> Option<Step> {
+    match kind {
+        "Take" => Some(Step::Take { zone: number }),
+        "Release" => Some(Step::Release { zone: number }),
+        "Block" => Some(Step::Block { steps: number }),
+        _ => None,
+    }
+}
+
+// The step of this name.
+fn step_called(text: &str) -> Option<Step> {
+    let (kind, rest) = text.split_once(' ').unwrap_or((text, ""));
+    match kind {
+        "Board" => Some(Step::Board),
+        "Glance" => Some(Step::Glance),
+        "Append" => Some(Step::Append),
+        "Leave" => Some(Step::Leave),
+        "Read" => cell_called(rest).map(|cell| Step::Read { cell }),
+        "Pay" => cell_called(rest).map(|cell| Step::Pay { cell }),
+        _ => numbered_step(kind, rest.parse::<u32>().ok()?),
+    }
+}
+
+// The steps of these names, all of one actor.
+fn steps_called(alloc: Global, actor: u32, names: &str) -> Result<Vec<(u32, Step)>, Fail> {
+    let mut steps = Vec::new(alloc);
+    for name in names.split(", ") {
+        steps.push((actor, step_called(name).ok_or("a step")?))?;
+    }
+    Ok(steps)
+}
+
+// A core of a document, with room for one entry.
+fn opened<'a>(
+    alloc: Global,
+    doc: &'a Doc,
+    tables: &'a [Accepted],
+) -> Result<Core<'a, Accepted>, AllocError>
+    requires { tables.now ≡ offers_of doc.now }
+{
+    Core::new(alloc, layout_of(doc), tables, start_of(doc), 1)
+}
+
+// Which of some steps in a core of a document isn't allowed, and why.
+fn refusal(alloc: Global, doc: &Doc, steps: &[(u32, Step)]) -> Result<String, Fail> {
+    let tables = accepted(alloc, doc)?;
+    let mut core = opened(alloc, doc, &tables)?;
+    match core.weave(steps) {
+        Ok(()) => Err("a refusal".into()),
+        Err((place, cause)) => Ok(format!(in alloc; "{place} {cause:?}")?),
+    }
+}
+
+// Whether a list of steps in a core of the document of this name ends as its row says.
+fn is_refused(alloc: Global, name: &str, row: &str) -> Result<bool, Fail> {
+    let (actor, rest) = row.split_once(": ").ok_or("an actor")?;
+    let (names, told) = rest.split_once(" => ").ok_or("steps")?;
+    let actor = actor.parse::<u32>().ok().ok_or("a number")?;
+    let steps = steps_called(alloc, actor, names)?;
+    let doc = read(alloc, name)?;
+    Ok(refusal(alloc, &doc, &steps)?.as_str() == told)
+}
+
+#[test]
+fn a_list_of_steps_ends_where_one_is_refused(rt: HostRuntime) -> Result<(), Fail> {
+    let alloc = rt.alloc();
+    for row in REFUSED.split('\n') {
+        assert!(rt; is_refused(alloc, "generated", row)?, "{row}");
+    }
+    assert!(rt; is_refused(alloc, "goes-on", SECOND_TRY)?);
+    Ok(())
+}

@@ -1,0 +1,2 @@
+mod Offered
+mod Rows

@@ -1,0 +1,19 @@
+//! Tests of the shared yard: scenes of several passes, each in a thread of its own, under a gate that lets one of them go on at a time.
+#![tactic(auto)]
+
+#[cfg(test)]
+mod blocks;
+#[cfg(test)]
+mod closings;
+#[cfg(test)]
+mod documents;
+#[cfg(test)]
+mod exchanges;
+#[cfg(test)]
+mod players;
+#[cfg(test)]
+mod scenes;
+#[cfg(test)]
+mod stages;
+#[cfg(test)]
+mod zones;
