@@ -76,6 +76,13 @@ def yard(parts, trains, length, sections):
     return document(beside(parts, missions_of), stretches(parts, trains, length + 2, ends, trains), False)
 
 
+def shuttles(trains, places, zones):
+    """Each train goes to and fro between two points of its own, which are in a zone that it shares with every so many trains."""
+    missions = beside(trains, lambda _: [[place % 2 for place in range(places)]])
+    points = [[f"P{point}", point // 2 % zones] for point in range(2 * trains)]
+    return {**document(missions, [], False), "zones": zones, "points": points}
+
+
 def with_nodes(document, nodes):
     """The text of a document with a certificate; each node is a text."""
     text = json.dumps(document, separators=(",", ":"))

@@ -19,7 +19,7 @@ import sys
 import tempfile
 import time
 
-from documents import corridor, loop, spoiled, with_nodes, yard
+from documents import corridor, loop, shuttles, spoiled, with_nodes, yard
 
 HERE = os.path.dirname(os.path.abspath(__file__))
 PROGRAM = os.path.join(HERE, "..", "crates", "ats", "out", "ats")
@@ -39,7 +39,7 @@ def run(text, command, stack=None):
             os.dup2(source.fileno(), 0)
             os.dup2(sink.fileno(), 1)
             os.dup2(errors.fileno(), 2)
-            os.execv(PROGRAM, [PROGRAM, command])
+            os.execv(PROGRAM, [PROGRAM, *command.split()])
         _, _, usage = os.wait4(child, 0)
         spent = (time.perf_counter() - began) * 1000
         sink.seek(0)
@@ -152,7 +152,18 @@ def stack_group():
         show([name, count, 256, said or written.decode().strip()], widths)
 
 
-GROUPS = {"check": check_group, "make": make_group, "stack": stack_group}
+def workers_group():
+    """Whole runs on one thread and by 1 to 4 workers, each of which has a zone of its own; and the check alone."""
+    widths = [8, 6, 9, 9, 9, 9, 9, 9]
+    show(["trains", "moves", "check ms", "run ms", "1 worker", "2", "3", "4"], widths)
+    for trains, places in [(4, 128), (8, 128), (16, 128), (32, 128)]:
+        text, _ = made(shuttles(trains, places, 4))
+        words = ["check", "run"] + [f"run --workers {workers}" for workers in range(1, 5)]
+        times = [f"{timed(text, command)[0]:.1f}" for command in words]
+        show([trains, trains * (places - 1)] + times, widths)
+
+
+GROUPS = {"check": check_group, "make": make_group, "stack": stack_group, "workers": workers_group}
 
 
 def main():
