@@ -35,7 +35,19 @@ fn check_part(
     visit_tree(alloc, table, lists, sums, nodes, part.first)
 }
 
-// The answers of the parts, in order, from as many threads as there are processors.
+// A tree of fewer nodes is checked sooner than threads are started.
+const NODES_WORTH_THREADS: usize = 20_000;
+
+// How few parts are worth a thread: one, or in a small tree more than there are.
+fn parts_worth_a_thread(nodes: &[Node]) -> usize {
+    if nodes.len() < NODES_WORTH_THREADS {
+        usize::MAX
+    } else {
+        1
+    }
+}
+
+// The answers of the parts, in order, from as many threads as there are processors, or where the tree is small from one.
 fn check_parts(
     rt: &(impl Threads + Sync),
     alloc: Global,
@@ -51,7 +63,7 @@ fn check_parts(
 {
     parts
         .par_iter()
-        .with_min_len(1)
+        .with_min_len(parts_worth_a_thread(nodes))
         .map(
             |part: &Part| -> Result<(), CheckFault>
                 requires { AreLists table.now lists.now × (length nodes.now ≤ 1000000) × IsPart table.now nodes.now part.now }
@@ -73,7 +85,7 @@ fn first_fault(answers: &[Result<(), CheckFault>]) -> Result<(), CheckFault>
     Ok(())
 }
 
-/// What `check` answers, from as many threads as there are processors.
+/// What `check` answers, from as many threads as there are processors, or where the tree is small from one.
 ///
 /// # Errors
 ///
