@@ -17,7 +17,7 @@ use std::test::Fail;
 use std::thread::Threads;
 use zone_yard::{Root, Yard};
 
-// The state after all of a yard's history. A close that is refused for want of memory leaves all as it was, and is tried once more.
+// The state after all of a yard's history. A close that runs out of memory leaves all as it was, and is tried once more.
 fn closed(alloc: Global, yard: Yard<'_>, root: Root) -> Result<PlainState, Fail>
     requires { root.yard ≡ yard }
     ensures { IfOk result (λ state. Keeps root.yard.setup.tables state.yard state.lines) }
