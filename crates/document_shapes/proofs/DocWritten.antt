@@ -71,7 +71,7 @@ tables-back version number (t ∷ ts) h of =
     let first = h.0 version number (All-head (IsOfVersion version) (seen_table t) (map seen_table ts) of) in
     rw (first, tables-back version (number + 1) ts h.1 (All-tail (IsOfVersion version) (seen_table t) (map seen_table ts) of)) refl
 
-all_read : {A E : Type 0} (given : Result A E) (version : Result ℕ E) (points : Result (List (List ℕ × ℕ)) E) (links : Result (List (List ℕ × List ℕ)) E)
+pub all_read : {A E : Type 0} (given : Result A E) (version : Result ℕ E) (points : Result (List (List ℕ × ℕ)) E) (links : Result (List (List ℕ × List ℕ)) E)
     (zones : Result ℕ E) (trains : Result (List (List ℕ)) E) (start : Result (List ℕ) E) (tables : ℕ → Result (List RawTable) E) (a : A) (m : RawDoc)
     → given ≡ Ok a → version ≡ Ok m.version → points ≡ Ok m.points → links ≡ Ok m.links → zones ≡ Ok m.zones → trains ≡ Ok m.trains → start ≡ Ok m.start → tables m.version ≡ Ok m.tables
     → doc_in_turn given version points links zones trains start tables ≡ Ok m

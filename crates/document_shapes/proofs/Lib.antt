@@ -20,3 +20,9 @@ pub mod TableWritten
 pub mod TableValue
 pub mod DocWritten
 pub mod TextBack
+pub mod NumberLemmas
+pub mod TokenLemmas
+pub mod FoundLemmas
+pub mod KeptMembers
+pub mod FoundParts
+pub mod TextMembers

@@ -101,13 +101,13 @@ given-back : {A : Type 0} (t : ℕ) (m : Member) (shape : Shape A) (put : A → 
 given-back t m shape put o ms found reads =
     ap (shaped (refused.Shape (Some t) m) shape) found ∙ shaped-back (refused.Shape (Some t) m) shape put o reads
 
-since-back : {A : Type 0} (least version : ℕ) (r : Result (Option A) ShapeRefused) (o : Option A) → (version < least → o ≡ None) → r ≡ Ok o → since least version r ≡ Ok o
+pub since-back : {A : Type 0} (least version : ℕ) (r : Result (Option A) ShapeRefused) (o : Option A) → (version < least → o ≡ None) → r ≡ Ok o → since least version r ≡ Ok o
 since-back least version r o older is = elim (leb_tells least version) [
   | inl now ↦ rw now.0 is
   | inr then_none ↦ rw then_none.0 (ap Ok (sym (older (omega (arith, then_none.1)))))
 ]
 
-all_read : {E : Type 0} (missions : Result (List (List (List ℕ))) E) (exits : Result (Option (List Bool)) E) (sections : Result (Option (List Section)) E)
+pub all_read : {E : Type 0} (missions : Result (List (List (List ℕ))) E) (exits : Result (Option (List Bool)) E) (sections : Result (Option (List Section)) E)
     (connections : Result (Option (List Connection)) E) (certificate : Result (Option (List Node)) E) (times : Result (Option (List (List ℕ))) E) (after : Result (Option ℕ) E)
     (t : TableMembers)
     → missions ≡ Ok t.missions → exits ≡ Ok t.exits → sections ≡ Ok t.sections → connections ≡ Ok t.connections → certificate ≡ Ok t.certificate → times ≡ Ok t.times → after ≡ Ok t.after

@@ -10,3 +10,8 @@ pub mod SeenSection
 pub mod Seen
 pub mod Written
 pub mod ReadsBack
+pub mod Taken
+pub mod SectionFound
+pub mod TableFound
+pub mod TableRead
+pub mod DocumentFound

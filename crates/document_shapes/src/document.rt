@@ -14,6 +14,7 @@ ghost use Rattle.document_shapes.specs.Seen.{seen_document, names_seen};
 use crate::from_value::whole;
 use crate::members::needed;
 use crate::table::read_tables;
+use crate::token_document::read_tokens;
 use crate::{Member, ShapeRefused, TableMembers};
 use serde_json::Value;
 use std::alloc::Global;
@@ -159,6 +160,9 @@ fn read_members(alloc: Global, value: &Value) -> Result<DocMembers, ShapeRefused
 pub fn read_document(alloc: Global, bytes: &[u8]) -> Result<DocMembers, ShapeRefused>
     ensures { Answers ShapeRefused.Memory seen_document result (members_of bytes.now) }
 {
+    if let Some(members) = read_tokens(alloc, bytes) {
+        return Ok(members);
+    }
     let value = read_value(alloc, bytes)?;
     read_members(alloc, &value)
 }

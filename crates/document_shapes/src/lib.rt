@@ -2,13 +2,19 @@
 #![tactic(auto)]
 
 mod document;
+mod from_members;
+mod from_tokens;
 mod from_value;
 mod member;
 mod members;
+mod number_text;
 mod parts;
 mod refused;
 mod table;
 mod to_value;
+mod token_document;
+mod token_parts;
+mod token_table;
 mod writing;
 
 pub use document::{DocMembers, read_document};

@@ -1,0 +1,9 @@
+use Rattle.std.proofs.Common.{length}
+use Rattle.document_shapes.proofs.TokenLemmas.{ItemsTo}
+use Rattle.document_shapes.proofs.from_tokens.items.Given as goal
+
+abbrev pub invariant-items : goal.invariant-items
+invariant-items g l = ItemsTo g.T.FromTokens.reads l.depth l.initial.reader l.found.items l.reader
+
+abbrev pub decreases-items : goal.decreases-items
+decreases-items g l = length l.reader

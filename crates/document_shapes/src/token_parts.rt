@@ -1,0 +1,147 @@
+// Nodes, connections, times and sections, read of the tokens of a text.
+ghost use Rattle.std.specs.Prelude.{◌≡◌, ◌≤◌, IfSome, Some, length, take};
+ghost use Rattle.document_shapes.specs.Parts as part;
+ghost use Rattle.document_shapes.specs.Shape as shape;
+ghost use Rattle.document_shapes.specs.Taken.{TakesItems};
+
+use crate::from_members::{FromMembers, object};
+use crate::from_tokens::{FromTokens, list_begins, read_into};
+use crate::parts::SectionMembers;
+use json::Reader;
+use rail_model::{Connection, Node, TrainTimes};
+use std::alloc::Global;
+
+// Whole numbers, at most four.
+#[derive(Drop)]
+struct FewNumbers {
+    numbers: [u32; 4],
+    count: usize,
+}
+
+impl FewNumbers {
+    fn as_slice(&self) -> &[u32]
+        requires { self.now.count ≤ 4 }
+        ensures { result.now ≡ take self.now.count self.now.numbers }
+    {
+        &self.numbers[..self.count]
+    }
+}
+
+// The whole numbers of a list up to its end, where there are at most four.
+fn few_numbers(alloc: Global, reader: &mut Reader<'_>, depth: usize) -> Option<FewNumbers>
+    ensures numbers { IfSome result (λ f. TakesItems (λ d n. shape.whole d ≡ Some n) depth reader.old (take f.count f.numbers) reader.new) }
+    ensures few { IfSome result (λ f. f.count ≤ 4) }
+{
+    let mut numbers = [0; 4];
+    let mut count = 0;
+    'items: while !reader.take_end_array() {
+        if count == 4 {
+            return None;
+        }
+        let number = u32::from_tokens(alloc, reader, depth)?;
+        numbers[count] = number;
+        count += 1;
+    }
+    Some(FewNumbers { numbers, count })
+}
+
+// The node that the numbers stand for.
+fn node_of(numbers: &[u32]) -> Option<Node>
+    ensures { result ≡ part.node_of numbers.now }
+{
+    match *numbers {
+        [0, train, place] => Some(Node::Split { train, place }),
+        [1, first, second] => Some(Node::Clash { first, second }),
+        [2, section] => Some(Node::Overfull { section }),
+        [3] => Some(Node::Arrived),
+        [4, train] => Some(Node::Move { train }),
+        _ => None,
+    }
+}
+
+impl FromTokens for Node {
+    ghost reads = { λ d n. part.node d ≡ Some n };
+
+    fn from_tokens(alloc: Global, reader: &mut Reader<'_>, depth: usize) -> Option<Node> {
+        let inner = list_begins(reader, depth)?;
+        let few = few_numbers(alloc, reader, inner)?;
+        node_of(few.as_slice())
+    }
+}
+
+// The connection that the numbers stand for.
+fn connection_of(numbers: &[u32]) -> Option<Connection>
+    ensures { result ≡ part.connection_of numbers.now }
+{
+    match *numbers {
+        [train, place, other, reached] => Some(Connection::new(train, place, other, reached)),
+        _ => None,
+    }
+}
+
+impl FromTokens for Connection {
+    ghost reads = { λ d k. part.connection d ≡ Some k };
+
+    fn from_tokens(alloc: Global, reader: &mut Reader<'_>, depth: usize) -> Option<Connection> {
+        let inner = list_begins(reader, depth)?;
+        let few = few_numbers(alloc, reader, inner)?;
+        connection_of(few.as_slice())
+    }
+}
+
+impl FromTokens for TrainTimes {
+    ghost reads = { λ d t. shape.list_of shape.whole d ≡ Some t };
+
+    fn from_tokens(alloc: Global, reader: &mut Reader<'_>, depth: usize) -> Option<TrainTimes> {
+        let steps = Vec::<u32>::from_tokens(alloc, reader, depth)?;
+        Some(TrainTimes::from(steps))
+    }
+}
+
+// What is found of a section's members.
+#[derive(Drop)]
+struct FoundSection {
+    limit: Option<u32>,
+    changes: Option<Vec<Vec<i32>>>,
+}
+
+impl FromMembers for FoundSection {
+    ghost use Rattle.document_shapes.specs.SectionFound.{SectionFinds};
+
+    ghost finds = { SectionFinds };
+
+    fn nothing() -> FoundSection {
+        FoundSection {
+            limit: None,
+            changes: None,
+        }
+    }
+
+    fn find(
+        &mut self,
+        alloc: Global,
+        reader: &mut Reader<'_>,
+        depth: usize,
+        name: &str,
+    ) -> Option<()> {
+        match name {
+            "limit" => read_into(&mut self.limit, alloc, reader, depth),
+            "changes" => read_into(&mut self.changes, alloc, reader, depth),
+            _ => None,
+        }
+    }
+}
+
+impl FromTokens for SectionMembers {
+    ghost use Rattle.document_shapes.specs.SeenSection.{seen_section};
+
+    ghost reads = { λ d s. part.section d ≡ Some (seen_section s) };
+
+    fn from_tokens(alloc: Global, reader: &mut Reader<'_>, depth: usize) -> Option<SectionMembers> {
+        let found: FoundSection = object(alloc, reader, depth)?;
+        let FoundSection { limit, changes } = found;
+        let limit = limit?;
+        let changes = changes?;
+        Some(SectionMembers { limit, changes })
+    }
+}
