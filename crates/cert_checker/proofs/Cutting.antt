@@ -15,17 +15,12 @@ use Rattle.cert_checker.specs.declared.faults.CheckFault.{CheckFault}
 use Rattle.cert_checker.specs.declared.faults.CheckFault.TheVariants.{Memory, Bad as BadNode}
 use Rattle.cert_checker.specs.Faults.{HasFault}
 use Rattle.cert_checker.specs.Walked.{walked, IsFirstBad, StopsAt}
-use Rattle.cert_checker.specs.Cut.{IsEnd, IsCut, IsDivided, IsChecked, Divides, part_visits, first_fault}
+use Rattle.cert_checker.specs.Cut.{IsEnd, IsCut, IsDivided, IsChecked, part_visits, first_fault}
 use Rattle.cert_checker.proofs.Whole.{walk_whole, visits_answer}
 
 -- one part is the whole
 pub one_part : (T : Table) (nodes : List Node) (part : Part) → part.first ≡ 0 → IsCut T nodes 0 (part ∷ []) (part_visits nodes part)
 one_part T nodes part first = ([], [], sym (append-nil (part_visits nodes part)), All-nil (IsGoodVisit T), omega (arith, first), All-nil (IsGoodVisit T))
-
-pub kept : (T : Table) (nodes : List Node) (old : List Part) (part copy : Part) → copy ≡ part → Divides T nodes old part (old ++ copy ∷ [])
-kept T nodes old part copy same at later visits cut =
-    subst (λ (ps : List Part). IsCut T nodes at ps visits) (sym (append_assoc old (copy ∷ []) later))
-    (subst (λ (p : Part). IsCut T nodes at (old ++ p ∷ later) visits) (sym same) cut)
 
 -- the visits of a divided part
 halves_visits : (T : Table) (nodes : List Node) (part left right : Part) (i m : ℕ) → IsDivided T nodes part i m
@@ -64,22 +59,14 @@ divided_here T nodes part left right i m at later visits d at_left is_left is_ri
       ([], behind, refl, All-nil (IsGoodVisit T), omega (arith, left_ends), subst (λ (n : ℕ). IsCut T nodes n later behind) ends cut.5),
     )
 
--- behind other parts
-divided_behind : (T : Table) (nodes : List Node) (front : List Part) (part left right : Part) (i m at : ℕ) (later : List Part) (visits : List Visit) → IsDivided T nodes part i m
+-- so behind other parts
+pub divided_behind : (T : Table) (nodes : List Node) (front : List Part) (part left right : Part) (i m at : ℕ) (later : List Part) (visits : List Visit) → IsDivided T nodes part i m
     → left.first ≡ part.first + 1 → left.ranges ≡ left_half part.ranges i m → right.ranges ≡ right_half part.ranges i m → IsEnd nodes (part.first + 1) right.first
     → IsCut T nodes at (front ++ part ∷ later) visits → IsCut T nodes at (front ++ left ∷ right ∷ later) visits
 divided_behind T nodes [] part left right i m at later visits d at_left is_left is_right end cut =
     divided_here T nodes part left right i m at later visits d at_left is_left is_right end cut
 divided_behind T nodes (p ∷ front) part left right i m at later visits d at_left is_left is_right end cut =
     (cut.0, cut.1, cut.2, cut.3, cut.4, divided_behind T nodes front part left right i m _ later cut.1 d at_left is_left is_right end cut.5)
-
-pub two_for_one : (T : Table) (nodes : List Node) (old : List Part) (part left right : Part) (i m : ℕ) → IsDivided T nodes part i m
-    → left.first ≡ part.first + 1 → left.ranges ≡ left_half part.ranges i m → right.ranges ≡ right_half part.ranges i m → IsEnd nodes (part.first + 1) right.first
-    → Divides T nodes old part ((old ++ left ∷ []) ++ right ∷ [])
-two_for_one T nodes old part left right i m d at_left is_left is_right end at later visits cut =
-    subst (λ (ps : List Part). IsCut T nodes at ps visits)
-    (sym (append_assoc old (left ∷ []) (right ∷ later)) ∙ sym (append_assoc (old ++ left ∷ []) (right ∷ []) later))
-    (divided_behind T nodes old part left right i m at later visits d at_left is_left is_right end cut)
 
 -- a bad visit in the middle is the first where those before it are good
 shifted : (T : Table) (visits front middle rest : List Visit) (at : ℕ) (e : Bad) → visits ≡ front ++ (middle ++ rest) → All (λ v. IsGood T v.0 v.1) front

@@ -1,5 +1,6 @@
 pub mod Cutting
-pub mod Ends
+pub mod Dealt
+pub mod Ending
 pub mod Rows
 pub mod Steps
 pub mod Visiting

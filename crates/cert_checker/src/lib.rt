@@ -3,10 +3,12 @@
 
 mod accepted;
 mod checks;
+mod ends;
 mod faults;
 mod good;
 mod halves;
 mod leaves;
+mod loads;
 mod par;
 mod parts;
 mod places;

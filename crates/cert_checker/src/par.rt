@@ -3,11 +3,13 @@ ghost use Rattle.std.specs.Prelude.{◌≡◌, ◌≤◌, length, All, IfOk, IfE
 ghost use Rattle.std.specs.List.{AllZip};
 ghost use Rattle.rail_model.specs.Table.{IsTable};
 ghost use Rattle.rail_model.specs.Certificate.{Accepts};
-ghost use Rattle.cert_checker.specs.Cut.{IsPart, IsChecked, first_fault as first_fault_of};
+ghost use Rattle.cert_checker.specs.Cut.{IsPart, IsChecked, IsLoad, IsLoadChecked, first_fault as first_fault_of};
 ghost use Rattle.cert_checker.specs.Faults.{HasFault};
 ghost use Rattle.range_sums.specs.Sums.{AreLists};
 
 use crate::CheckFault;
+use crate::checks::check;
+use crate::loads::{Load, loads_of};
 use crate::parts::{Part, cut};
 use crate::walk::visit_tree;
 use cert_tree::Cert;
@@ -16,6 +18,12 @@ use range_sums::{Lists, RangeSums};
 use rayon::prelude::*;
 use std::alloc::{AllocError, Global};
 use std::thread::Threads;
+
+/// A tree of fewer nodes is checked sooner than threads are started.
+const NODES_WORTH_THREADS: usize = 20_000;
+
+/// A load has at least this share of the nodes, if there are more.
+const LOADS: usize = 16;
 
 // The check of one part.
 fn check_part(
@@ -35,40 +43,47 @@ fn check_part(
     visit_tree(alloc, table, lists, sums, nodes, part.first)
 }
 
-// A tree of fewer nodes is checked sooner than threads are started.
-const NODES_WORTH_THREADS: usize = 20_000;
-
-// How few parts are worth a thread: one, or in a small tree more than there are.
-fn parts_worth_a_thread(nodes: &[Node]) -> usize {
-    if nodes.len() < NODES_WORTH_THREADS {
-        usize::MAX
-    } else {
-        1
+// The check of the parts of a load, up to the first fault.
+fn check_load(
+    alloc: Global,
+    table: &Table,
+    lists: &Lists,
+    nodes: &[Node],
+    load: &Load,
+) -> Result<(), CheckFault>
+    requires lists { AreLists table.now lists.now }
+    requires few { length nodes.now ≤ 1000000 }
+    requires load { IsLoad table.now nodes.now load.now }
+    ensures { IsLoadChecked table.now nodes.now load.now result }
+{
+    for part in load.parts.iter() {
+        check_part(alloc, table, lists, nodes, part)?;
     }
+    Ok(())
 }
 
-// The answers of the parts, in order, from as many threads as there are processors, or where the tree is small from one.
-fn check_parts(
+// The answers of the loads, in order, from as many threads as there are processors.
+fn check_loads(
     rt: &(impl Threads + Sync),
     alloc: Global,
     table: &Table,
     lists: &Lists,
     nodes: &[Node],
-    parts: &[Part],
+    loads: &[Load],
 ) -> Result<Vec<Result<(), CheckFault>>, AllocError>
     requires lists { AreLists table.now lists.now }
     requires few { length nodes.now ≤ 1000000 }
-    requires parts { All (λ p. IsPart table.now nodes.now p) parts.now }
-    ensures { IfOk result (λ answers. AllZip (λ p r. IsChecked table.now nodes.now p r) parts.now answers.items) }
+    requires loads { All (λ load. IsLoad table.now nodes.now load) loads.now }
+    ensures { IfOk result (λ answers. AllZip (λ load r. IsLoadChecked table.now nodes.now load r) loads.now answers.items) }
 {
-    parts
+    loads
         .par_iter()
-        .with_min_len(parts_worth_a_thread(nodes))
+        .with_min_len(1)
         .map(
-            |part: &Part| -> Result<(), CheckFault>
-                requires { AreLists table.now lists.now × (length nodes.now ≤ 1000000) × IsPart table.now nodes.now part.now }
-                ensures { IsChecked table.entry.now nodes.entry.now part.now result }
-            { check_part(alloc, table, lists, nodes, part) },
+            |load: &Load| -> Result<(), CheckFault>
+                requires { AreLists table.now lists.now × (length nodes.now ≤ 1000000) × IsLoad table.now nodes.now load.now }
+                ensures { IsLoadChecked table.entry.now nodes.entry.now load.now result }
+            { check_load(alloc, table, lists, nodes, load) },
         )
         .collect(rt, alloc)
 }
@@ -101,8 +116,12 @@ pub fn check_par(
     ensures formed { IsTable table.now }
 {
     let nodes = cert.as_slice();
+    if nodes.len() < NODES_WORTH_THREADS {
+        return check(alloc, table, cert);
+    }
     let parts = cut(alloc, table, nodes)?;
+    let loads = loads_of(alloc, parts, nodes.len() / LOADS)?;
     let lists = Lists::new(alloc, table)?;
-    let answers = check_parts(rt, alloc, table, &lists, nodes, &parts)?;
+    let answers = check_loads(rt, alloc, table, &lists, nodes, &loads)?;
     first_fault(&answers)
 }

@@ -1,22 +1,19 @@
-// A tree cut at its top into parts with boxes of their own.
-ghost use Rattle.std.specs.Prelude.{◌≡◌, List, ◌∷◌, [], ◌<◌, ◌≤◌, length, drop, All, IfOk, IfSome, OnOk};
+// A tree cut into parts with boxes of their own.
+ghost use Rattle.std.specs.Prelude.{◌≡◌, List, ◌∷◌, ◌++◌, [], ◌<◌, ◌≤◌, length, drop, reverse, All, IfOk, IfSome, OnOk};
 ghost use Rattle.rail_model.specs.Table.{IsTable, trains};
-ghost use Rattle.rail_model.specs.Certificate.{IsBox, full_box as full_box_of, preorder};
-ghost use Rattle.cert_checker.specs.Cut.{Visited, IsEnd, IsPart, IsCut, Divides, IsDivided};
+ghost use Rattle.rail_model.specs.Certificate.{IsBox, full_box as full_box_of};
+ghost use Rattle.cert_checker.specs.Cut.{AreEnds, IsPart, IsCut, IsCutFurther, IsDivided};
 ghost use Rattle.cert_checker.specs.Walked.{walked};
 
+use crate::ends::ends_of;
 use crate::halves::halves;
 use crate::places::splits;
-use cert_tree::behind;
 use rail_model::{Node, Table};
 use range_sums::{Ranges, full_box};
 use std::alloc::{AllocError, Global};
 
-/// With so many parts a tree is not cut further.
-const ENOUGH: usize = 64;
-
-/// A tree is cut at most so far below its root.
-const DEEPEST: u32 = 12;
+/// A part that is a split is divided if it has more than this share of the nodes.
+const SHARE: usize = 64;
 
 /// A subtree: the index of its first node, and its box.
 #[derive(Drop)]
@@ -25,99 +22,79 @@ pub(crate) struct Part {
     pub ranges: Ranges,
 }
 
-// The index behind the tree that begins at an index.
-fn end_of(nodes: &[Node], first: usize) -> usize
-    requires few { length nodes.now ≤ 1000000 }
-    requires first { first ≤ length nodes.now }
-    ensures end { IsEnd nodes.now first result }
-    ensures within { result ≤ length nodes.now }
-{
-    let mut wanted = 1;
-    for index in first..nodes.len() {
-        if wanted == 0 {
-            return index;
-        }
-        wanted = behind(nodes[index], wanted);
-    }
-    nodes.len()
+// The nodes of a tree of a table, where the subtree of each ends, and how many nodes a part may have.
+#[derive(Clone, Copy)]
+struct Spelled<'a> {
+    table: &'a Table,
+    nodes: &'a [Node],
+    ends: &'a [u32],
+    most: usize,
 }
 
-// The train and the place at which a part's first node splits it, if it does.
-fn division(table: &Table, nodes: &[Node], part: &Part) -> Option<(u32, u32)>
-    requires { IsBox table.now part.now.ranges }
-    ensures { IfSome result (λ split. IsDivided table.now nodes.now part.now split.0 split.1) }
+// The train and the place at which a part's first node splits it, if it does and the part is large.
+fn division(tree: &Spelled<'_>, part: &Part) -> Option<(u32, u32)>
+    requires ends { AreEnds tree.now.nodes.now tree.now.ends.now }
+    requires part { IsPart tree.now.table.now tree.now.nodes.now part.now }
+    ensures { IfSome result (λ split. IsDivided tree.now.table.now tree.now.nodes.now part.now split.0 split.1) }
 {
-    if part.first >= nodes.len() {
+    let first = part.first;
+    if first >= tree.nodes.len() || (tree.ends[first] as usize).saturating_sub(first) <= tree.most {
         return None;
     }
-    let Node::Split { train, place } = nodes[part.first] else {
+    let Node::Split { train, place } = tree.nodes[first] else {
         return None;
     };
-    if splits(table, &part.ranges, train, place) {
+    if splits(tree.table, &part.ranges, train, place) {
         Some((train, place))
     } else {
         None
     }
 }
 
-// Adds a part, or the two parts into which its first node splits it.
+// Adds a part to the others; or if it is large, opens its two halves, the first of which comes next.
 fn divide(
     alloc: Global,
-    table: &Table,
-    nodes: &[Node],
-    part: &Part,
+    tree: &Spelled<'_>,
+    part: Part,
+    pending: &mut Vec<Part>,
     parts: &mut Vec<Part>,
 ) -> Result<(), AllocError>
-    requires few { length nodes.now ≤ 1000000 }
-    requires part { IsPart table.now nodes.now part.now }
-    requires parts { All (λ p. IsPart table.now nodes.now p) parts.old.items }
-    ensures divides { OnOk result (Divides table.now nodes.now parts.old.items part.now parts.new.items) }
-    ensures parts { OnOk result (All (λ p. IsPart table.now nodes.now p) parts.new.items) }
+    requires ends { AreEnds tree.now.nodes.now tree.now.ends.now }
+    requires part { IsPart tree.now.table.now tree.now.nodes.now part }
+    requires pending { All (λ p. IsPart tree.now.table.now tree.now.nodes.now p) pending.old.items }
+    requires parts { All (λ p. IsPart tree.now.table.now tree.now.nodes.now p) parts.old.items }
+    ensures further { OnOk result (IsCutFurther tree.now.table.now tree.now.nodes.now
+        (parts.old.items ++ part ∷ reverse pending.old.items) (parts.new.items ++ reverse pending.new.items)) }
+    ensures pending { OnOk result (All (λ p. IsPart tree.now.table.now tree.now.nodes.now p) pending.new.items) }
+    ensures parts { OnOk result (All (λ p. IsPart tree.now.table.now tree.now.nodes.now p) parts.new.items) }
 {
-    let ranges = part.ranges.copy(alloc)?;
-    match division(table, nodes, part) {
-        Some((train, place)) => {
-            let first = part.first + 1;
-            let (left, right) = halves(alloc, ranges, train, place)?;
-            parts.push(Part {
-                first,
-                ranges: left,
-            })?;
-            parts.push(Part {
-                first: end_of(nodes, first),
-                ranges: right,
-            })?;
-        }
-        None => {
-            parts.push(Part {
-                first: part.first,
-                ranges,
-            })?;
-        }
+    let Some((train, place)) = division(tree, &part) else {
+        return Ok(parts.push(part)?);
+    };
+    let first = part.first + 1;
+    let (left, right) = halves(alloc, part.ranges, train, place)?;
+    pending.push(Part {
+        first: tree.ends[first] as usize,
+        ranges: right,
+    })?;
+    pending.push(Part {
+        first,
+        ranges: left,
+    })?;
+    Ok(())
+}
+
+// Adds the pending parts, the last one first.
+fn add_pending(mut pending: Vec<Part>, parts: &mut Vec<Part>) -> Result<(), AllocError>
+    ensures { OnOk result (parts.new.items ≡ parts.old.items ++ reverse pending.items) }
+{
+    while let Some(part) = pending.pop() {
+        parts.push(part)?;
     }
     Ok(())
 }
 
-// Divides each part once.
-fn divided(
-    alloc: Global,
-    table: &Table,
-    nodes: &[Node],
-    parts: &[Part],
-) -> Result<Vec<Part>, AllocError>
-    requires few { length nodes.now ≤ 1000000 }
-    requires parts { All (λ p. IsPart table.now nodes.now p) parts.now }
-    ensures cut { IfOk result (λ finer. (visits : List Visited) → IsCut table.now nodes.now 0 parts.now visits → IsCut table.now nodes.now 0 finer.items visits) }
-    ensures parts { IfOk result (λ finer. All (λ p. IsPart table.now nodes.now p) finer.items) }
-{
-    let mut finer = Vec::new(alloc);
-    for part in parts {
-        divide(alloc, table, nodes, part, &mut finer)?;
-    }
-    Ok(finer)
-}
-
-/// The parts of a tree, in preorder.
+/// The parts of a tree, in preorder. Each has few of the nodes, or one alone.
 pub(crate) fn cut(alloc: Global, table: &Table, nodes: &[Node]) -> Result<Vec<Part>, AllocError>
     requires few { length nodes.now ≤ 1000000 }
     ensures cut { IfOk result (λ parts. IsCut table.now nodes.now 0 parts.items (walked (full_box_of table.now ∷ []) (drop 0 nodes.now))) }
@@ -125,13 +102,22 @@ pub(crate) fn cut(alloc: Global, table: &Table, nodes: &[Node]) -> Result<Vec<Pa
     ensures formed { IsTable table.now }
 {
     let ranges = full_box(alloc, table)?;
+    let ends = ends_of(alloc, nodes)?;
+    let tree = Spelled {
+        table,
+        nodes,
+        ends: &ends,
+        most: nodes.len() / SHARE,
+    };
+    let mut pending = Vec::new(alloc);
+    pending.push(Part { first: 0, ranges })?;
     let mut parts = Vec::new(alloc);
-    parts.push(Part { first: 0, ranges })?;
-    for _depth in 0..DEEPEST {
-        if parts.len() >= ENOUGH {
+    for _node in 0..nodes.len() {
+        let Some(part) = pending.pop() else {
             return Ok(parts);
-        }
-        parts = divided(alloc, table, nodes, &parts)?;
+        };
+        divide(alloc, &tree, part, &mut pending, &mut parts)?;
     }
+    add_pending(pending, &mut parts)?;
     Ok(parts)
 }

@@ -1,0 +1,10 @@
+use Rattle.std.proofs.Common.{drop}
+use Rattle.std.specs.Prelude.{Result}
+use Rattle.cert_checker.specs.declared.faults.CheckFault.{CheckFault}
+use Rattle.cert_checker.specs.Cut.{ArePartsChecked}
+use Rattle.cert_checker.proofs.par.check_load.Given as goal
+
+abbrev pub invariant-loop-part : goal.invariant-loop-part
+invariant-loop-part l =
+    (answer : Result (Unit {0}) CheckFault) → ArePartsChecked l.table l.nodes (drop l.part-index l.load.parts.items) answer
+    → ArePartsChecked l.table l.nodes l.load.parts.items answer
