@@ -4,7 +4,7 @@ ghost use Rattle.std.specs.Prelude.{◌≡◌};
 use crate::cell_lists::Cells;
 use crate::claims::Claim;
 use crate::deciding::decide_steps;
-use crate::filling::{cells_needed, zones_needed};
+use crate::filling::{list_cells, zones_needed};
 use crate::granting::owe_effects;
 use crate::{Cell, Known, Owed};
 use rail_model::{Ask, BlockAsk, Layout, Table, last_of};
@@ -90,14 +90,10 @@ impl<'a> Footprint<'a> {
             place,
             steps: steps.min(last_of(table, train).saturating_sub(place)),
         };
-        let cells = cells_needed(table, claim);
-        let zones = zones_needed(layout, table, claim, cells.as_slice());
-        *self = Footprint {
-            table: Some(table),
-            claim,
-            zones,
-            cells,
-        };
+        list_cells(table, claim, &mut self.cells);
+        self.zones = zones_needed(layout, table, claim, self.cells.as_slice());
+        self.table = Some(table);
+        self.claim = claim;
     }
 
     /// How many steps are claimed.

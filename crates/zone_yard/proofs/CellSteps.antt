@@ -1,5 +1,5 @@
 -- Looks at the table in force, reads under a guard and payments keep the rule, by the core's own steps.
-use Rattle.std.proofs.Common.{◌≡◌, ◌≢◌, ◌⊎◌, ℕ, zero, suc, ◌<◌, ◌≤◌, List, [], ◌∷◌, length, set, get_or, true, false, Ok, Some, refl, sym, ap, ◌∙◌, subst, inl, inr, arith, get_or-set_other, get_or-set_same, ⊎_elim}
+use Rattle.std.proofs.Common.{◌≡◌, ◌≢◌, ◌⊎◌, ℕ, zero, suc, ◌*◌, ◌<◌, ◌≤◌, List, [], ◌∷◌, length, set, get_or, true, false, Ok, Some, refl, sym, ap, ◌∙◌, subst, inl, inr, arith, get_or-set_other, get_or-set_same, ⊎_elim}
 use Rattle.std.specs.Prelude.{slice_get}
 use Rattle.std.proofs.lemmas.List.{set-get_or}
 use mathlib.Core.Option.{none, some}
@@ -21,6 +21,7 @@ use Rattle.zone_yard.specs.Setup.{Setup, core}
 use Rattle.zone_yard.specs.Views.{View, glanced, read, read_table, paid}
 use Rattle.zone_yard.specs.Kept.{Kept}
 use Rattle.zone_yard.specs.Tells.{Sat, Glances, Reads, ReadsTable, Pays}
+use Rattle.zone_yard.proofs.Apart.{found_apart}
 use Rattle.zone_yard.proofs.Keeps.{St, own_keeps, Stays}
 
 glances_at : (S : CoreSetup) (p : ℕ) (w : World) (a : Actor) → actor w p ≡ a → a.stage ≡ Aboard → a.held ≡ []
@@ -44,19 +45,20 @@ table_low S s k =
     let b = k.sound.lags in omega arith
 
 -- a load of a word by a pass, whose actor and notes change
-load_keeps : (S : Setup) (s : St) (k : Kept S s) (id i : ℕ) (v v' : View) (c : List (ℕ × Unit {0})) → get_elem? s.views id ≡ some v
+load_keeps : (S : Setup) (s : St) (k : Kept S s) (id i j : ℕ) (v v' : View) (c : List (ℕ × Unit {0})) → j ≡ 8 * i → get_elem? s.views id ≡ some v
     → v.aboard ≡ true → Stays v v' → v'.actor.stage ≡ Aboard → v'.noted ≤ word (core S) k.world TableCell → Sound (core S) (with_actor k.world v.number v'.actor)
-    → Kept S (stepped s i (get_or s.words i 0) id c v' keeps)
-load_keeps S s k id i v v' c at aboard stays stage noted sound =
+    → Kept S (stepped s j (get_or s.words j 0) id c v' keeps)
+load_keeps S s k id i j v v' c is at aboard stays stage noted sound =
     let w : World = k.world in
-    let n : ℕ = get_or s.words i 0 in
-    let found : n ≡ get_or w.words i 0 = ap (λ ws. get_or ws i 0) k.words in
+    let n : ℕ = get_or s.words j 0 in
+    let found : n ≡ get_or w.words i 0 = found_apart s.words w.words i j k.words is in
     let same : with_actor w v.number v'.actor ≡ with_word w i n v.number v'.actor = same_word w i v.number v'.actor ∙ ap (λ m. with_word w i m v.number v'.actor) (sym found) in
-    own_keeps S s k id i n v v' c at aboard stays stage (subst (Sound (core S)) same sound)
+    subst (λ x. Kept S (stepped s x n id c v' keeps)) (sym is)
+    (own_keeps S s k id i n v v' c at aboard stays stage (subst (Sound (core S)) same sound)
     (subst (λ x. word (core S) w TableCell ≤ word (core S) x TableCell) same (omega arith))
-    (subst (λ x. v'.noted ≤ word (core S) x TableCell) same noted)
+    (subst (λ x. v'.noted ≤ word (core S) x TableCell) same noted))
 
-pub glance_allows : (S : Setup) → (slots id i : ℕ) (me : Sat) → i ≡ word_of (core S) TableCell → me.0.aboard ≡ true → me.0.actor.held ≡ []
+pub glance_allows : (S : Setup) → (slots id i : ℕ) (me : Sat) → i ≡ 8 * word_of (core S) TableCell → me.0.aboard ≡ true → me.0.actor.held ≡ []
     → Allows (Kept S) slots id me i (λ n. n) (Glances (step slots i 0 0 none) me)
 glance_allows S slots id i me is aboard free s k _ at _ =
     let v : View = me.0 in
@@ -64,14 +66,14 @@ glance_allows S slots id i me is aboard free s k _ at _ =
     let n : ℕ = get_or s.words i 0 in
     let fit = k.fits id v at in
     let here = fit.aboard aboard in
-    let found : n ≡ word (core S) w TableCell = ap (λ ws. get_or ws i 0) k.words ∙ ap (λ j. get_or w.words j 0) is in
+    let found : n ≡ word (core S) w TableCell = found_apart s.words w.words (word_of (core S) TableCell) i k.words is in
     let sees : ℕ → Actor = λ t. record v.actor { glance = Some t } in
     let low = table_low S s k in
     let t = fit.noted in (
       glanced n v,
       keeps,
       tt,
-      load_keeps S s k id i v (glanced n v) me.1 at aboard record { setup = refl; aboard = aboard; number = refl; seen = refl; mine = refl; joined = refl } here.stage (omega arith)
+      load_keeps S s k id (word_of (core S) TableCell) i v (glanced n v) me.1 is at aboard record { setup = refl; aboard = aboard; number = refl; seen = refl; mine = refl; joined = refl } here.stage (omega arith)
           (subst (λ m. Sound (core S) (with_actor w v.number (sees m))) (sym found)
           (step_sound (core S) w v.number Glance (seen.Number (word (core S) w TableCell)) (with_actor w v.number (sees (word (core S) w TableCell))) k.formed k.sound
           (glances_at (core S) v.number w v.actor here.actor here.stage free))),
@@ -79,7 +81,7 @@ glance_allows S slots id i me is aboard free s k _ at _ =
     )
 
 -- the table in force is read under a zone
-pub read_table_allows : (S : Setup) → (slots id i : ℕ) (me : Sat) → i ≡ word_of (core S) TableCell → me.0.aboard ≡ true → me.0.actor.closing ≡ false
+pub read_table_allows : (S : Setup) → (slots id i : ℕ) (me : Sat) → i ≡ 8 * word_of (core S) TableCell → me.0.aboard ≡ true → me.0.actor.closing ≡ false
     → may_read (core S) me.0.actor.held TableCell ≡ true → Allows (Kept S) slots id me i (λ n. n) (ReadsTable (step slots i 0 0 none) me)
 read_table_allows S slots id i me is aboard still guard s k _ at _ =
     let v : View = me.0 in
@@ -87,14 +89,14 @@ read_table_allows S slots id i me is aboard still guard s k _ at _ =
     let n : ℕ = get_or s.words i 0 in
     let fit = k.fits id v at in
     let here = fit.aboard aboard in
-    let found : n ≡ word (core S) w TableCell = ap (λ ws. get_or ws i 0) k.words ∙ ap (λ j. get_or w.words j 0) is in
+    let found : n ≡ word (core S) w TableCell = found_apart s.words w.words (word_of (core S) TableCell) i k.words is in
     let knows : ℕ → Actor = λ t. record v.actor { known = put TableCell t v.actor.known } in
     let low = table_low S s k in
     let t = fit.noted in (
       read_table n v,
       keeps,
       tt,
-      load_keeps S s k id i v (read_table n v) me.1 at aboard record { setup = refl; aboard = aboard; number = refl; seen = refl; mine = refl; joined = refl } here.stage (omega arith)
+      load_keeps S s k id (word_of (core S) TableCell) i v (read_table n v) me.1 is at aboard record { setup = refl; aboard = aboard; number = refl; seen = refl; mine = refl; joined = refl } here.stage (omega arith)
           (subst (λ m. Sound (core S) (with_actor w v.number (knows m))) (sym found)
           (step_sound (core S) w v.number (Read TableCell) (seen.Number (word (core S) w TableCell)) (with_actor w v.number (knows (word (core S) w TableCell))) k.formed k.sound
           (reads_it (core S) v.number TableCell w v.actor here.actor here.stage still refl guard))),
@@ -102,7 +104,7 @@ read_table_allows S slots id i me is aboard still guard s k _ at _ =
     )
 
 -- a cell is read under its guard
-pub read_allows : (S : Setup) → (slots id i : ℕ) (c : Cell) (me : Sat) → i ≡ word_of (core S) c → me.0.aboard ≡ true → me.0.actor.closing ≡ false
+pub read_allows : (S : Setup) → (slots id i : ℕ) (c : Cell) (me : Sat) → i ≡ 8 * word_of (core S) c → me.0.aboard ≡ true → me.0.actor.closing ≡ false
     → is_cell (core S) c ≡ true → may_read (core S) me.0.actor.held c ≡ true → Allows (Kept S) slots id me i (λ n. n) (Reads c me)
 read_allows S slots id i c me is aboard still cell guard s k _ at _ =
     let v : View = me.0 in
@@ -110,12 +112,12 @@ read_allows S slots id i c me is aboard still cell guard s k _ at _ =
     let n : ℕ = get_or s.words i 0 in
     let fit = k.fits id v at in
     let here = fit.aboard aboard in
-    let found : n ≡ word (core S) w c = ap (λ ws. get_or ws i 0) k.words ∙ ap (λ j. get_or w.words j 0) is in
+    let found : n ≡ word (core S) w c = found_apart s.words w.words (word_of (core S) c) i k.words is in
     let knows : ℕ → Actor = λ t. record v.actor { known = put c t v.actor.known } in (
       read c n v,
       keeps,
       tt,
-      load_keeps S s k id i v (read c n v) me.1 at aboard record { setup = refl; aboard = aboard; number = refl; seen = refl; mine = refl; joined = refl } here.stage fit.noted
+      load_keeps S s k id (word_of (core S) c) i v (read c n v) me.1 is at aboard record { setup = refl; aboard = aboard; number = refl; seen = refl; mine = refl; joined = refl } here.stage fit.noted
           (subst (λ m. Sound (core S) (with_actor w v.number (knows m))) (sym found)
           (step_sound (core S) w v.number (Read c) (seen.Number (word (core S) w c)) (with_actor w v.number (knows (word (core S) w c))) k.formed k.sound
           (reads_it (core S) v.number c w v.actor here.actor here.stage still cell guard))),
@@ -157,7 +159,7 @@ table_rises S w p n c a a' ok sound is low due =
     get_some (x ∷ xs) (suc i) a d lt e = get_some xs i a d (omega arith) e
 
 -- an owed cell is written
-pub pay_allows : (S : Setup) → (slots id i n : ℕ) (c : Cell) (me : Sat) → i ≡ word_of (core S) c → me.0.aboard ≡ true
+pub pay_allows : (S : Setup) → (slots id i n : ℕ) (c : Cell) (me : Sat) → i ≡ 8 * word_of (core S) c → me.0.aboard ≡ true
     → number_of c me.0.actor.owed ≡ Some n → Allows (Kept S) slots id me i (λ _. n) (λ _. Pays c me)
 pay_allows S slots id i n c me is aboard due s k _ at _ =
     let v : View = me.0 in

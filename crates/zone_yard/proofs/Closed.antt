@@ -1,5 +1,5 @@
 -- A yard that nobody is out of comes to the state that its whole history leads to.
-use Rattle.std.proofs.Common.{◌≡◌, ℕ, zero, suc, ◌+◌, ◌-◌, ◌<◌, ◌≤◌, List, [], ◌∷◌, ◌++◌, length, get_or, Some, refl, sym, ap, ◌∙◌, subst, arith, lt-ltb}
+use Rattle.std.proofs.Common.{◌≡◌, ℕ, zero, suc, ◌+◌, ◌*◌, ◌-◌, ◌<◌, ◌≤◌, List, [], ◌∷◌, ◌++◌, length, get_or, Some, refl, sym, ap, ◌∙◌, subst, arith, lt-ltb}
 use Rattle.std.proofs.lemmas.List.Elements.{All-cons}
 use mathlib.Core.Option.{some, some-injective, some-ne-none}
 use lib.ListN.{get_elem?}
@@ -83,15 +83,15 @@ module _ (v : View) (s : St) (k : Kept v.setup s) (at : get_elem? s.views 0 ≡ 
       ∙ (sym (k.formed.tables.same S.opening.yard.table k.formed.opening.in_range) ∙ sym k.formed.opening.legal.one_each))
 
   -- the words of the positions and of the table in force
-  pub position_word : (i m : ℕ) → i < length ended.positions → get_elem? s.words (word_of (core S) (Position 0) + i) ≡ some m → m ≡ place ended.positions i
+  pub position_word : (i m : ℕ) → i < length ended.positions → get_elem? s.words (8 * (word_of (core S) (Position 0) + i)) ≡ some m → m ≡ place ended.positions i
   position_word i m lt e =
       let one_each = stands.legal.one_each in
       let is : number (core S) v.seen (Position i) ≡ Some (place ended.positions i) = rw (lt-ltb i (trains (in_force S.tables ended)) (omega arith)) refl in
       let word : word_of (core S) (Position 0) + i ≡ word_of (core S) (Position i) = omega arith in
-      sym (read_at s.words (word_of (core S) (Position 0) + i) m e) ∙ (ap (λ j. get_or s.words j 0) word ∙ words_are S s k v at nobody (Position i) (place ended.positions i) is)
+      sym (read_at s.words (8 * (word_of (core S) (Position 0) + i)) m e) ∙ (ap (λ j. get_or s.words (8 * j) 0) word ∙ words_are S s k v at nobody (Position i) (place ended.positions i) is)
 
-  pub table_word : (m : ℕ) → get_elem? s.words (word_of (core S) TableCell) ≡ some m → m ≡ ended.table
-  table_word m e = sym (read_at s.words (word_of (core S) TableCell) m e) ∙ words_are S s k v at nobody TableCell ended.table refl
+  pub table_word : (m : ℕ) → get_elem? s.words (8 * word_of (core S) TableCell) ≡ some m → m ≡ ended.table
+  table_word m e = sym (read_at s.words (8 * word_of (core S) TableCell) m e) ∙ words_are S s k v at nobody TableCell ended.table refl
 
   pub small_places : (i : ℕ) → i < length ended.positions → place ended.positions i ≤ 127
   small_places i lt =
@@ -127,14 +127,14 @@ module _ (v : View) (s : St) (k : Kept v.setup s) (at : get_elem? s.views 0 ≡ 
       }
 
   -- what a word of the positions is, and that it is small
-  pub place_of : (i m first : ℕ) → first ≡ word_of (core S) (Position 0) → i < length ended.positions → get_elem? s.words (first + i) ≡ some m → (m ≡ place ended.positions i) × (m ≤ 127)
+  pub place_of : (i m first : ℕ) → first ≡ word_of (core S) (Position 0) → i < length ended.positions → get_elem? s.words (8 * (first + i)) ≡ some m → (m ≡ place ended.positions i) × (m ≤ 127)
   place_of i m first is lt e =
-      let same : m ≡ place ended.positions i = position_word i m lt (subst (λ j. get_elem? s.words (j + i) ≡ some m) is e) in
+      let same : m ≡ place ended.positions i = position_word i m lt (subst (λ j. get_elem? s.words (8 * (j + i)) ≡ some m) is e) in
       let small = small_places i lt in (same, omega arith)
 
-  pub table_of : (m at_word : ℕ) → at_word ≡ word_of (core S) TableCell → get_elem? s.words at_word ≡ some m → (m ≡ ended.table) × (m < 16)
+  pub table_of : (m at_word : ℕ) → at_word ≡ word_of (core S) TableCell → get_elem? s.words (8 * at_word) ≡ some m → (m ≡ ended.table) × (m < 16)
   table_of m at_word is e =
-      let same : m ≡ ended.table = table_word m (subst (λ j. get_elem? s.words j ≡ some m) is e) in
+      let same : m ≡ ended.table = table_word m (subst (λ j. get_elem? s.words (8 * j) ≡ some m) is e) in
       let small = small_table in (same, omega arith)
 
   -- how many lines there are

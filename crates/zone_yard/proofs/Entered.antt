@@ -38,6 +38,7 @@ use Rattle.zone_yard.specs.Passes.{StartsWith, entries_from, entries_of, receipt
 use Rattle.zone_yard.specs.Views.{View, new_entries, actor_after, entered}
 use Rattle.zone_yard.specs.Kept.{Kept, Fits, IsActor}
 use Rattle.zone_yard.specs.Tells.{Sat, Appends}
+use Rattle.zone_yard.proofs.Apart.{found_apart, spread-set}
 use Rattle.zone_yard.proofs.Lists.{at_set, set_here, starts_itself}
 use Rattle.zone_yard.proofs.Counts.{bounded}
 use Rattle.zone_yard.proofs.Keeps.{apart, roots_keep}
@@ -173,7 +174,7 @@ append_allows S slots id k steps me aboard count may s kept _ at _ =
     let formed : IsCoreSetup (core v.setup) = subst (λ (T : Setup). IsCoreSetup (core T)) (sym here.setup) kept.formed in
     let sound : Sound (core v.setup) w = subst (λ (T : Setup). Sound (core T) w) (sym here.setup) kept.sound in
     let sound' : Sound (core S) w' = subst (λ (T : Setup). Sound (core T) w') here.setup (step_sound (core v.setup) w v.number made.0 made.1 w' formed sound made.2) in
-    let found : get_or s.words 0 0 ≡ length H = ap (λ ws. get_or ws 0 0) kept.words ∙ kept.sound.counted in
+    let found : get_or s.words 0 0 ≡ length H = found_apart s.words w.words 0 0 kept.words refl ∙ kept.sound.counted in
     let next : (get_or s.words 0 0 + k) % 2 ^ 64 ≡ length H + length es = omega (arith, found, count) in
     let own = new_own steps v in
     let mine' : entries_of v.number (H ++ es) ≡ v.mine ++ receipts_from (length H) es =
@@ -195,7 +196,7 @@ append_allows S slots id k steps me aboard count may s kept _ at _ =
         formed = kept.formed;
         few_calls = kept.few_calls;
         world = w';
-        words = ap (λ ws. set ws 0 (length H + length es)) kept.words;
+        words = ap (λ ws. set ws 0 (length H + length es)) kept.words ∙ spread-set w.words 0 (length H + length es);
         sound = sound';
         room = λ q. dite (ℕ_discrete q v.number)
             (λ e. subst (λ p. length (entries_of p (H ++ es)) ≤ S.calls) (sym e) (omega (arith, ap length mine', length-append v.mine (receipts_from (length H) es), length-receipts (length H) es, count, room)))

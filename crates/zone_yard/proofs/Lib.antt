@@ -1,5 +1,6 @@
 pub mod RowsOfPasses
 pub mod Answered
+pub mod Apart
 pub mod Closes
 pub mod Opens
 pub mod Counts

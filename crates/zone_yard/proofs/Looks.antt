@@ -14,6 +14,7 @@ use Rattle.zone_yard.specs.Passes.{StartsWith, IsAshore, entries_of, done_of}
 use Rattle.zone_yard.specs.Views.{View, looked}
 use Rattle.zone_yard.specs.Kept.{Kept, Fits, IsActor, Rests, Sits}
 use Rattle.zone_yard.specs.Tells.{Sat, Looks}
+use Rattle.zone_yard.proofs.Apart.{found_apart}
 use Rattle.zone_yard.proofs.Lists.{at_set, set_here, set_else, starts_itself}
 use Rattle.zone_yard.proofs.Closes.{seen_whole}
 use Rattle.zone_yard.proofs.Keeps.{St, aboard-set, off_root, some_aboard}
@@ -124,7 +125,7 @@ looks S slots me s k _ at _ =
         history = w.history;
         formed = subst (λ (T : Setup). IsCoreSetup (core T)) (sym made) k.formed;
         now = refl;
-        counted = sym (ap (λ ws. get_or ws 0 0) k.words ∙ k.sound.counted);
+        counted = sym (found_apart s.words w.words 0 0 k.words refl ∙ k.sound.counted);
         legal = subst (λ (T : Setup). IsLegalHistory T w.history) (sym made) k.sound.legal;
         begins = mine.seen;
         joined = mine.joined;

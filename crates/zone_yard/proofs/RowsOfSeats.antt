@@ -6,6 +6,7 @@ use Rattle.move_claim.specs.declared.cells.Cell.TheVariants.{Table as TableCell}
 use Rattle.move_claim.specs.Cells.{number_of}
 use Rattle.zone_yard.specs.Blocks.{granted_steps}
 use Rattle.zone_yard.specs.Setup.{SharedYard}
+use Rattle.zone_yard.specs.Spread.{spread}
 use Rattle.zone_yard.specs.Views.{root_view, pass_view, knower}
 use Rattle.zone_yard.specs.Tells.{Sat}
 use Rattle.zone_yard.specs.Aboard.{IsDriver, IsControl}
@@ -120,3 +121,7 @@ since = record { tries = ([], refl); noted = lit≤ tt; now = refl }
 
 not_back : Since (noted 1) (noted 0) → ⊥
 not_back h = let le = h.noted in omega (arith, le)
+
+-- two words in the shared table
+two_words : spread (3 ∷ 5 ∷ []) ≡ 3 ∷ 0 ∷ 0 ∷ 0 ∷ 0 ∷ 0 ∷ 0 ∷ 0 ∷ 5 ∷ 0 ∷ 0 ∷ 0 ∷ 0 ∷ 0 ∷ 0 ∷ 0 ∷ []
+two_words = refl

@@ -1,5 +1,5 @@
 -- Zones are taken and given back under the rule, by the core's own steps.
-use Rattle.std.proofs.Common.{◌≡◌, ◌≢◌, ℕ, zero, suc, ◌+◌, ◌-◌, ◌<◌, ◌≤◌, ◌==◌, nat_lt, nat_le, List, [], ◌∷◌, ◌++◌, length, set, get_or, Bool, true, false, true≢false, ◌&&◌, if◌then◌else◌, Ok, refl, sym, ap, ◌∙◌, subst, arith, eq-eqb, ne_eqb, get_or-set_other}
+use Rattle.std.proofs.Common.{◌≡◌, ◌≢◌, ℕ, zero, suc, ◌+◌, ◌-◌, ◌*◌, ◌/◌, ◌<◌, ◌≤◌, ◌==◌, nat_lt, nat_le, List, [], ◌∷◌, ◌++◌, length, set, get_or, Bool, true, false, true≢false, ◌&&◌, if◌then◌else◌, Ok, refl, sym, ap, ◌∙◌, subst, arith, eq-eqb, ne_eqb, get_or-set_other}
 use Rattle.std.specs.Prelude.{Some, slice_get}
 use Rattle.std.proofs.lemmas.List.{set-get_or}
 use Rattle.std.proofs.lemmas.Bool.Decides.{nat_tests}
@@ -22,6 +22,7 @@ use Rattle.zone_yard.specs.Setup.{Setup, core, most_passes}
 use Rattle.zone_yard.specs.Views.{View, tried_at, took, gave}
 use Rattle.zone_yard.specs.Kept.{Kept}
 use Rattle.zone_yard.specs.Tells.{Sat, Takes, Releases}
+use Rattle.zone_yard.proofs.Apart.{found_apart}
 use Rattle.zone_yard.proofs.Keeps.{St, own_keeps, Stays}
 
 -- the core's take of a free zone
@@ -74,22 +75,28 @@ held_by S w p z sound lt is =
     slice_get_inside (x ∷ xs) zero a e = omega arith
     slice_get_inside (x ∷ xs) (suc i) a e = let r = slice_get_inside xs i a e in omega arith
 
+-- the zone of its word in the shared table
+pub zone_back : (z : ℕ) → 8 * suc z / 8 - 1 ≡ z
+zone_back z = omega arith
+
 -- a look at a word that changes nothing that the core sees
-pub look_keeps : (S : Setup) (s : St) (k : Kept S s) (id i : ℕ) (v v' : View) (c : List (ℕ × Unit {0})) → get_elem? s.views id ≡ some v → v.aboard ≡ true
-    → Stays v v' → v'.actor ≡ v.actor → v'.noted ≤ word (core S) k.world TableCell → Kept S (stepped s i (get_or s.words i 0) id c v' keeps)
-look_keeps S s k id i v v' c at aboard stays same noted =
+pub look_keeps : (S : Setup) (s : St) (k : Kept S s) (id i j : ℕ) (v v' : View) (c : List (ℕ × Unit {0})) → j ≡ 8 * i → get_elem? s.views id ≡ some v → v.aboard ≡ true
+    → Stays v v' → v'.actor ≡ v.actor → v'.noted ≤ word (core S) k.world TableCell → Kept S (stepped s j (get_or s.words j 0) id c v' keeps)
+look_keeps S s k id i j v v' c is at aboard stays same noted =
     let here = (k.fits id v at).aboard aboard in
     let w : World = k.world in
-    let n : ℕ = get_or s.words i 0 in
+    let n : ℕ = get_or s.words j 0 in
+    let found : n ≡ get_or w.words i 0 = found_apart s.words w.words i j k.words is in
     let unchanged : with_word w i n v.number v'.actor ≡ w = (λ j. record {
-      words = (ap (λ m. set w.words i m) (ap (λ ws. get_or ws i 0) k.words) ∙ set-get_or w.words i 0) j;
+      words = (ap (λ m. set w.words i m) found ∙ set-get_or w.words i 0) j;
       history = w.history;
       actors = (ap (λ (x : Actor). set w.actors v.number x) (same ∙ sym here.actor) ∙ set_get_or w.actors v.number gone) j;
     }) in
-    own_keeps S s k id i n v v' c at aboard stays (ap (λ (a : Actor). a.stage) same ∙ here.stage)
+    subst (λ x. Kept S (stepped s x n id c v' keeps)) (sym is)
+    (own_keeps S s k id i n v v' c at aboard stays (ap (λ (a : Actor). a.stage) same ∙ here.stage)
     (subst (Sound (core S)) (sym unchanged) k.sound)
     (subst (λ x. word (core S) w TableCell ≤ word (core S) x TableCell) (sym unchanged) (omega arith))
-    (subst (λ x. v'.noted ≤ word (core S) x TableCell) (sym unchanged) noted)
+    (subst (λ x. v'.noted ≤ word (core S) x TableCell) (sym unchanged) noted))
   where
     set_get_or : {A : Type 0} (xs : List A) (i : ℕ) (d : A) → set xs i (get_or xs i d) ≡ xs
     set_get_or [] i d = refl
@@ -97,7 +104,7 @@ look_keeps S s k id i v v' c at aboard stays same noted =
     set_get_or (x ∷ xs) (suc i) d = ap (λ l. x ∷ l) (set_get_or xs i d)
 
 -- a zone is tried: where it was free it is taken, and else another pass holds it
-pub take_allows : (S : Setup) → (slots id z i new : ℕ) (me : Sat) → new ≡ suc me.0.number → i ≡ suc z → me.0.aboard ≡ true
+pub take_allows : (S : Setup) → (slots id z i new : ℕ) (me : Sat) → new ≡ suc me.0.number → i ≡ 8 * suc z → me.0.aboard ≡ true
     → me.0.actor.closing ≡ false → z < me.0.setup.layout.zones → is_above z me.0.actor.held ≡ true
     → Allows (Kept S) slots id me i (λ n. either (n == 0) new n) (Takes (step slots i 0 new none) me)
 take_allows S slots id z i new me writes is aboard still low above s k _ at _ =
@@ -107,18 +114,18 @@ take_allows S slots id z i new me writes is aboard still low above s k _ at _ =
     let fit = k.fits id v at in
     let here = fit.aboard aboard in
     let low' : z < S.layout.zones = subst (λ (T : Setup). z < T.layout.zones) here.setup low in
-    let zone : i - 1 ≡ z = omega arith in
-    let found : n ≡ get_or w.words (suc z) 0 = ap (λ ws. get_or ws i 0) k.words ∙ ap (λ j. get_or w.words j 0) is in
+    let zone : i / 8 - 1 ≡ z = ap (λ j. j / 8 - 1) is ∙ zone_back z in
+    let found : n ≡ get_or w.words (suc z) 0 = found_apart s.words w.words (suc z) i k.words is in
     let got : ℕ → View = λ y. took y v in
-    let saw : View = tried_at (i - 1) n v in
+    let saw : View = tried_at (i / 8 - 1) n v in
     let a' : Actor = record v.actor { held = v.actor.held ++ z ∷ [] } in
     let same_table = table_else (core S) w z (suc v.number) v.number a' low' in
     dite (ℕ_discrete n 0)
     (λ (free : n ≡ 0). (
-      got (i - 1),
+      got (i / 8 - 1),
       keeps,
       tt,
-      subst (λ b. Kept S (stepped s i (either b new n) id me.1 (got (i - 1)) keeps)) (sym (eq-eqb n 0 free))
+      subst (λ b. Kept S (stepped s i (either b new n) id me.1 (got (i / 8 - 1)) keeps)) (sym (eq-eqb n 0 free))
           (subst (λ (x : ℕ × ℕ × ℕ). Kept S (stepped s x.0 x.2 id me.1 (got x.1) keeps)) (λ j. (sym is j, sym zone j, sym writes j))
           (own_keeps S s k id (suc z) (suc v.number) v (got z) me.1 at aboard
           record { setup = refl; aboard = aboard; number = refl; seen = refl; mine = refl; joined = refl } here.stage
@@ -133,7 +140,7 @@ take_allows S slots id z i new me writes is aboard still low above s k _ at _ =
       keeps,
       tt,
       subst (λ b. Kept S (stepped s i (either b new n) id me.1 saw keeps)) (sym (ne_eqb n 0 held))
-          (look_keeps S s k id i v saw me.1 at aboard record { setup = refl; aboard = aboard; number = refl; seen = refl; mine = refl; joined = refl } refl fit.noted),
+          (look_keeps S s k id (suc z) i v saw me.1 is at aboard record { setup = refl; aboard = aboard; number = refl; seen = refl; mine = refl; joined = refl } refl fit.noted),
       record {
         free = λ e. absurd (held e);
         held = λ _. (refl, other held found low' here.actor, few held found low');
@@ -153,20 +160,20 @@ take_allows S slots id z i new me writes is aboard still low above s k _ at _ =
         by (suc q) nz e = let h = held_by S k.world q z k.sound low' (sym e) in let lt = h.1 in omega arith
 
 -- a zone is given back
-pub release_allows : (S : Setup) → (slots id z i : ℕ) (me : Sat) → i ≡ suc z → me.0.aboard ≡ true → has z me.0.actor.held ≡ true → me.0.actor.owed ≡ []
+pub release_allows : (S : Setup) → (slots id z i : ℕ) (me : Sat) → i ≡ 8 * suc z → me.0.aboard ≡ true → has z me.0.actor.held ≡ true → me.0.actor.owed ≡ []
     → Allows (Kept S) slots id me i (λ _. 0) (λ _. Releases (step slots i 0 0 none) me 0)
 release_allows S slots id z i me is aboard has_it paid s k _ at _ =
     let v : View = me.0 in
     let w : World = k.world in
     let fit = k.fits id v at in
     let here = fit.aboard aboard in
-    let zone : i - 1 ≡ z = omega arith in
+    let zone : i / 8 - 1 ≡ z = ap (λ j. j / 8 - 1) is ∙ zone_back z in
     let a' : Actor = releasing (core S) v.number z v.actor in
     let gives : ℕ → View = λ y. gave y v in
     let is_a : (gives z).actor ≡ a' = ap (λ (T : Setup). releasing (core T) v.number z v.actor) here.setup in
     let low = (k.sound.named v.number v.actor z (at_number S w v here.actor here.low k.sound.actors) has_it).0 in
     let same_table = table_else (core S) w z 0 v.number a' low in (
-      gives (i - 1),
+      gives (i / 8 - 1),
       keeps,
       tt,
       subst (λ (x : ℕ × ℕ). Kept S (stepped s x.0 0 id me.1 (gives x.1) keeps)) (λ j. (sym is j, sym zone j))

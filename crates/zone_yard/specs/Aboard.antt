@@ -1,5 +1,5 @@
 -- What the code of a pass keeps between two calls.
-use Rattle.std.specs.Prelude.{◌≡◌, ℕ, suc, ◌∷◌, ◌+◌, ◌<◌, ◌≤◌, ◌^◌, List, [], length, slice_index_or, Bool, true, false}
+use Rattle.std.specs.Prelude.{◌≡◌, ℕ, suc, ◌∷◌, ◌+◌, ◌*◌, ◌<◌, ◌≤◌, ◌^◌, List, [], length, slice_index_or, Bool, true, false}
 use Rattle.atomic_table.specs.Table.{Me}
 use Rattle.atomic_table.specs.Seated.{TableId}
 use Rattle.rail_model.specs.Table.{trains}
@@ -64,10 +64,10 @@ pub record IsRoot (boarded : List Bool) (out id : ℕ) (v : View) : Type 0 where
   pub ashore : IsAshore v.setup v.boarded v.seen
   pub few_calls : v.setup.calls < 2 ^ 32
 
--- The table's rule is of what the yard was made with, and the table has a word for each of the core's.
+-- The table's rule is of what the yard was made with, and the table has eight words for each of the core's.
 pub record IsYard (key : Setup) (id : TableId) (S : Setup) : Type 0 where
   pub key_is : key ≡ S
-  pub words : id.words ≡ words_of (core S)
+  pub words : id.words ≡ 8 * words_of (core S)
   pub slots : id.slots ≡ 0
   pub formed : IsCoreSetup (core S)
   pub keeps : Keeps S.tables S.opening.yard S.opening.lines

@@ -6,6 +6,7 @@ pub mod Kept
 pub mod Passes
 pub mod Replies
 pub mod Setup
+pub mod Spread
 pub mod Tells
 pub mod Views
 pub mod Holding

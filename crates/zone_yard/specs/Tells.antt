@@ -1,5 +1,5 @@
 -- What each kind of step on the shared table tells its seat.
-use Rattle.std.specs.Prelude.{◌≡◌, ◌≢◌, ℕ, suc, ◌+◌, ◌-◌, ◌<◌, ◌≤◌, ◌^◌, List, length, All, [], true, false, Some}
+use Rattle.std.specs.Prelude.{◌≡◌, ◌≢◌, ℕ, suc, ◌+◌, ◌-◌, ◌/◌, ◌<◌, ◌≤◌, ◌^◌, List, length, All, [], true, false, Some}
 use Rattle.atomic_table.specs.Table.{Step, Me}
 use Rattle.rail_model.specs.declared.types.Entry.{Entry}
 use Rattle.rail_model.specs.Yard.{control}
@@ -24,7 +24,7 @@ IsOurs yard id v = (id ≡ yard.id) × (v.setup ≡ yard.setup)
 
 -- the zone of a step's word
 abbrev pub zone_of : Step (Unit {0}) → ℕ
-zone_of st = st.word - 1
+zone_of st = st.word / 8 - 1
 
 -- A zone that was free is taken; one that wasn't is held by another pass. The try is noted either way.
 pub record Takes (st : Step (Unit {0})) (m : Sat) (found : ℕ) (after : Sat) : Type 0 where

@@ -40,9 +40,9 @@ fn read_back(yard: Yard<'_>, root: Root, mut positions: State, lines: Vec<Line>)
     } = root;
     let closed = table.close_with(seat);
     for train in 0..positions.len() {
-        positions.set(train as u32, closed.word(first + train) as u32);
+        positions.set(train as u32, closed.word(8 * (first + train)) as u32);
     }
-    let table = closed.word(at) as u32;
+    let table = closed.word(8 * at) as u32;
     closed.free();
     let tried = key.opening.tried() + rows[32].len() as u32;
     let moves = lines.len() as u32 - tried;

@@ -2,13 +2,16 @@
 ghost use Rattle.std.specs.Prelude.{◌≡◌, ℕ, ◌<◌, [], length, slice_index_or, IfOk};
 ghost use Rattle.ticket_lines.specs.Merging.{Row};
 ghost use Rattle.zone_yard.specs.Setup.{most_passes};
+ghost use Rattle.zone_yard.specs.Spread.{spread};
+ghost use Rattle.zone_machine.specs.Weave.{first_words as first_words_of};
+ghost use Rattle.table_exchange.specs.Tables.{Stands};
 
 use crate::views::Key;
 use crate::yard::{Root, Yard};
 use atomic_table::Table;
 use cert_checker::Accepted;
 use plain_yard::begin;
-use rail_model::{Layout, PlainState, State, zones_of};
+use rail_model::{Layout, PlainState, Standing, State, zones_of};
 use std::alloc::{AllocError, Global};
 use ticket_lines::TicketLine;
 use zone_machine::{first_words, look_at_all};
@@ -26,6 +29,32 @@ fn empty_rows(alloc: Global) -> Result<Vec<Vec<TicketLine>>, AllocError>
         rows.push(Vec::new(alloc))?;
     }
     Ok(rows)
+}
+
+// These words of a core, as they lie in the shared table.
+fn spread_out(alloc: Global, words: &[u64]) -> Result<Vec<u64>, AllocError>
+    ensures { IfOk result (λ v. v.items ≡ spread words.now) }
+{
+    let mut all = Vec::new(alloc);
+    for &word in words {
+        all.extend_from_slice(&[word, 0, 0, 0, 0, 0, 0, 0])?;
+    }
+    Ok(all)
+}
+
+// The words of a yard's core that opens with this state, as they lie in the shared table.
+fn table_words(
+    alloc: Global,
+    layout: &Layout,
+    tables: &[Accepted],
+    opening: &Standing,
+) -> Result<Vec<u64>, AllocError>
+    requires { Stands tables.now opening.now }
+    ensures { IfOk result (λ words. (most : ℕ) → words.items ≡ spread (first_words_of (record { layout = layout.now; tables = tables.now; opening = opening.now; most = most }))) }
+{
+    let words = first_words(alloc, layout, tables, opening)?;
+    let all = spread_out(alloc, &words)?;
+    Ok(all)
 }
 
 impl<'a> Yard<'a> {
@@ -87,7 +116,7 @@ impl<'a> Yard<'a> {
         look_at_all(tables);
         // The layout is well formed, which is what the call says.
         let _zones = zones_of(layout);
-        let Ok(words) = first_words(alloc, layout, tables, state.yard()) else {
+        let Ok(words) = table_words(alloc, layout, tables, state.yard()) else {
             return Err(state);
         };
         let Ok(lines) = empty_rows(alloc) else {

@@ -1,4 +1,4 @@
-// Single steps on the shared table.
+// Single steps on the shared table, in which a word of the core lies eight times as far on.
 ghost use Rattle.std.specs.Prelude.{◌≡◌, ◌≢◌, suc, ◌+◌, ◌<◌, ◌≤◌, ◌^◌, [], length, true, false, Some};
 ghost use Rattle.zone_locks.specs.Zones.{has};
 ghost use Rattle.move_claim.specs.declared.cells.Cell.TheVariants.{Table as TableCell};
@@ -33,7 +33,7 @@ pub(crate) fn take(yard: &Yard<'_>, seat: &mut Place, pass: u32, zone: u32) -> u
 {
     yard.table
         .shared
-        .compare_exchange::<Taking>(seat, zone as usize + 1, 0, pass as u64 + 1)
+        .compare_exchange::<Taking>(seat, 8 * (zone as usize + 1), 0, pass as u64 + 1)
 }
 
 // A zone that is held is given back.
@@ -46,7 +46,7 @@ pub(crate) fn release(yard: &Yard<'_>, seat: &mut Place, zone: u32)
 {
     yard.table
         .shared
-        .store::<Releasing>(seat, zone as usize + 1, 0)
+        .store::<Releasing>(seat, 8 * (zone as usize + 1), 0)
 }
 
 // The seat of the pass that the caller picks, cut from the root's.
@@ -88,7 +88,7 @@ pub(crate) fn glance(yard: &Yard<'_>, seat: &mut Place, word: usize) -> u64
     ensures sees { (seat.old.me.0.noted ≤ result) × (result < length seat.old.me.0.setup.tables) }
     ensures glanced { seat.new.me ≡ (glanced result seat.old.me.0, seat.old.me.1) }
 {
-    yard.table.shared.load::<Glancing>(seat, word)
+    yard.table.shared.load::<Glancing>(seat, 8 * word)
 }
 
 // The word of a cell.
@@ -117,7 +117,7 @@ pub(crate) fn read_table(yard: &Yard<'_>, seat: &mut Place, word: usize) -> u64
     ensures sees { (seat.old.me.0.noted ≤ result) × (result < length seat.old.me.0.setup.tables) }
     ensures reads { seat.new.me ≡ (read_table result seat.old.me.0, seat.old.me.1) }
 {
-    yard.table.shared.load::<ReadingTable>(seat, word)
+    yard.table.shared.load::<ReadingTable>(seat, 8 * word)
 }
 
 // A cell is read under its guard.
@@ -131,7 +131,7 @@ pub(crate) fn read<J: WhichCell>(yard: &Yard<'_>, seat: &mut Place, cell: Cell, 
     ensures small { result < 2 ^ 31 }
     ensures reads { seat.new.me ≡ (read cell result seat.old.me.0, seat.old.me.1) }
 {
-    yard.table.shared.load::<Reading<J>>(seat, word)
+    yard.table.shared.load::<Reading<J>>(seat, 8 * word)
 }
 
 // An owed cell is written.
@@ -152,7 +152,7 @@ pub(crate) fn pay<J: WhichCell>(
 {
     yard.table
         .shared
-        .store::<Paying<J>>(seat, word, number as u64)
+        .store::<Paying<J>>(seat, 8 * word, number as u64)
 }
 
 // So many entries are added to the history: the place of the first.

@@ -1,4 +1,4 @@
-use Rattle.std.proofs.Common.{◌≡◌, ◌≢◌, ◌++◌, ◌+◌, ◌-◌, ℕ, List, length, get_or, set, sym, ap, ◌∙◌, subst, arith, rules, get_or-set_same, get_or-set_other, length-set}
+use Rattle.std.proofs.Common.{◌≡◌, ◌≢◌, ◌++◌, ◌+◌, ◌*◌, ◌-◌, ℕ, List, length, get_or, set, sym, ap, ◌∙◌, subst, arith, rules, get_or-set_same, get_or-set_other, length-set}
 use mathlib.Core.Logic.{dite}
 use mathlib.Core.Option.{some}
 use native.Mathlib.Decide.{ℕ_discrete}
@@ -34,8 +34,8 @@ overflow_cast-word c =
     c.requires.positions ∙ (ap (λ (x : Root). length x.yard.setup.opening.yard.positions) (sym c.root.view_is) ∙ sym (size v s k at nobody)) in
     let ends = c.len-train-end.ensures in
     let lt = c.loop-train-test.true in
-    let found : get_elem? s.words (c.word_of-first.result + c.loop-train.train) ≡ some c.word.result =
-    subst (λ ws. get_elem? ws (c.word_of-first.result + c.loop-train.train) ≡ some c.word.result) (sym f.2) c.word.ensures in
+    let found : get_elem? s.words (8 * (c.word_of-first.result + c.loop-train.train)) ≡ some c.word.result =
+    subst (λ ws. get_elem? ws (8 * (c.word_of-first.result + c.loop-train.train)) ≡ some c.word.result) (sym f.2) c.word.ensures in
     let is = place_of v s k at nobody c.loop-train.train c.word.result c.word_of-first.result first (omega arith) found in
     let small = is.1 in omega arith
 
@@ -55,8 +55,8 @@ loop-train-preserved c =
     c.requires.positions ∙ (ap (λ (x : Root). length x.yard.setup.opening.yard.positions) (sym c.root.view_is) ∙ sym (size v s k at nobody)) in
     let ends = c.len-train-end.ensures in
     let lt = c.loop-train-test.true in
-    let found : get_elem? s.words (c.word_of-first.result + c.loop-train.train) ≡ some c.word.result =
-    subst (λ ws. get_elem? ws (c.word_of-first.result + c.loop-train.train) ≡ some c.word.result) (sym f.2) c.word.ensures in
+    let found : get_elem? s.words (8 * (c.word_of-first.result + c.loop-train.train)) ≡ some c.word.result =
+    subst (λ ws. get_elem? ws (8 * (c.word_of-first.result + c.loop-train.train)) ≡ some c.word.result) (sym f.2) c.word.ensures in
     let is = place_of v s k at nobody c.loop-train.train c.word.result c.word_of-first.result first (omega arith) found in
     let inv = c.loop-train.invariant in
     let n = c.loop-train.train in
@@ -82,8 +82,8 @@ overflow_cast-table c =
     let nobody : v.out ≡ 0 = ap (λ (x : Root). x.out) c.root.view_is ∙ c.requires.nobody in
     let ours : c.args.yard.setup ≡ v.setup = ap (λ (y : SharedYard). y.setup) (sym c.requires.ours) ∙ sym (ap (λ (x : Root). x.yard.setup) c.root.view_is) in
     let word : c.word_of-at.result ≡ word_of (core v.setup) TableCell = c.word_of-at.ensures.word ∙ ap (λ (T : Setup). word_of (core T) TableCell) ours in
-    let found : get_elem? s.words c.word_of-at.result ≡ some c.word-table.result =
-    subst (λ ws. get_elem? ws c.word_of-at.result ≡ some c.word-table.result) (sym f.2) c.word-table.ensures in
+    let found : get_elem? s.words (8 * c.word_of-at.result) ≡ some c.word-table.result =
+    subst (λ ws. get_elem? ws (8 * c.word_of-at.result) ≡ some c.word-table.result) (sym f.2) c.word-table.ensures in
     let is = table_of v s k at nobody c.word-table.result c.word_of-at.result word found in
     let small = is.1 in omega arith
 
@@ -193,8 +193,8 @@ returns c =
     let nobody : v.out ≡ 0 = ap (λ (x : Root). x.out) c.root.view_is ∙ c.requires.nobody in
     let ours : c.args.yard.setup ≡ v.setup = ap (λ (y : SharedYard). y.setup) (sym c.requires.ours) ∙ sym (ap (λ (x : Root). x.yard.setup) c.root.view_is) in
     let word : c.word_of-at.result ≡ word_of (core v.setup) TableCell = c.word_of-at.ensures.word ∙ ap (λ (T : Setup). word_of (core T) TableCell) ours in
-    let found : get_elem? s.words c.word_of-at.result ≡ some c.word-table.result =
-    subst (λ ws. get_elem? ws c.word_of-at.result ≡ some c.word-table.result) (sym f.2) c.word-table.ensures in
+    let found : get_elem? s.words (8 * c.word_of-at.result) ≡ some c.word-table.result =
+    subst (λ ws. get_elem? ws (8 * c.word_of-at.result) ≡ some c.word-table.result) (sym f.2) c.word-table.ensures in
     let is = table_of v s k at nobody c.word-table.result c.word_of-at.result word found in
     let opened : Keeps v.setup.tables v.setup.opening.yard v.setup.opening.lines =
     subst (λ (T : Setup). Keeps T.tables T.opening.yard T.opening.lines) made c.yard.invariant.keeps in

@@ -1,7 +1,7 @@
-use Rattle.std.proofs.Common.{◌≡◌, ◌^◌, ◌<◌, ℕ, zero, suc, List, [], ◌∷◌, length, map, get_or, replicate, false, refl, sym, ap, ◌∙◌, subst, arith}
+use Rattle.std.proofs.Common.{◌≡◌, ◌*◌, ◌^◌, ◌<◌, ℕ, zero, suc, List, [], length, get_or, replicate, false, refl, sym, ap, ◌∙◌, subst, arith}
 use Rattle.atomic_table.specs.Table.{opening}
 use Rattle.rail_model.specs.Table.{IsTable}
-use Rattle.rail_model.specs.Yard.{Offer, offer}
+use Rattle.rail_model.specs.Yard.{Offer, Yard as YardValue, offer}
 use Rattle.table_exchange.specs.Tables.{Stands}
 use Rattle.plain_yard.proofs.Keeping.{keeps_stands}
 use Rattle.zone_machine.specs.Sound.{IsSetup}
@@ -13,17 +13,13 @@ use Rattle.ticket_lines.specs.Merging.{Row}
 use Rattle.zone_machine.proofs.Opening.{opened}
 use Rattle.zone_yard.specs.Aboard.{IsRoot}
 use Rattle.zone_yard.specs.Lines.{AreLeft}
-use Rattle.zone_yard.proofs.Opens.{opens}
+use Rattle.zone_yard.specs.Spread.{spread}
+use Rattle.zone_yard.proofs.Apart.{spread-length}
+use Rattle.zone_yard.proofs.Opens.{opens, same_map}
 use Rattle.zone_yard.proofs.yard.Yard.resume.Goals as goal
 
-same_map : (xs : List Offer) → map (λ (a : Offer). a) xs ≡ xs
-same_map [] = refl
-same_map (x ∷ xs) = ap (λ l. x ∷ l) (same_map xs)
-
-pub first_words-requires : goal.first_words-requires
-first_words-requires c =
-    subst (λ (ts : List Offer). Stands ts c.yard.result.now) (sym (same_map c.args.tables.now))
-    (subst (Stands c.args.tables.now) (sym c.yard.ensures) (keeps_stands c.args.tables.now c.args.state.yard c.args.state.lines c.requires.keeps))
+pub table_words-requires : goal.table_words-requires
+table_words-requires c = subst (Stands c.args.tables.now) (sym c.yard.ensures) (keeps_stands c.args.tables.now c.args.state.yard c.args.state.lines c.requires.keeps)
 
 pub of_words-requires : goal.of_words-requires
 of_words-requires c =
@@ -38,9 +34,9 @@ of_words-requires c =
       opening = keeps_stands c.args.tables.now c.args.state.yard c.args.state.lines c.requires.keeps;
     } in
     let few = c.ranges.calls.fits in
-    let words : c.deref.result.now ≡ first_words (core S) =
+    let words : c.deref.result.now ≡ spread (first_words (core S)) =
     c.deref.ensures.value ∙ (c.in-Ok.ensures (core S).most
-    ∙ (λ i. first_words (record { layout = c.args.layout.now; tables = same_map c.args.tables.now i; opening = c.yard.ensures i; most = (core S).most }))) in
+    ∙ ap (λ (y : YardValue). spread (first_words (record { layout = c.args.layout.now; tables = c.args.tables.now; opening = y; most = (core S).most }))) c.yard.ensures) in
     subst (λ (ws : List ℕ). Kept S (opening ws [] (root_view S []))) (sym words) (opens S formed (omega arith))
 
 pub invariant_of-result : goal.invariant_of-result
@@ -56,13 +52,13 @@ invariant_of-result c =
       opening = keeps_stands c.args.tables.now c.args.state.yard c.args.state.lines c.requires.keeps;
     } in
     let few = c.ranges.calls.fits in
-    let words : c.deref.result.now ≡ first_words (core S) =
+    let words : c.deref.result.now ≡ spread (first_words (core S)) =
     c.deref.ensures.value ∙ (c.in-Ok.ensures (core S).most
-    ∙ (λ i. first_words (record { layout = c.args.layout.now; tables = same_map c.args.tables.now i; opening = c.yard.ensures i; most = (core S).most }))) in
+    ∙ ap (λ (y : YardValue). spread (first_words (record { layout = c.args.layout.now; tables = c.args.tables.now; opening = y; most = (core S).most }))) c.yard.ensures) in
     let e = c.in-Ok-of_words.ensures in
     record {
       key_is = e.5;
-      words = e.0 ∙ (ap length words ∙ (opened (core S) formed).wide);
+      words = e.0 ∙ (ap length words ∙ (spread-length (first_words (core S)) ∙ ap (λ n. 8 * n) (opened (core S) formed).wide));
       slots = e.1;
       formed = formed;
       keeps = c.requires.keeps;
