@@ -10,7 +10,7 @@ use Rattle.track_layout.specs.Making.{names_of, number_in, is_known, link_value,
 use Rattle.track_layout.proofs.Formed.{names_made}
 use Rattle.track_layout.proofs.Taken.{known, taken as layouts_taken}
 
--- a known name stands at its number
+-- a known name is at its number
 pub name-at_number : (names : List (List ℕ)) (name : List ℕ) → is_known names name ≡ true → get_or names (number_in names name) [] ≡ name
 name-at_number names name known = sym ((bytes_decides name _).0 (passes_at_first (bytes_eq name) names [] (found_within (bytes_eq name) names known)))
 

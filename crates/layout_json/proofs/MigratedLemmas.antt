@@ -8,9 +8,10 @@ use Rattle.rail_model.specs.Table.{Table, Mission, IsTable}
 use Rattle.mission_table.specs.Ways.{missions_from}
 use Rattle.section_marks.specs.Keeping.{KeepsTo}
 use Rattle.section_marks.specs.declared.marks.Marks.TheVariants.{Four}
+use Rattle.document_shapes.specs.Raw.{DocMembers}
 use Rattle.document_shapes.proofs.EachLemmas.{each-changed, each-good}
 use Rattle.layout_json.specs.Doc.{Doc, DocTable, IsDoc, names_of}
-use Rattle.layout_json.specs.Keeps.{IsTaken}
+use Rattle.layout_json.specs.Keeps.{IsTaken, AreMembersOf}
 use Rattle.layout_json.specs.Members.{members_in, table_members_in, in_version}
 use Rattle.layout_json.specs.Migrated.{staying, staying_table, later_version, migrated, IsMigrated}
 use Rattle.layout_json.specs.Reading.{tables_refusal}
@@ -105,7 +106,7 @@ pub record IsLater (D : Doc) : Type 0 where
   pub last : later_version D.version ≤ 3
   pub taken : IsTaken (in_version (later_version D.version) D)
 
-pub migrated-is-later : (D : Doc) → IsDoc D → IsTaken D → 1 ≤ D.version → D.version ≤ 3 → IsLater D
+migrated-is-later : (D : Doc) → IsDoc D → IsTaken D → 1 ≤ D.version → D.version ≤ 3 → IsLater D
 migrated-is-later D formed taken first last = elim (leb_tells 2 D.version) [
   | inl later ↦
       let test : (D.version == 1) ≡ false = let low = later.1 in grind (arith, nat_tests) in
@@ -123,5 +124,16 @@ migrated-is-later D formed taken first last = elim (leb_tells 2 D.version) [
       }
 ]
 
-pub differs-in-version : (D : Doc) → IsMigrated D (in_version (later_version D.version) D)
-differs-in-version D = record { later = refl; layout = refl; trains = refl; start = refl; tables = refl }
+-- The document's members in its later version are the migrated document's.
+module _ (D : Doc) (formed : IsDoc D) (taken : IsTaken D) (version : ℕ) (same : version ≡ D.version) (first : 1 ≤ version) (last : version ≤ 3) where
+  later : IsLater D
+  later = migrated-is-later D formed taken (subst (λ v. 1 ≤ v) same first) (subst (λ v. v ≤ 3) same last)
+
+  pub are-migrated : (m : DocMembers) (to : ℕ) → to ≡ later_version version → m ≡ members_in (in_version to D) → AreMembersOf (migrated D) m
+  are-migrated m to is members =
+      let are : m ≡ members_in (in_version (later_version D.version) D) = members ∙ ap (λ v. members_in (in_version v D)) (is ∙ ap later_version same) in
+      subst (λ E. AreMembersOf E m) later.is (record { are = are; first = later.first; last = later.last; taken = later.taken })
+
+  -- it differs in its version alone
+  pub differs-in-version : IsMigrated D (migrated D)
+  differs-in-version = subst (IsMigrated D) later.is (record { later = refl; layout = refl; trains = refl; start = refl; tables = refl })

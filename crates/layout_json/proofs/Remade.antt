@@ -4,7 +4,7 @@ use Rattle.std.proofs.lemmas.Bool.Decides.{nat_tests}
 use Rattle.std.proofs.lemmas.Int.{ints}
 use Rattle.std.proofs.Common.{◌≡◌, ◌∙◌, true, false, ℕ, zero, suc, ◌+◌, ◌<◌, ◌≤◌, List, [], ◌∷◌, ◌++◌, length, map, take, get_or, All, None, Ok, refl, sym, ap, ap₂, subst, arith}
 use Rattle.std.specs.List.{AllZip}
-use Rattle.std.proofs.lemmas.List.{length-map, take_more, map-append}
+use Rattle.std.proofs.lemmas.List.{length-map, take_more, take_all, map-append}
 use Rattle.rail_model.specs.Certificate.{Tree, preorder, arrived}
 use Rattle.rail_model.specs.Table.{Table, IsTable}
 use Rattle.rail_model.specs.Ways.{IsOn}
@@ -16,9 +16,9 @@ use Rattle.document_shapes.specs.Raw.{DocMembers, TableMembers as RawTable}
 use Rattle.document_shapes.specs.Seen.{seen_table}
 use Rattle.document_shapes.specs.declared.table.TableMembers.{TableMembers}
 use Rattle.document_shapes.proofs.EachLemmas.{each-changed}
-use Rattle.layout_json.specs.Doc.{Doc, DocTable, names_of}
+use Rattle.layout_json.specs.Doc.{Doc, DocTable, doc_table, names_of}
 use Rattle.layout_json.specs.Keeps.{IsTaken, AreMembersOf}
-use Rattle.layout_json.specs.Members.{members_in, table_members_in, with_tables}
+use Rattle.layout_json.specs.Members.{members_in, table_members_in, with_tables, in_version}
 use Rattle.layout_json.specs.Reading.{tables_refusal, first_table}
 use Rattle.layout_json.specs.Replaced.{each_with, exchanged, recertified, replaced, certified, new_table, IsLight, IsRemarked}
 use Rattle.layout_json.specs.Start.{start_refusal}
@@ -54,25 +54,39 @@ module _ {X : Type 0} (f : DocTable → X → DocTable) where
   zipped R (t ∷ ts) [] d x h r = absurd (omega (arith, h))
   zipped R (t ∷ ts) (y ∷ xs) d x h r = (r 0 (omega arith), zipped R ts xs d x (omega (arith, h)) (λ k lt. r (suc k) (omega (arith, lt))))
 
--- one more table's members
-pub table-more : (version : ℕ) (D : Doc) (zs : List DocTable) (old new : List TableMembers) (m : TableMembers) (i : ℕ) (z : DocTable) → i < length zs → get_or zs i z ≡ z
-    → seen_table m ≡ table_members_in version (names_of D) z → new ≡ old ++ m ∷ []
-    → map seen_table old ≡ map (table_members_in version (names_of D)) (take i zs)
-    → map seen_table new ≡ map (table_members_in version (names_of D)) (take (i + 1) zs)
-table-more version D zs old new m i z lt at is added h =
-    let put = table_members_in version (names_of D) in
-    ap (map seen_table) added ∙ map-append seen_table old (m ∷ []) ∙ ap₂ (λ ms n. ms ++ n ∷ []) h (is ∙ ap put (sym at))
-    ∙ sym (ap (map put) (take_more zs i z lt) ∙ map-append put (take i zs) (get_or zs i z ∷ []))
-
 -- the document's members, with those of other tables
-pub members-of : (D : Doc) (zs : List DocTable) (m : DocMembers) (version : ℕ) (ts : List RawTable) → 1 ≤ D.version → D.version ≤ 3 → IsTaken (record D { tables = zs })
-    → m ≡ with_tables version ts (members_in D) → version ≡ D.version → ts ≡ map (table_members_in D.version (names_of D)) zs → AreMembersOf (record D { tables = zs }) m
-members-of D zs m version ts first last taken is same tables = record {
+pub members-of : (D : Doc) (zs : List DocTable) (m : DocMembers) (version : ℕ) (ts : List RawTable) → IsTaken (record D { tables = zs }) → version ≡ D.version → 1 ≤ version → version ≤ 3
+    → m ≡ with_tables version ts (members_in D) → ts ≡ map (table_members_in D.version (names_of D)) zs → AreMembersOf (record D { tables = zs }) m
+members-of D zs m version ts taken same first last is tables = record {
   are = is ∙ λ i. with_tables (same i) (tables i) (members_in D);
-  first = first;
-  last = last;
+  first = subst (λ v. 1 ≤ v) same first;
+  last = subst (λ v. v ≤ 3) same last;
   taken = taken;
 }
+
+-- the document's own members
+pub own-members : (D : Doc) (m : DocMembers) (version : ℕ) → IsTaken D → version ≡ D.version → 1 ≤ version → version ≤ 3 → m ≡ members_in (in_version version D) → AreMembersOf D m
+own-members D m version taken same first last is =
+    members-of D D.tables m version (members_in (in_version version D)).tables taken same first last is (ap (λ v. map (table_members_in v (names_of D)) D.tables) same)
+
+-- the members of tables, each with something else, are made one by one
+module _ {X : Type 0} (f : DocTable → X → DocTable) (D : Doc) (xs : List X) (same : length xs ≡ length D.tables) where
+  abbrev changed : List DocTable
+  changed = each_with f D.tables xs
+
+  abbrev put : DocTable → RawTable
+  put = table_members_in D.version (names_of D)
+
+  pub member-more : (old new : List TableMembers) (m : TableMembers) (i : ℕ) (x : X) → i < length D.tables → x ≡ get_or xs i x → seen_table m ≡ put (f (doc_table D i) x)
+      → new ≡ old ++ m ∷ [] → map seen_table old ≡ map put (take i changed) → map seen_table new ≡ map put (take (i + 1) changed)
+  member-more old new m i x lt at is added h =
+      let z = f (doc_table D i) x in
+      let there : get_or changed i z ≡ z = each_with-at f D.tables xs i z no_table x same lt ∙ ap (f (doc_table D i)) (sym at) in
+      ap (map seen_table) added ∙ map-append seen_table old (m ∷ []) ∙ ap₂ (λ ms n. ms ++ n ∷ []) h (is ∙ ap put (sym there))
+      ∙ sym (ap (map put) (take_more changed i z (omega (arith, lt, length-each_with f D.tables xs same))) ∙ map-append put (take i changed) (get_or changed i z ∷ []))
+
+  pub member-all : (found : List TableMembers) (i : ℕ) → length D.tables ≤ i → map seen_table found ≡ map put (take i changed) → map seen_table found ≡ map put changed
+  member-all found i done h = h ∙ ap (map put) (take_all i changed (omega (arith, done, length-each_with f D.tables xs same)))
 
 -- ---- other certificates
 

@@ -10,7 +10,7 @@ use Rattle.rail_model.specs.Ways.{IsOn}
 use Rattle.rail_model.specs.Yard.{Offer}
 use Rattle.table_exchange.specs.Tables.{AreTables}
 
--- A table, the moves after which it is due, its travel times, and the nodes of its certificate as they stand.
+-- A table, the moves after which it is due, its travel times, and the nodes of its certificate as they are written.
 pub record DocTable : Type 0 where
   pub table : Table
   pub after : ℕ

@@ -19,8 +19,8 @@ later_version version = if version == 1 then 2 else version
 abbrev pub migrated : Doc → Doc
 migrated D = if D.version == 1 then record D { version = 2; tables = map staying_table D.tables } else D
 
--- The documents differ in their version alone: so what is legal, what a train that asks is told, what a table that is
--- due is told and which certificates are accepted is the same under each of their tables.
+-- The documents differ in their version alone: so what is legal, the answer to a train that asks, the answer to a table
+-- that is due, and which certificates are accepted are the same under each of their tables.
 pub record IsMigrated (D E : Doc) : Type 0 where
   pub later : E.version ≡ later_version D.version
   pub layout : E.layout ≡ D.layout

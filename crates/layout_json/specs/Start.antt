@@ -13,7 +13,7 @@ use Rattle.layout_json.specs.declared.refused.DocRefused.TheVariants as refused
 abbrev pub out_of_range : Table → List ℕ → ℕ → Option Illegal
 out_of_range T p i = then_some (nat_lt (last T i) (place p i)) (Range i)
 
--- a later train stands at the point of the train
+-- a later train is at the point of the train
 abbrev pub meets : Table → List ℕ → ℕ → ℕ → Option Illegal
 meets T p i k =
     option_and_then (λ q. then_some (nat_lt i k) (Clash i k q))
@@ -27,7 +27,7 @@ first_meeting T p i = first_below (trains T) (meets T p i)
 abbrev pub over_limit : Table → List ℕ → ℕ → Option Illegal
 over_limit T p s = then_some (int_lt (pos (limit T s)) (count T s p)) (Over s (nat_abs (count T s p)) (limit T s))
 
--- why so many positions as trains are not legal: a train past its end, then two at one point, then a section over its limit
+-- why positions, one for each train, are not legal: a train past its end, then two at one point, then a section over its limit
 abbrev pub illegality : Table → List ℕ → Option Illegal
 illegality T p =
     first_of (

@@ -70,7 +70,7 @@ table_of version L n t m =
     in_turn (refused_as (refused.Marks t) (table_from (marks_of version) missions (unwrap_or m.sections []))) (λ marked.
     refused_as (refused.Marks t) (connected marked (unwrap_or m.connections []))))
 
--- table t of a document for so many trains; a table is due after 0 moves unless it says otherwise, and its certificate is not looked at
+-- table t of a document for n trains; a table is due after 0 moves unless it says otherwise, and its certificate is not looked at
 abbrev pub doc_table_of : ℕ → Layout → ℕ → ℕ → TableMembers → Result DocTable DocRefused
 doc_table_of version L n t m =
     in_turn (unless (after_refusal t (unwrap_or m.after 0)) (unwrap_or m.after 0)) (λ after.

@@ -28,7 +28,7 @@ pub record IsNoTree (D : Doc) (t : ℕ) (cause : CertRefused) : Type 0 where
   pub caused : cause ≢ NoRoom
   pub refused : IsRefused (nodes_at D t) cause
 
--- Why there is no tree for each table; want of memory may come at any document.
+-- Why there is no tree for each table; there may be no memory at any document.
 abbrev pub TreesRefused : Doc → TreeRefused → Type 0
 TreesRefused D Memory = Unit {0}
 TreesRefused D (NoTree t cause) = IsNoTree D t cause

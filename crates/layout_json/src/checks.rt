@@ -122,6 +122,7 @@ fn check_values(number: usize, table: &Table, times: &[TrainTimes]) -> Result<()
     ensures { result_err result ≡ first_below (trains table.now) (λ i. bad_times number i (slice_index_or times.now i [])) }
 {
     for train in 0..trains_of(table) {
+        // This read gives the proof that a train has at most 127 places.
         let _last = last_of(table, train);
         check_train(number, train, times[train as usize].as_slice())?;
     }

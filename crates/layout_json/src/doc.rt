@@ -179,7 +179,7 @@ pub fn after_of(doc: &Doc, table: u32) -> u32
     untimed_of(doc, table).after()
 }
 
-/// The nodes of a table's certificate, as they stand in the document.
+/// The nodes of a table's certificate, as the document has them.
 pub fn nodes_of(doc: &Doc, table: u32) -> &[Node]
     requires { table < length doc.now.tables }
     ensures nodes { result.now ≡ nodes_at doc.now table }

@@ -1,4 +1,4 @@
-//! Documents: JSON bytes are read as a layout, its tables and a start that fit together, or the first thing wrong with them is told; and documents are written.
+//! Documents: JSON bytes are read as a layout, its tables and a start that fit together, or the first thing wrong with them is reported; and documents are written.
 #![tactic(auto)]
 
 mod checks;
@@ -8,6 +8,7 @@ mod members;
 mod reading;
 mod refused;
 mod remaking;
+mod rereading;
 mod spelling;
 mod tables;
 mod writing;
@@ -18,6 +19,7 @@ pub use doc::{
 pub use laws::{light_sections_are_taken, read_documents_are_formed};
 pub use reading::document;
 pub use refused::DocRefused;
-pub use remaking::{certified, migrate, replaced};
+pub use remaking::{write_certified, write_migrated, write_replaced};
+pub use rereading::{migrate, replaced};
 pub use spelling::{TreeRefused, certificates};
 pub use writing::write;

@@ -1,31 +1,21 @@
-// Documents made of documents: with other tables, with other certificates, in a later version.
-ghost use Rattle.std.specs.Prelude.{◌≡◌, All, IfOk, length, map};
-ghost use Rattle.document_shapes.specs.Seen.{seen_document, seen_table};
-ghost use Rattle.layout_json.specs.Doc.{Doc as DocValue, names_of};
-ghost use Rattle.layout_json.specs.Keeps.{IsTaken, AreMembersOf};
+// Documents written anew: with other tables, with other certificates, in a later version.
+ghost use Rattle.std.specs.Prelude.{◌≡◌, All, IfOk, Ok, length, map};
+ghost use Rattle.document_shapes.specs.Seen.{seen_table};
+ghost use Rattle.layout_json.specs.Doc.{names_of};
+ghost use Rattle.layout_json.specs.Keeps.{IsTaken};
 ghost use Rattle.layout_json.specs.Members.{table_members_in};
 ghost use Rattle.layout_json.specs.Migrated.{later_version, migrated, IsMigrated};
+ghost use Rattle.layout_json.specs.Reading.{doc_of};
 ghost use Rattle.layout_json.specs.Replaced.{each_with, exchanged, recertified, replaced, certified};
-ghost use Rattle.layout_json.specs.Written.{AreNamed};
+ghost use Rattle.layout_json.specs.Written.{written, AreNamed};
 
 use crate::members::{members_in, members_with, table_with};
-use crate::reading::checked;
+use crate::writing::write_members;
 use crate::{Doc, table_of, tables_of, version};
 use cert_tree::Cert;
-use document_shapes::{DocMembers, TableMembers};
+use document_shapes::TableMembers;
 use rail_model::Table;
 use std::alloc::{AllocError, Global};
-
-// The document whose own members these are.
-fn remade(alloc: Global, members: DocMembers) -> Result<Doc, AllocError>
-    requires { (E : DocValue) × AreMembersOf E (seen_document members) }
-    ensures { IfOk result (λ d. (E : DocValue) → AreMembersOf E (seen_document members) → d ≡ E) }
-{
-    match checked(alloc, members) {
-        Ok(doc) => Ok(doc),
-        Err(_) => Err(AllocError),
-    }
-}
 
 // The members of the tables with other certificates.
 fn certified_tables(
@@ -46,14 +36,16 @@ fn certified_tables(
     Ok(found)
 }
 
-/// The document with these certificates, one for each table, in place of its own; all else is equal. The only error
-/// is want of memory.
-pub fn certified(alloc: Global, doc: &Doc, certs: &[Cert]) -> Result<Doc, AllocError>
+/// The text of the document with these certificates, one for each table, in place of its own; all else is equal. The
+/// only error is that there is no memory.
+pub fn write_certified(alloc: Global, doc: &Doc, certs: &[Cert]) -> Result<Vec<u8>, AllocError>
     requires { length certs.now ≡ length doc.now.tables }
-    ensures { IfOk result (λ d. d ≡ certified doc.now certs.now) }
+    ensures text { IfOk result (λ b. b.items ≡ written (certified doc.now certs.now)) }
+    ensures reads_back { IfOk result (λ b. doc_of b.items ≡ Ok (certified doc.now certs.now)) }
 {
     let tables = certified_tables(alloc, doc, certs)?;
-    remade(alloc, members_with(alloc, version(doc), doc, tables)?)
+    let members = members_with(alloc, version(doc), doc, tables)?;
+    write_members(alloc, &members)
 }
 
 // The members of other tables with their certificates.
@@ -75,15 +67,21 @@ fn replaced_tables(
     Ok(found)
 }
 
-/// The document with these tables and certificates, one for each table, in place of its own; all else is equal. The
-/// only error is want of memory.
-pub fn replaced(alloc: Global, doc: &Doc, parts: &[(Table, Cert)]) -> Result<Doc, AllocError>
+/// The text of the document with these tables and certificates, one for each table, in place of its own; all else is
+/// equal. The only error is that there is no memory.
+pub fn write_replaced(
+    alloc: Global,
+    doc: &Doc,
+    parts: &[(Table, Cert)],
+) -> Result<Vec<u8>, AllocError>
     requires one_each { length parts.now ≡ length doc.now.tables }
     requires taken { IsTaken (replaced doc.now parts.now) }
-    ensures { IfOk result (λ d. d ≡ replaced doc.now parts.now) }
+    ensures text { IfOk result (λ b. b.items ≡ written (replaced doc.now parts.now)) }
+    ensures reads_back { IfOk result (λ b. doc_of b.items ≡ Ok (replaced doc.now parts.now)) }
 {
     let tables = replaced_tables(alloc, doc, parts)?;
-    remade(alloc, members_with(alloc, version(doc), doc, tables)?)
+    let members = members_with(alloc, version(doc), doc, tables)?;
+    write_members(alloc, &members)
 }
 
 // Version 2, or a later one.
@@ -93,12 +91,14 @@ fn later_version(version: u32) -> u32
     if version == 1 { 2 } else { version }
 }
 
-/// The document in version 2, no train of which leaves the layout; a document of a later version as it is. The only
-/// error is want of memory.
-pub fn migrate(alloc: Global, doc: &Doc) -> Result<Doc, AllocError>
-    ensures document { IfOk result (λ d. d ≡ migrated doc.now) }
-    ensures kept { IfOk result (IsMigrated doc.now) }
+/// The text of the document in version 2, no train of which leaves the layout; of a document of a later version as it
+/// is. The only error is that there is no memory.
+pub fn write_migrated(alloc: Global, doc: &Doc) -> Result<Vec<u8>, AllocError>
+    ensures text { IfOk result (λ b. b.items ≡ written (migrated doc.now)) }
+    ensures reads_back { IfOk result (λ b. doc_of b.items ≡ Ok (migrated doc.now)) }
+    ensures kept { IfOk result (λ _. IsMigrated doc.now (migrated doc.now)) }
 {
     let version = later_version(version(doc));
-    remade(alloc, members_in(alloc, version, doc)?)
+    let members = members_in(alloc, version, doc)?;
+    write_members(alloc, &members)
 }

@@ -32,7 +32,7 @@ impl<T: Drop> From<AllocFailed<T>> for TreeRefused {
 ///
 /// # Errors
 ///
-/// Want of memory, or the first table whose nodes spell no tree, and why.
+/// Out of memory, or the first table whose nodes spell no tree, and why.
 pub fn certificates(alloc: Global, doc: &Doc) -> Result<Vec<Cert>, TreeRefused>
     ensures ok { IfOk result (λ certs. AreTrees doc.now certs.items) }
 

@@ -192,6 +192,7 @@ fn made_table(
     let table = made_connections(alloc, number, table, connections)?;
     let times = travel_times(alloc, number, &table, times)?;
     let nodes = certificate.unwrap_or(Vec::new(alloc));
+    // This read gives the proof that the table is formed.
     let _trains = trains_of(&table);
     Ok((Untimed::new(table, after, nodes), times))
 }
