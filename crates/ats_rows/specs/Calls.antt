@@ -10,7 +10,7 @@ use Rattle.ats_run.specs.Causes.{Call, IsServed, Tells, most_bytes}
 use Rattle.ats_run.specs.Complete.{IsGoodInput, IsDoneOrMemory}
 use Rattle.ats_rows.specs.declared.calls.Played.{Played}
 
--- the bytes that were told, where they are known
+-- the bytes that the error sink took, where they are known
 abbrev pub told_by : Played → Option (List ℕ)
 told_by played = option_map (λ told. told.items) played.told
 
@@ -32,7 +32,7 @@ call_of line input reads writes played = record {
   sink_failed = HasSinkFailed writes played;
 }
 
--- A call that ends well wrote what its order comes to on the input, and told nothing. Any other told the line of a refusal that has
+-- A call that ends well wrote what its order comes to on the input, and nothing else. Any other wrote the line of a refusal that has
 -- its cause; it wrote nothing, or a first part where its sink failed. Where no device failed, a good input ends well, or there was no
 -- memory. What is left of the input is its rest, or all of it where nothing is to be read.
 pub record IsPlayed (line : List Text) (input reads writes : List ℕ) (played : Played) : Type 0 where

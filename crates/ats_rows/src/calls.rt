@@ -16,7 +16,7 @@ pub struct Faults<'a> {
     pub writes: &'a [u64],
 }
 
-/// How a call ended, what it wrote, and what it told: `None` where that passed the room of its sink. What it left of its input, and how
+/// How a call ended, what it wrote, and its line on the error sink: `None` where that passed the room of its sink. What it left of its input, and how
 /// many reads and writes it made.
 #[derive(Drop)]
 pub struct Played {
@@ -35,7 +35,7 @@ fn copied(alloc: Global, bytes: &[u8]) -> Result<Vec<u8>, AllocError>
     bytes.to_vec(alloc)
 }
 
-// A copy of the bytes that a sink took, where it tells them.
+// A copy of the bytes that a sink took, where they are known.
 fn copied_of(alloc: Global, sink: &SureSink) -> Result<Option<Vec<u8>>, AllocError>
     ensures { IfOk result (λ told. option_map (λ bytes. bytes.items) told ≡ sink.now) }
 {
@@ -72,7 +72,7 @@ fn play_on<R: Threads + Wait + Sync, G: Gate>(
     })
 }
 
-/// Calls the program with these words on an input in memory. What it tells goes to a sink that never fails. Where the words ask for
+/// Calls the program with these words on an input in memory. Its error sink never fails. Where the words ask for
 /// workers, each calls the gate.
 ///
 /// # Errors

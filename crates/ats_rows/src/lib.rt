@@ -1,4 +1,4 @@
-//! The whole program over sources and sinks in memory: what it writes and tells on worked examples, and where a device fails.
+//! The whole program over sources and sinks in memory: what it writes on worked examples, and where a device fails.
 #![tactic(auto)]
 
 mod calls;

@@ -11,14 +11,14 @@ use Rattle.layout_json.specs.Reading.{doc_of}
 use Rattle.ats_run.specs.declared.failure.Failure.{Failure}
 use Rattle.ats_run.specs.declared.failure.Failure.TheVariants as failure
 use Rattle.ats_run.specs.Certificates.{IsBadTable}
-use Rattle.ats_run.specs.Command.{IsUnchecked}
+use Rattle.ats_run.specs.Command.{RefusesCheck}
 use Rattle.ats_run.specs.Complete.{IsAcceptedInput}
 
 pub same_doc : (input : List ℕ) (D E : Doc) → doc_of input ≡ Ok D → doc_of input ≡ Ok E → E ≡ D
 same_doc input D E d e = let both = sym e ∙ d in let same : E ≡ D = cc in same
 
 -- a document whose tables accept their certificates is refused for nothing
-pub not_unchecked : (input : List ℕ) → IsAcceptedInput input → (e : Failure) → IsUnchecked input e → ⊥
+pub not_unchecked : (input : List ℕ) → IsAcceptedInput input → (e : Failure) → RefusesCheck input e → ⊥
 not_unchecked input good (failure.Document x) h = let both = sym h ∙ good.1 in cc
 not_unchecked input good (failure.Tree t x) h =
     let accepted = good.2.1 in
@@ -35,6 +35,6 @@ not_unchecked input good (failure.Certificate t bad) h =
 not_unchecked input good e h = h
 
 -- so its refusal is want of memory
-pub only_memory : (input : List ℕ) → IsAcceptedInput input → (e : Failure) → (e ≡ failure.Memory) ⊎ IsUnchecked input e → e ≡ failure.Memory
+pub only_memory : (input : List ℕ) → IsAcceptedInput input → (e : Failure) → (e ≡ failure.Memory) ⊎ RefusesCheck input e → e ≡ failure.Memory
 only_memory input good e (inl memory) = memory
 only_memory input good e (inr h) = absurd (not_unchecked input good e h)

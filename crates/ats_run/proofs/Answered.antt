@@ -8,14 +8,14 @@ use Rattle.command_words.specs.declared.orders.Order.TheVariants.{Run, Resume, C
 use Rattle.layout_json.specs.Doc.{Doc, table_at}
 use Rattle.ats_run.specs.declared.failure.Failure.{Failure}
 use Rattle.ats_run.specs.declared.failure.Failure.TheVariants as failure
-use Rattle.ats_run.specs.Causes.{Call, IsRead, IsReadWhole, IsServed, IsCause}
-use Rattle.ats_run.specs.Command.{Comes, IsUnchecked, IsUnverifiedInput, IsUnresumedInput, IsNoDoc, IsUnmadeInput, IsUnderivedInput}
+use Rattle.ats_run.specs.Causes.{Call, call_of, IsRead, IsReadWhole, IsServed, IsCause}
+use Rattle.ats_run.specs.Command.{Comes, RefusesCheck, RefusesVerify, RefusesResume, RefusesDocument, RefusesMake, RefusesDerive}
 use Rattle.ats_run.specs.Deriving.{derived, HasTooManyRings}
 use Rattle.document_generator.specs.Generated.{generated}
 use Rattle.ats_run.specs.Generating.{full_budget}
 use Rattle.ats_run.specs.Making.{MakesNone, tables_in, table_in}
 use Rattle.ats_run.specs.Orders.{OnInput}
-use Rattle.ats_run.specs.Repairing.{RepairsNone, IsUnrepaired}
+use Rattle.ats_run.specs.Repairing.{RepairsNone, FailsToRepair}
 use Rattle.ats_run.specs.Starting.{IsBadStart}
 use Rattle.ats_run.proofs.Reading.{of_bytes}
 
@@ -33,10 +33,10 @@ outside P words read write long e o h = elim o [
   | inr (inr (inr is)) ↦ long (subst P is h)
 ]
 
-never_no_doc : (input : List ℕ) (e : Failure) → IsOutside e → IsNoDoc input e → ⊥
-never_no_doc input e o h = outside (IsNoDoc input) (λ n. let is = n.1 in cc) (λ n. let is = n.1 in cc) (λ n. let is = n.1 in cc) (λ n. let is = n.1 in cc) e o h
+never_no_doc : (input : List ℕ) (e : Failure) → IsOutside e → RefusesDocument input e → ⊥
+never_no_doc input e o h = outside (RefusesDocument input) (λ n. let is = n.1 in cc) (λ n. let is = n.1 in cc) (λ n. let is = n.1 in cc) (λ n. let is = n.1 in cc) e o h
 
-never_underived : (input : List ℕ) (most budget : ℕ) (e : Failure) → IsOutside e → IsUnderivedInput input most budget e → ⊥
+never_underived : (input : List ℕ) (most budget : ℕ) (e : Failure) → IsOutside e → RefusesDerive input most budget e → ⊥
 never_underived input most budget e o (inl none) = never_no_doc input e o none
 never_underived input most budget e o (inr h) = elim h.2 [
   | inl many ↦
@@ -49,30 +49,30 @@ never_underived input most budget e o (inr h) = elim h.2 [
       outside (MakesNone (table_in (derived h.0 most) none.2.table) none.2.table budget) (λ n. n) (λ n. n) (λ n. n) (λ n. n) e o none.2.none
 ]
 
-never_unrepaired : (D : Doc) (budget rounds : ℕ) (e : Failure) → IsOutside e → IsUnrepaired D budget rounds e → ⊥
+never_unrepaired : (D : Doc) (budget rounds : ℕ) (e : Failure) → IsOutside e → FailsToRepair D budget rounds e → ⊥
 never_unrepaired D budget rounds e o h = elim h [
   | inl c ↦ outside (λ f. f ≡ failure.Connected c.table) (λ n. cc) (λ n. cc) (λ n. cc) (λ n. cc) e o c.told
   | inr (inl u) ↦ outside (RepairsNone (table_at D u.table) u.table budget rounds) (λ n. n) (λ n. n) (λ n. n) (λ n. n) e o u.none
   | inr (inr s) ↦ outside (IsBadStart s.1.table D.start) (λ n. let is = n.1 in cc) (λ n. let is = n.1 in cc) (λ n. let is = n.1 in cc) (λ n. let is = n.1 in cc) e o s.1.start
 ]
 
-never_unmade : (input : List ℕ) (b : ℕ) (e : Failure) → IsOutside e → IsUnmadeInput input b e → ⊥
+never_unmade : (input : List ℕ) (b : ℕ) (e : Failure) → IsOutside e → RefusesMake input b e → ⊥
 never_unmade input b e o h = elim h [ inl none ↦ never_no_doc input e o none | inr none ↦ outside (MakesNone (table_in (tables_in none.0) none.2.table) none.2.table b) (λ n. n) (λ n. n) (λ n. n) (λ n. n) e o none.2.none ]
 
 -- no command comes to a failure of words or devices
 never : (order : Order) (input : List ℕ) (e : Failure) → IsOutside e → Comes order input (Err e) → ⊥
-never (Run w r k) input e o h = outside (IsUnchecked input) (λ n. n) (λ n. n) (λ n. n) (λ n. n) e o h
-never (Resume w r k) input e o h = outside (IsUnresumedInput input) (λ n. n.2) (λ n. n.2) (λ n. n.2) (λ n. n.2) e o h
-never Check input e o h = outside (IsUnchecked input) (λ n. n) (λ n. n) (λ n. n) (λ n. n) e o h
-never Verify input e o h = outside (IsUnverifiedInput input) (λ n. n.2) (λ n. n.2) (λ n. n.2) (λ n. n.2) e o h
+never (Run w r k) input e o h = outside (RefusesCheck input) (λ n. n) (λ n. n) (λ n. n) (λ n. n) e o h
+never (Resume w r k) input e o h = outside (RefusesResume input) (λ n. n.2) (λ n. n.2) (λ n. n.2) (λ n. n.2) e o h
+never Check input e o h = outside (RefusesCheck input) (λ n. n) (λ n. n) (λ n. n) (λ n. n) e o h
+never Verify input e o h = outside (RefusesVerify input) (λ n. n.2) (λ n. n.2) (λ n. n.2) (λ n. n.2) e o h
 never Migrate input e o h = never_no_doc input e o h
 never (Make b) input e o h = never_unmade input b e o h
 never (Derive m b) input e o h = never_underived input m b e o h
 never (Repair b r) input e o h = elim h [ inl none ↦ never_no_doc input e o none | inr un ↦ never_unrepaired un.0 b r e o un.2 ]
-never Simulate input e o h = outside (IsUnchecked input) (λ n. n) (λ n. n) (λ n. n) (λ n. n) e o h
+never Simulate input e o h = outside (RefusesCheck input) (λ n. n) (λ n. n) (λ n. n) (λ n. n) e o h
 never (Generate s n) input e o h = never_unmade (generated s n) full_budget e o h
 never (Drill s n w) input e o h = never_unmade (generated s n) full_budget e o h
-never (Weave s k) input e o h = outside (IsUnchecked input) (λ n. n) (λ n. n) (λ n. n) (λ n. n) e o h
+never (Weave s k) input e o h = outside (RefusesCheck input) (λ n. n) (λ n. n) (λ n. n) (λ n. n) e o h
 
 -- what a command comes to on the bytes that were read is the cause of the end of its call
 pub answered : (call : Call) (order : Order) (bytes : List ℕ) (e : Failure) → call.order ≡ Some order → IsRead call order
@@ -85,7 +85,7 @@ answered call order bytes failure.Memory asked whole same h = tt
 answered call order bytes e asked whole same h = (order, asked, (whole, of_bytes order call.held bytes (λ input. Comes order input (Err e)) same h))
 
 -- why there is no text is the cause
-pub no_text : (call : Call) (order : Order) (bytes : List ℕ) (e : Failure) → call.order ≡ Some order → IsRead call order
+no_text : (call : Call) (order : Order) (bytes : List ℕ) (e : Failure) → call.order ≡ Some order → IsRead call order
     → OnInput order call.held (λ input. bytes ≡ input) → (e ≡ failure.Memory) ⊎ Comes order bytes (Err e) → IsCause call e
 no_text call order bytes e asked whole same h = elim h [
   | inl is ↦ subst (IsCause call) (sym is) tt
@@ -93,12 +93,31 @@ no_text call order bytes e asked whole same h = elim h [
 ]
 
 -- what is true of an error is true of it where it is handed on
-pub handed_on : {V E : Type 0} (result : Result V E) (e : E) (P : E → Type 0) → IsErrAnd result (λ y. y ≡ e) → P e → IfErr result P
+handed_on : {V E : Type 0} (result : Result V E) (e : E) (P : E → Type 0) → IsErrAnd result (λ y. y ≡ e) → P e → IfErr result P
 handed_on (Ok v) e P is p = tt
 handed_on (Err y) e P is p = subst P (sym is) p
 
 -- what was read whole comes to a text, of which the fact holds
-pub is_served : (order : Order) (held left : Option (List ℕ)) (bytes text : List ℕ) (Taken : List ℕ → Type 0) → IsReadWhole order held (IsAtEnd left)
+is_served : (order : Order) (held left : Option (List ℕ)) (bytes text : List ℕ) (Taken : List ℕ → Type 0) → IsReadWhole order held (IsAtEnd left)
     → OnInput order held (λ input. bytes ≡ input) → Comes order bytes (Ok text) → Taken text → IsServed (Some order) held left Taken
 is_served order held left bytes text Taken whole same comes taken =
     (order, refl, whole, of_bytes order held bytes (λ input. (written : List ℕ) × Comes order input (Ok written) × Taken written) same (text, comes, taken))
+
+-- A call that was answered has read its input, of which the fact holds that its answer says.
+module _ (order : Order) (held left : Option (List ℕ)) (input read : List ℕ) (is : read ≡ input) (whole : IsReadWhole order held (IsAtEnd left))
+    (same : OnInput order held (λ all. input ≡ all)) where
+  read_same : OnInput order held (λ all. read ≡ all)
+  read_same = subst (λ (bytes : List ℕ). OnInput order held (λ all. bytes ≡ all)) (sym is) same
+
+  -- a text, of whose bytes this was taken
+  pub serves : (text printed : List ℕ) (Taken : List ℕ → Type 0) → printed ≡ text → Comes order read (Ok text) → Taken printed
+      → IsServed (Some order) held left Taken
+  serves text printed Taken same_text comes taken =
+      is_served order held left read printed Taken whole read_same (subst (λ (bytes : List ℕ). Comes order read (Ok bytes)) (sym same_text) comes) taken
+
+  -- a refusal, which is handed on
+  pub hands_on : {V : Type 0} (result : Result V Failure) (e : Failure) (source_failed sink_failed : Type 0) → IsErrAnd result (λ y. y ≡ e)
+      → (e ≡ failure.Memory) ⊎ Comes order read (Err e) → IfErr result (IsCause (call_of (Some order) held left source_failed sink_failed))
+  hands_on result e source_failed sink_failed handed comes =
+      let call : Call = call_of (Some order) held left source_failed sink_failed in
+      handed_on result e (IsCause call) handed (no_text call order read e refl whole read_same comes)

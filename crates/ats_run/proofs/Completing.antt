@@ -18,16 +18,16 @@ use Rattle.ats_run.specs.declared.status.Status.{Status}
 use Rattle.ats_run.specs.declared.failure.Failure.{Failure}
 use Rattle.ats_run.specs.declared.failure.Failure.TheVariants as failure
 use Rattle.ats_run.specs.Causes.{Call, Asked, IsRead, IsCause, most_bytes}
-use Rattle.ats_run.specs.Command.{Comes, IsDocWith, IsNoDoc, IsUnchecked, IsPairWith, IsUnverifiedInput, IsUnresumedInput, IsUnmadeInput, IsUnderivedInput, IsUnrepairedInput}
+use Rattle.ats_run.specs.Command.{Comes, IsDocWith, RefusesDocument, RefusesCheck, IsPairWith, RefusesVerify, RefusesResume, RefusesMake, RefusesDerive, RefusesRepair}
 use Rattle.ats_run.specs.Complete.{IsWholeText, IsRightFront, IsJournalInput, IsDerivable, IsGoodInput, IsDoneOrMemory}
-use Rattle.ats_run.specs.Deriving.{derived, IsUnderived}
+use Rattle.ats_run.specs.Deriving.{derived, FailsToDerive}
 use Rattle.ats_run.specs.Ending.{status_of}
 use Rattle.document_generator.specs.Generated.{generated}
 use Rattle.ats_run.specs.Generating.{full_budget}
-use Rattle.ats_run.specs.Journals.{mark, IsCut, document_part, journal_part, IsUnreadable, IsUnverified, IsUnresumed}
-use Rattle.ats_run.specs.Making.{tables_in, table_in, AreMakeable, IsUnmade, MakesNone}
+use Rattle.ats_run.specs.Journals.{mark, IsCut, document_part, journal_part, IsUnreadable, FailsToVerify, FailsToResume}
+use Rattle.ats_run.specs.Making.{tables_in, table_in, AreMakeable, FailsToMake, MakesNone}
 use Rattle.ats_run.specs.Orders.{Reads, OnInput, Holds}
-use Rattle.ats_run.specs.Repairing.{IsUnrepaired, IsRepairable}
+use Rattle.ats_run.specs.Repairing.{FailsToRepair, IsRepairable}
 use Rattle.ats_run.specs.Report.{IsLineMade}
 use Rattle.ats_run.proofs.AcceptedInput.{same_doc, not_unchecked}
 use Rattle.ats_run.proofs.Reading.{of_input}
@@ -45,32 +45,32 @@ said_of input P Q good h =
 
 -- the document of such an input is refused for nothing
 part_not_unchecked : (input : List ℕ) (P : Doc → List ℕ → Type 0) (good : IsJournalInput input P) (e : Failure)
-    → (k : ℕ) × IsCut input k × IsUnchecked (document_part input k) e → ⊥
+    → (k : ℕ) × IsCut input k × RefusesCheck (document_part input k) e → ⊥
 part_not_unchecked input P good e h =
-    not_unchecked (document_part input good.0) good.2 e (subst (λ k. IsUnchecked (document_part input k) e) (same_cut input h.0 good.0 h.1 good.1) h.2)
+    not_unchecked (document_part input good.0) good.2 e (subst (λ k. RefusesCheck (document_part input k) e) (same_cut input h.0 good.0 h.1 good.1) h.2)
 
-not_unverified : (input : List ℕ) (good : IsJournalInput input IsWholeText) (e : Failure) → IsUnverifiedInput input e → ⊥
+not_unverified : (input : List ℕ) (good : IsJournalInput input IsWholeText) (e : Failure) → RefusesVerify input e → ⊥
 not_unverified input good failure.NoJournal h = h good.0 good.1.0
 not_unverified input good (failure.Text cause) h =
     readable good.3.0 (journal_part input good.0) good.3.2 cause (said_of input IsWholeText (λ D given. IsUnreadable D given cause) good h)
 not_unverified input good (failure.Line cause) h =
-    verified good.3.0 (journal_part input good.0) good.3.2 cause (said_of input IsWholeText (λ D given. IsUnverified D given cause) good h)
+    verified good.3.0 (journal_part input good.0) good.3.2 cause (said_of input IsWholeText (λ D given. FailsToVerify D given cause) good h)
 not_unverified input good e h = part_not_unchecked input IsWholeText good e h
 
 -- the given bytes are a whole journal's text or a right front
 abbrev Begins : Doc → List ℕ → Type 0
 Begins D given = IsWholeText D given ⊎ IsRightFront D given
 
-not_unresumed : (input : List ℕ) (good : IsJournalInput input Begins) (e : Failure) → IsUnresumedInput input e → ⊥
+not_unresumed : (input : List ℕ) (good : IsJournalInput input Begins) (e : Failure) → RefusesResume input e → ⊥
 not_unresumed input good failure.NoJournal h = h good.0 good.1.0
 not_unresumed input good (failure.Text cause) h =
     let said = said_of input Begins (λ D given. IsUnreadable D given cause × (cause ≢ NoEnd)) good h in
     begins_readable good.3.0 (journal_part input good.0) good.3.2 cause said.0 said.1
 not_unresumed input good (failure.Line cause) h =
-    resumed good.3.0 (journal_part input good.0) good.3.2 cause (said_of input Begins (λ D given. IsUnresumed D given cause) good h)
+    resumed good.3.0 (journal_part input good.0) good.3.2 cause (said_of input Begins (λ D given. FailsToResume D given cause) good h)
 not_unresumed input good e h = part_not_unchecked input Begins good e h
 
-not_no_doc : (input : List ℕ) (D : Doc) → doc_of input ≡ Ok D → (e : Failure) → IsNoDoc input e → ⊥
+not_no_doc : (input : List ℕ) (D : Doc) → doc_of input ≡ Ok D → (e : Failure) → RefusesDocument input e → ⊥
 not_no_doc input D is e h = let both = sym h.2 ∙ is in cc
 
 -- two answers of the maker are one
@@ -79,20 +79,20 @@ made_or_not T budget t tree good (failure.Spent u n) h = let same = makes_one T 
 made_or_not T budget t tree good (failure.Stuck u p) h = let same = makes_one T budget (cert tree) (found p) good h.1 in cc
 made_or_not T budget t tree good e h = h
 
-not_unmade : (input : List ℕ) (budget : ℕ) → IsDocWith input (λ D. AreMakeable (tables_in D) budget) → (e : Failure) → IsUnmadeInput input budget e → ⊥
+not_unmade : (input : List ℕ) (budget : ℕ) → IsDocWith input (λ D. AreMakeable (tables_in D) budget) → (e : Failure) → RefusesMake input budget e → ⊥
 not_unmade input budget good e (inl h) = not_no_doc input good.0 good.1 e h
 not_unmade input budget good e (inr h) =
     let same = same_doc input good.0 h.0 good.1 h.1 in
-    let no = subst (λ (E : Doc). IsUnmade (tables_in E) budget e) same h.2 in
+    let no = subst (λ (E : Doc). FailsToMake (tables_in E) budget e) same h.2 in
     let tree = good.2 no.table no.in_range in
     made_or_not (table_in (tables_in good.0) no.table) budget no.table tree.0 tree.1 e no.none
 
-not_underived : (input : List ℕ) (most budget : ℕ) → IsDocWith input (IsDerivable most budget) → (e : Failure) → IsUnderivedInput input most budget e → ⊥
+not_underived : (input : List ℕ) (most budget : ℕ) → IsDocWith input (IsDerivable most budget) → (e : Failure) → RefusesDerive input most budget e → ⊥
 not_underived input most budget good e (inl h) = not_no_doc input good.0 good.1 e h
 not_underived input most budget good e (inr h) =
     let D = good.0 in
     let same = same_doc input D h.0 good.1 h.1 in
-    let no = subst (λ (E : Doc). IsUnderived E most budget e) same h.2 in
+    let no = subst (λ (E : Doc). FailsToDerive E most budget e) same h.2 in
     elim no [
       | inl many ↦ let few = good.2.0 many.table many.in_range in omega (arith, few, many.many.1)
       | inr (inl bad) ↦ illegal_not_legal (table_in (derived D most) 0) D.start bad.1.0 bad.1.2 good.2.1
@@ -101,10 +101,10 @@ not_underived input most budget good e (inr h) =
           made_or_not (table_in (derived D most) none.2.table) budget none.2.table tree.0 tree.1 e none.2.none
     ]
 
-not_repaired : (input : List ℕ) (budget rounds : ℕ) → IsDocWith input (λ D. IsRepairable D budget rounds) → (e : Failure) → IsUnrepairedInput input budget rounds e → ⊥
+not_repaired : (input : List ℕ) (budget rounds : ℕ) → IsDocWith input (λ D. IsRepairable D budget rounds) → (e : Failure) → RefusesRepair input budget rounds e → ⊥
 not_repaired input budget rounds good e (inl h) = not_no_doc input good.0 good.1 e h
 not_repaired input budget rounds good e (inr h) =
-    not_unrepaired good.0 budget rounds good.2 e (subst (λ (E : Doc). IsUnrepaired E budget rounds e) (same_doc input good.0 h.0 good.1 h.1) h.2)
+    not_unrepaired good.0 budget rounds good.2 e (subst (λ (E : Doc). FailsToRepair E budget rounds e) (same_doc input good.0 h.0 good.1 h.1) h.2)
 
 -- a good input is refused for nothing
 not_refused : (order : Order) (input : List ℕ) → IsGoodInput order input → (e : Failure) → Comes order input (Err e) → ⊥

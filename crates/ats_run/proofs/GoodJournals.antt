@@ -15,13 +15,13 @@ use Rattle.move_journal.proofs.OneAnswer.{text_or_fault, one_journal, one_prefix
 use Rattle.move_journal.proofs.OneBadLine.{right_or_bad}
 use Rattle.move_journal.proofs.OneLack.{whole_or_not}
 use Rattle.layout_json.specs.Doc.{Doc, offers_of, names_of}
-use Rattle.ats_run.specs.Journals.{IsUnreadable, IsUnverified, IsUnresumed}
+use Rattle.ats_run.specs.Journals.{IsUnreadable, FailsToVerify, FailsToResume}
 use Rattle.ats_run.specs.Complete.{IsWholeText, IsRightFront}
 
 pub readable : (D : Doc) (given : List ℕ) → IsWholeText D given → (cause : BadText) → IsUnreadable D given cause → ⊥
 readable D given good cause h = text_or_fault (names_of D) given good.0 cause h.formed.names good.1 h.fault
 
-pub verified : (D : Doc) (given : List ℕ) → IsWholeText D given → (cause : BadLine) → IsUnverified D given cause → ⊥
+pub verified : (D : Doc) (given : List ℕ) → IsWholeText D given → (cause : BadLine) → FailsToVerify D given cause → ⊥
 verified D given good cause h =
     let same = one_journal (names_of D) given h.journal good.0 h.formed.names h.text good.1 in
     whole_or_not (offers_of D) (opening D.start) good.0 cause good.2 (subst (λ (J : Journal). IsNotWhole (offers_of D) (opening D.start) J cause) same h.fault)
@@ -63,7 +63,7 @@ one_part N given a b names p q =
     let is : a ≡ b = cc in
     is
 
-whole_not_resumed : (D : Doc) (given : List ℕ) → IsWholeText D given → (cause : BadLine) → IsUnresumed D given cause → ⊥
+whole_not_resumed : (D : Doc) (given : List ℕ) → IsWholeText D given → (cause : BadLine) → FailsToResume D given cause → ⊥
 whole_not_resumed D given good cause h = elim (h.fault) [
   | inl refused ↦
       let same = one_part (names_of D) given (Whole h.journal) (Whole good.0) h.formed.names refused.0 good.1 in
@@ -74,7 +74,7 @@ whole_not_resumed D given good cause h = elim (h.fault) [
       cc
 ]
 
-front_not_resumed : (D : Doc) (given : List ℕ) → IsRightFront D given → (cause : BadLine) → IsUnresumed D given cause → ⊥
+front_not_resumed : (D : Doc) (given : List ℕ) → IsRightFront D given → (cause : BadLine) → FailsToResume D given cause → ⊥
 front_not_resumed D given good cause h = elim (h.fault) [
   | inl refused ↦
       let same = one_part (names_of D) given (Whole h.journal) (Open good.0) h.formed.names refused.0 good.1 in
@@ -85,6 +85,6 @@ front_not_resumed D given good cause h = elim (h.fault) [
       right_or_bad (offers_of D) (opening D.start) good.0.lines cause good.2 (subst (λ (J : Journal). HasBadLine (offers_of D) (opening D.start) J.lines cause) is refused.1)
 ]
 
-pub resumed : (D : Doc) (given : List ℕ) → IsWholeText D given ⊎ IsRightFront D given → (cause : BadLine) → IsUnresumed D given cause → ⊥
+pub resumed : (D : Doc) (given : List ℕ) → IsWholeText D given ⊎ IsRightFront D given → (cause : BadLine) → FailsToResume D given cause → ⊥
 resumed D given (inl good) cause h = whole_not_resumed D given good cause h
 resumed D given (inr good) cause h = front_not_resumed D given good cause h

@@ -11,7 +11,7 @@ use Rattle.layout_json.specs.Doc.{Doc, table_at}
 use Rattle.layout_json.specs.Trees.{tree_at}
 use Rattle.ats_run.specs.declared.failure.Failure.{Failure}
 use Rattle.ats_run.specs.declared.failure.Failure.TheVariants.{Memory as NoMemory}
-use Rattle.ats_run.specs.Making.{tables_in, table_in, MakesNone, IsUnmade}
+use Rattle.ats_run.specs.Making.{tables_in, table_in, MakesNone, FailsToMake}
 
 pub table_count : (D : Doc) → length (tables_in D) ≡ length D.tables
 table_count D = length-map D.tables (λ t. t.table)
@@ -54,7 +54,7 @@ made_more tables budget n trees longer T c so is table made accepted = record {
 
 -- the first of which none is made
 pub none_at : (tables : List Table) (budget n : ℕ) (trees : List Tree) (T : Table) (e : Failure) → AreMadeBelow tables budget n trees → n < length tables → T ≡ table_in tables n
-    → (e ≡ NoMemory) ⊎ MakesNone T n budget e → (e ≡ NoMemory) ⊎ IsUnmade tables budget e
+    → (e ≡ NoMemory) ⊎ MakesNone T n budget e → (e ≡ NoMemory) ⊎ FailsToMake tables budget e
 none_at tables budget n trees T e so within table h = elim h [
   | inl memory ↦ inl memory
   | inr none ↦

@@ -8,7 +8,7 @@ use Rattle.section_repair.proofs.OneAnswer.{repair_is_unique}
 use Rattle.layout_json.specs.Doc.{Doc, table_at}
 use Rattle.ats_run.specs.declared.failure.Failure.{Failure}
 use Rattle.ats_run.specs.declared.failure.Failure.TheVariants as failure
-use Rattle.ats_run.specs.Repairing.{RepairsNone, IsRefusedStart, IsUnrepaired, HasRepair, IsRepairable}
+use Rattle.ats_run.specs.Repairing.{RepairsNone, IsRefusedStart, FailsToRepair, HasRepair, IsRepairable}
 
 -- two answers of a repair are one
 repaired_or_not : (T : Table) (budget rounds t : ℕ) (P : Table → Type 0) → HasRepair T budget rounds P → (e : Failure) → RepairsNone T t budget rounds e → ⊥
@@ -28,7 +28,7 @@ start_or_not T start budget rounds good e h =
     let same : good.0 ≡ h.table = cc in
     illegal_not_legal h.table start h.start.0 h.start.2 (subst (λ (U : Table). Legal U start) same good.4)
 
-pub not_unrepaired : (D : Doc) (budget rounds : ℕ) → IsRepairable D budget rounds → (e : Failure) → IsUnrepaired D budget rounds e → ⊥
+pub not_unrepaired : (D : Doc) (budget rounds : ℕ) → IsRepairable D budget rounds → (e : Failure) → FailsToRepair D budget rounds e → ⊥
 not_unrepaired D budget rounds good e h = elim h [
   | inl c ↦ c.connected (good.unconnected c.table c.in_range)
   | inr (inl u) ↦ repaired_or_not (table_at D u.table) budget rounds u.table (λ U. Unit {0}) (good.each u.table u.in_range) e u.none

@@ -23,8 +23,8 @@ use Rattle.layout_json.specs.Written.{written}
 use Rattle.layout_json.proofs.Remade.{remarked-is-taken}
 use Rattle.layout_json.proofs.Offered.{offer_count}
 use Rattle.ats_run.specs.Making.{part_in}
-use Rattle.ats_run.specs.Repairing.{IsRepairedAs, EndsRepair, AreRepaired, IsUnconnected, IsRepaired, IsRefusedStart, IsUnrepaired}
-use Rattle.ats_run.specs.Command.{IsUnrepairedInput}
+use Rattle.ats_run.specs.Repairing.{IsRepairedAs, EndsRepair, AreRepaired, IsUnconnected, IsRepaired, IsRefusedStart, FailsToRepair}
+use Rattle.ats_run.specs.Command.{RefusesRepair}
 use Rattle.ats_run.specs.Starting.{IsBadStart}
 use Rattle.ats_run.specs.declared.failure.Failure.{Failure}
 use Rattle.ats_run.specs.declared.failure.Failure.TheVariants.{Memory}
@@ -151,7 +151,7 @@ repaired_is D budget rounds parts given bytes enough unconnected so same printed
 
 -- its refusal is the input's
 pub unrepaired_input : {A : Type 0} (input : List ℕ) (D : Doc) (budget rounds : ℕ) (result : Result A Failure) (e : Failure) → doc_of input ≡ Ok D
-    → (e ≡ Memory) ⊎ IsUnrepaired D budget rounds e → IsErrAnd result (λ y. y ≡ e) → IfErr result (λ f. (f ≡ Memory) ⊎ IsUnrepairedInput input budget rounds f)
+    → (e ≡ Memory) ⊎ FailsToRepair D budget rounds e → IsErrAnd result (λ y. y ≡ e) → IfErr result (λ f. (f ≡ Memory) ⊎ RefusesRepair input budget rounds f)
 unrepaired_input input D budget rounds (Ok a) e is h told = tt
 unrepaired_input input D budget rounds (Err y) e is h told =
-    subst (λ f. (f ≡ Memory) ⊎ IsUnrepairedInput input budget rounds f) (sym told) (elim h [ inl memory ↦ inl memory | inr un ↦ inr (inr (D, is, un)) ])
+    subst (λ f. (f ≡ Memory) ⊎ RefusesRepair input budget rounds f) (sym told) (elim h [ inl memory ↦ inl memory | inr un ↦ inr (inr (D, is, un)) ])

@@ -1,4 +1,4 @@
--- Why a call may end with a refusal, and what it then tells.
+-- Why a call may end with a refusal, and what it then writes.
 use Rattle.std.specs.Prelude.{◌≡◌, ◌⊎◌, ℕ, ◌<◌, ◌≤◌, List, length, Option, Some, None, Ok, Err, IfSome}
 use Rattle.std.specs.Io.KnownBytes.{IsAtEnd}
 use Rattle.ats_io.specs.Bytes.{Adds, AddsPrefix}
@@ -52,7 +52,7 @@ IsServed asked held left Taken =
     (order : Order) × (asked ≡ Some order) × IsReadWhole order held (IsAtEnd left)
     × OnInput order held (λ input. (written : List ℕ) × Comes order input (Ok written) × Taken written)
 
--- The cause of a refusal. Want of memory alone is free. What isn't of the words or of the source comes only after the input was read
+-- The cause of a refusal. Being out of memory has none. What isn't of the words or of the source comes only after the input was read
 -- whole.
 abbrev pub IsCause : Call → Failure → Type 0
 IsCause call Words = call.order ≡ None
@@ -62,12 +62,12 @@ IsCause call TooLong = Asked call (λ order. Reads order × OnInput order call.h
 IsCause call WriteFault = Asked call (λ order. IsRead call order × call.sink_failed)
 IsCause call e = Asked call (λ order. IsRead call order × OnInput order call.held (λ input. Comes order input (Err e)))
 
--- Why an input was not read: memory alone is free.
+-- Why an input was not read: being out of memory has no cause.
 abbrev pub IsUnread : Option (List ℕ) → Type 0 → Failure → Type 0
 IsUnread held source_failed e =
     (e ≡ Memory) ⊎ ((e ≡ ReadFault) × source_failed) ⊎ ((e ≡ TooLong) × IfSome held (λ input. most_bytes < length input))
 
--- A refusal with this status has its cause, and its line was told: whole, unless the error sink failed.
+-- A refusal with this status has its cause, and its line was written: whole, unless the error sink failed.
 pub record Tells (call : Call) (status : Status) (err_failed : Type 0) (old new : Option (List ℕ)) : Type 0 where
   pub failure : Failure
   pub ends : status_of failure ≡ status

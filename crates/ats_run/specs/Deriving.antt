@@ -10,14 +10,14 @@ use Rattle.layout_json.specs.Replaced.{replaced}
 use Rattle.ats_run.specs.declared.failure.Failure.{Failure}
 use Rattle.ats_run.specs.declared.failure.Failure.TheVariants.{Many}
 use Rattle.ats_run.specs.Certificates.{IsAcceptedText}
-use Rattle.ats_run.specs.Making.{table_in, trees_in, HaveMade, IsUnmade}
+use Rattle.ats_run.specs.Making.{table_in, trees_in, HaveMade, FailsToMake}
 use Rattle.ats_run.specs.Starting.{IsBadStart}
 
--- the table with the sections of its rings of at most so many trains in place of its own; its connections stay
+-- the table with the sections of its rings of at most `most` trains in place of its own; its connections stay
 abbrev pub derived_table : ℕ → Table → Table
 derived_table most T = record (ring_table T.missions (rings T.missions most)) { connections = T.connections }
 
--- each table of the document so
+-- each table of the document, with the sections of its rings
 abbrev pub derived : Doc → ℕ → List Table
 derived D most = map (λ t. derived_table most t.table) D.tables
 
@@ -25,7 +25,7 @@ derived D most = map (λ t. derived_table most t.table) D.tables
 abbrev pub HasFewRings : ℕ → Table → Type 0
 HasFewRings most T = length (rings T.missions most) ≤ 64
 
--- So has each table of the document.
+-- Each table of the document has at most 64 such rings.
 abbrev pub HaveFewRings : Doc → ℕ → Type 0
 HaveFewRings D most = (t : ℕ) → t < length D.tables → HasFewRings most (table_at D t)
 
@@ -50,8 +50,8 @@ pub record HasManyRings (D : Doc) (most : ℕ) (e : Failure) : Type 0 where
   pub many : HasTooManyRings most (table_at D table) table e
 
 -- Why there is no such document: too many rings, then the start, then the making.
-abbrev pub IsUnderived : Doc → ℕ → ℕ → Failure → Type 0
-IsUnderived D most budget e =
+abbrev pub FailsToDerive : Doc → ℕ → ℕ → Failure → Type 0
+FailsToDerive D most budget e =
     HasManyRings D most e
     ⊎ (HaveFewRings D most × IsBadStart (table_in (derived D most) 0) D.start e)
-    ⊎ (HaveFewRings D most × Legal (table_in (derived D most) 0) D.start × IsUnmade (derived D most) budget e)
+    ⊎ (HaveFewRings D most × Legal (table_in (derived D most) 0) D.start × FailsToMake (derived D most) budget e)

@@ -50,7 +50,7 @@ pub record IsVerified (D : Doc) (given written : List ℕ) : Type 0 where
   pub whole : IsWhole (offers_of D) (opening D.start) journal
   pub printed : written ≡ verified_text journal
 
--- Why bytes are no journal's text, as the program tells it.
+-- Why bytes are no journal's text, as a failure of the program.
 abbrev pub IsTextFault : Names → List ℕ → Failure → Type 0
 IsTextFault N given (Text cause) = HasFault N given cause
 IsTextFault N given e = ⊥
@@ -60,12 +60,12 @@ abbrev pub IsPartFault : Names → List ℕ → Failure → Type 0
 IsPartFault N given (Text cause) = HasFault N given cause × (cause ≢ NoEnd)
 IsPartFault N given e = ⊥
 
--- What a journal lacks, as the program tells it.
+-- What a journal lacks, as a failure of the program.
 abbrev pub IsLineFault : List Offer → Yard → Journal → Failure → Type 0
 IsLineFault tables y J (Line cause) = IsNotWhole tables y J cause
 IsLineFault tables y J e = ⊥
 
--- The first line of a front that isn't right, as the program tells it.
+-- The first line of a front that isn't right, as a failure of the program.
 abbrev pub IsFrontFault : List Offer → Yard → Journal → Failure → Type 0
 IsFrontFault tables y J (Line cause) = HasBadLine tables y J.lines cause
 IsFrontFault tables y J e = ⊥
@@ -78,7 +78,7 @@ pub record IsUnreadable (D : Doc) (given : List ℕ) (cause : BadText) : Type 0 
   pub fault : HasFault (names_of D) given cause
 
 -- The bytes are the text of a journal that isn't whole, for the first cause.
-pub record IsUnverified (D : Doc) (given : List ℕ) (cause : BadLine) : Type 0 where
+pub record FailsToVerify (D : Doc) (given : List ℕ) (cause : BadLine) : Type 0 where
   pub formed : IsDoc D
   pub journal : Journal
   pub trees : List Tree
@@ -106,7 +106,7 @@ pub record IsResumed (D : Doc) (crew : Crew) (given written : List ℕ) : Type 0
   pub continued : IsContinued D crew given written
 
 -- The bytes are the text of a journal that isn't whole, for the first cause, or a front with a first line that isn't right.
-pub record IsUnresumed (D : Doc) (given : List ℕ) (cause : BadLine) : Type 0 where
+pub record FailsToResume (D : Doc) (given : List ℕ) (cause : BadLine) : Type 0 where
   pub formed : IsDoc D
   pub journal : Journal
   pub trees : List Tree

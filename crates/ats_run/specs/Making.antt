@@ -43,7 +43,7 @@ MakesNone T t budget (Stuck u p) = (u ≡ t) × Makes T budget (found p) × IsSt
 MakesNone T t budget e = ⊥
 
 -- The first of the tables of which the rule makes no certificate.
-pub record IsUnmade (tables : List Table) (budget : ℕ) (e : Failure) : Type 0 where
+pub record FailsToMake (tables : List Table) (budget : ℕ) (e : Failure) : Type 0 where
   pub table : ℕ
   pub in_range : table < length tables
   pub earlier : (u : ℕ) → u < table → (tree : Tree) × Makes (table_in tables u) budget (cert tree)

@@ -17,7 +17,7 @@ Reads (Generate seed trains) = ⊥
 Reads (Drill seed trains workers) = ⊥
 Reads order = Unit {0}
 
--- The fact of the bytes that the source held, where it tells them; an order that reads nothing has the empty input.
+-- The fact of the bytes that the source held, where they are known; an order that reads nothing has the empty input.
 abbrev pub OnInput : Order → Option (List ℕ) → (List ℕ → Type 0) → Type 0
 OnInput (Generate seed trains) held P = P []
 OnInput (Drill seed trains workers) held P = P []

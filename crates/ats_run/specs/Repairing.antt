@@ -79,9 +79,9 @@ pub record IsRefusedStart (T : Table) (p : List ℕ) (budget rounds : ℕ) (e : 
 abbrev pub HasBadStart : Doc → ℕ → ℕ → Failure → Type 0
 HasBadStart D budget rounds e = IsUnconnected D (length D.tables) × IsRefusedStart (table_at D 0) D.start budget rounds e
 
--- Why there is no such document: a connection, then table by table the repair, with the start behind table 0.
-abbrev pub IsUnrepaired : Doc → ℕ → ℕ → Failure → Type 0
-IsUnrepaired D budget rounds e =
+-- Why there is no such document: a connection, then table by table the repair, with the start after table 0.
+abbrev pub FailsToRepair : Doc → ℕ → ℕ → Failure → Type 0
+FailsToRepair D budget rounds e =
     HasConnection D e ⊎ HasUnrepaired D budget rounds e ⊎ HasBadStart D budget rounds e
 
 -- The repair of the table ends with a certificate, for a table of which the fact holds.

@@ -1,4 +1,4 @@
--- The line that is told of a refusal.
+-- The line that is written of a refusal.
 use Rattle.std.specs.Prelude.{ℕ, List, codes}
 use Rattle.refusal_lines.specs.Fields.{line, no_memory}
 use Rattle.refusal_lines.specs.Documents.{document_words}

@@ -10,7 +10,7 @@ use Rattle.layout_json.specs.Doc.{Doc, offers_of, names_of, times_of}
 use Rattle.ats_run.specs.Certificates.{AreAccepted}
 use Rattle.ats_run.specs.Headline.{GoesOnWell}
 
--- each line behind its tick
+-- each line, with its tick before it
 abbrev pub timed_text : Names → List ℕ → List Line → List ℕ
 timed_text N (t ∷ ticks) (l ∷ lines) = decimal t ++ words N l ++ codes "\n" ++ timed_text N ticks lines
 timed_text N _ _ = []

@@ -35,7 +35,7 @@ abbrev pub Prints : Order → Doc → List Tree → Plain → List ℕ → Type 
 Prints (Drill seed trains workers) D trees end written = PrintsCounts D trees end written
 Prints order D trees end written = PrintsText D trees end written
 
--- A run of the document stands at this state: however a crew ends it, of what is printed of that end the fact holds.
+-- A run of the document is at this state: however a crew ends it, of what is printed of that end the fact holds.
 pub record LeadsTo (Printed : Doc → List Tree → Plain → List ℕ → Type 0) (P : Crew → List ℕ → Type 0) (D : Doc) (trees : List Tree) (from : Plain) : Type 0 where
   pub formed : IsDoc D
   pub keeps : Keeps (offers_of D) from.yard from.lines

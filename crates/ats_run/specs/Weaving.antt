@@ -12,11 +12,11 @@ use Rattle.zone_machine.specs.Weave.{first_world}
 use Rattle.document_generator.specs.Draws.{next_draw, drawn_of}
 use Rattle.layout_json.specs.Doc.{Doc, offers_of}
 
--- the core of a document, with room for so many entries
+-- the core of a document, with room for at most this many entries
 abbrev pub core_of : Doc → ℕ → Setup
 core_of D most = record { layout = D.layout; tables = offers_of D; opening = opening D.start; most = most }
 
--- whom a drawn number means: one of so many trains, or after the last of them the control
+-- whom a drawn number means: a train, or after the last of them the control
 abbrev pub drawn_actor : ℕ → ℕ → ℕ
 drawn_actor count x = if x % (count + 1) == count then control else x % (count + 1)
 
@@ -24,7 +24,7 @@ drawn_actor count x = if x % (count + 1) == count then control else x % (count +
 abbrev pub after_turn : Setup → ℕ → World → World
 after_turn S p w = elim (next S w p) [ None ↦ w | Some step ↦ elim (step_of S p w step) [ Ok made ↦ made.1 | Err e ↦ w ] ]
 
--- the world after so many turns, each of the actor that is drawn, the first of them after x
+-- the world after a number of turns, each of the actor that is drawn, the first of them after x
 abbrev pub drawn_world : Setup → ℕ → ℕ → ℕ → World → World
 drawn_world S count zero x w = w
 drawn_world S count (suc more) x w = drawn_world S count more (next_draw x) (after_turn S (drawn_actor count (next_draw x)) w)

@@ -10,20 +10,21 @@ ghost use Rattle.plain_yard.specs.Keeps.{Keeps};
 ghost use Rattle.ats_run.specs.declared.failure.Failure.TheVariants.{Memory as NoMemory};
 
 use crate::Failure;
+use crate::check::check;
 use crate::checked::Checked;
-use crate::checking::check;
+use crate::derive::derive;
+use crate::drill::{begin_drill, counts_of_run};
 use crate::finishing::{finish_alone, finish_by};
-use crate::generating::{begin_drill, counts_of_run, generate};
-use crate::journals::verify;
-use crate::making::make;
-use crate::migrating::migrate;
-use crate::repairing::repair;
-use crate::resuming::resume;
-use crate::running::{begin_run, text_of_run};
-use crate::sectioning::derive;
-use crate::simulating::simulate;
+use crate::generate::generate;
+use crate::make::make;
+use crate::migrate::migrate;
+use crate::repair::repair;
+use crate::resume::resume;
+use crate::run::{begin_run, text_of_run};
+use crate::simulate::simulate;
 use crate::tasks::Task;
-use crate::weaving::weave;
+use crate::verify::verify;
+use crate::weave::weave;
 use ats_io::Gate;
 use command_words::Order;
 use rail_model::PlainState;
@@ -115,7 +116,8 @@ fn run_alone(
     requires numbers { HasItsNumbers order }
     requires runs { RunsTrains order }
     requires alone { IsAlone order }
-    ensures { MatchResult result (λ text. Comes order input.now (Ok text.items)) (λ e. (e ≡ NoMemory) ⊎ Comes order input.now (Err e)) }
+    ensures { MatchResult result (λ text. Comes order input.now (Ok text.items))
+        (λ e. (e ≡ NoMemory) ⊎ Comes order input.now (Err e)) }
 {
     match begin_task(rt, alloc, order, input)? {
         Task::Goes { checked, from } => {
@@ -136,7 +138,8 @@ fn answer_by<R: Threads + Wait + Sync, G: Gate>(
 ) -> Result<Vec<u8>, Failure>
     requires numbers { HasItsNumbers order }
     requires workers { 1 ≤ (crew_in order).workers }
-    ensures { MatchResult result (λ text. Comes order input.now (Ok text.items)) (λ e. (e ≡ NoMemory) ⊎ Comes order input.now (Err e)) }
+    ensures { MatchResult result (λ text. Comes order input.now (Ok text.items))
+        (λ e. (e ≡ NoMemory) ⊎ Comes order input.now (Err e)) }
 {
     let crew = crew_of(order);
     match begin_task(rt, alloc, order, input)? {
@@ -157,7 +160,8 @@ pub(crate) fn answer_alone(
 ) -> Result<Vec<u8>, Failure>
     requires numbers { HasItsNumbers order }
     requires alone { IsAlone order }
-    ensures { MatchResult result (λ text. Comes order input.now (Ok text.items)) (λ e. (e ≡ NoMemory) ⊎ Comes order input.now (Err e)) }
+    ensures { MatchResult result (λ text. Comes order input.now (Ok text.items))
+        (λ e. (e ≡ NoMemory) ⊎ Comes order input.now (Err e)) }
 {
     match order {
         Order::Run { .. } | Order::Resume { .. } | Order::Drill { .. } => {
@@ -184,7 +188,8 @@ pub(crate) fn answer<R: Threads + Wait + Sync, G: Gate>(
     gate: &G,
 ) -> Result<Vec<u8>, Failure>
     requires { HasItsNumbers order }
-    ensures { MatchResult result (λ text. Comes order input.now (Ok text.items)) (λ e. (e ≡ NoMemory) ⊎ Comes order input.now (Err e)) }
+    ensures { MatchResult result (λ text. Comes order input.now (Ok text.items))
+        (λ e. (e ≡ NoMemory) ⊎ Comes order input.now (Err e)) }
 {
     if crew_of(order).workers == 0 {
         answer_alone(rt, alloc, order, input)

@@ -6,7 +6,7 @@ ghost use Rattle.layout_json.specs.Doc.{doc_table, table_at, offers_of};
 ghost use Rattle.layout_json.specs.Trees.{tree_at, AreTrees};
 ghost use Rattle.layout_json.specs.Reading.{doc_of};
 ghost use Rattle.ats_run.specs.Certificates.{AreAccepted, IsRejected};
-ghost use Rattle.ats_run.specs.Command.{IsNoDoc, IsUnchecked};
+ghost use Rattle.ats_run.specs.Command.{RefusesDocument, RefusesCheck};
 ghost use Rattle.ats_run.specs.declared.failure.Failure.TheVariants.{Memory as NoMemory, Certificate as BadCertificate};
 
 use crate::Failure;
@@ -31,7 +31,7 @@ pub struct Checked {
 pub fn read_document(alloc: Global, input: &[u8]) -> Result<Doc, Failure>
     ensures document { IfOk result (λ doc. doc_of input.now ≡ Ok doc) }
 
-    ensures refused { IfErr result (λ e. (e ≡ NoMemory) ⊎ IsNoDoc input.now e) }
+    ensures refused { IfErr result (λ e. (e ≡ NoMemory) ⊎ RefusesDocument input.now e) }
 {
     match document(alloc, input) {
         Ok(doc) => Ok(doc),
@@ -50,7 +50,7 @@ pub fn check_document(
     ensures offers { IfOk result (λ c. c.tables.items ≡ offers_of c.doc) }
     ensures accepted { IfOk result (λ c. AreAccepted c.doc c.certs.items) }
 
-    ensures unchecked { IfErr result (λ e. (e ≡ NoMemory) ⊎ IsUnchecked input.now e) }
+    ensures unchecked { IfErr result (λ e. (e ≡ NoMemory) ⊎ RefusesCheck input.now e) }
 {
     let doc = read_document(alloc, input)?;
     let certs = match certificates(alloc, &doc) {
@@ -95,7 +95,8 @@ fn accept_at(
     ensures accepted { IfOk result (λ a. Accepts (table_at doc.now table) (tree_at certs.now table)) }
     ensures offer { IfOk result (λ a. a ≡ record { table = table_at doc.now table; after = (doc_table doc.now table).after }) }
 
-    ensures rejected { IfErr result (λ e. (e ≡ NoMemory) ⊎ ((bad : BadValue) × (e ≡ BadCertificate table bad) × FirstBad (table_at doc.now table) (tree_at certs.now table) bad)) }
+    ensures rejected { IfErr result (λ e. (e ≡ NoMemory)
+        ⊎ ((bad : BadValue) × (e ≡ BadCertificate table bad) × FirstBad (table_at doc.now table) (tree_at certs.now table) bad)) }
 {
     let copy = copy_table(alloc, table_of(doc, table))?;
     match accept_par(

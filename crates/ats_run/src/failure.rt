@@ -10,7 +10,7 @@ use move_journal::{BadLine, BadText};
 use rail_model::{Bad, State};
 use std::alloc::{AllocError, AllocFailed};
 
-/// What one line on the error sink tells.
+/// What one line on the error sink says.
 #[derive(Drop)]
 pub enum Failure {
     /// The words ask for no order.
@@ -41,7 +41,7 @@ pub enum Failure {
     Connected { table: u32 },
     /// No line parts a document from a journal.
     NoJournal,
-    /// The bytes behind that line are no journal's text.
+    /// The bytes after that line are no journal's text.
     Text(BadText),
     /// The journal isn't right, or isn't whole.
     Line(BadLine),

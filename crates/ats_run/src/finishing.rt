@@ -6,7 +6,7 @@ ghost use Rattle.shared_run.specs.declared.crews.Crew.{Crew as CrewValue};
 ghost use Rattle.shared_run.specs.Crews.{IsCrew};
 ghost use Rattle.ats_run.specs.Headline.{Ends};
 
-use crate::running::finish_from;
+use crate::run::finish_from;
 use ats_io::Gate;
 use cert_checker::Accepted;
 use layout_json::{Doc, layout_of};

@@ -2,25 +2,27 @@
 #![tactic(auto)]
 
 mod answer;
+mod check;
 mod checked;
-mod checking;
+mod derive;
+mod drill;
 mod failure;
 mod finishing;
-mod generating;
+mod generate;
 mod journals;
 mod lines;
-mod making;
-mod migrating;
-mod repairing;
-mod resuming;
-mod running;
-mod sectioning;
-mod simulating;
+mod make;
+mod migrate;
+mod repair;
+mod resume;
+mod run;
+mod simulate;
 mod starting;
 mod status;
 mod tasks;
 mod top;
-mod weaving;
+mod verify;
+mod weave;
 
 pub use failure::Failure;
 pub use status::{Status, code};

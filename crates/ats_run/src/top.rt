@@ -1,20 +1,16 @@
 // The top call.
-ghost use Rattle.std.specs.Prelude.{◌≡◌, ◌≢◌, ◌+◌, ◌⊎◌, ◌≤◌, ℕ, [], List, IfSome, IfOk, IfErr, OnOk, Option, Some, None, Ok, Err, map, IsTrue, ◌↔◌, length, string_bytes};
+ghost use Rattle.std.specs.Prelude.{◌≡◌, ◌≢◌, ◌+◌, ◌⊎◌, ◌≤◌, ℕ, [], IfSome, IfOk, IfErr, OnOk, Some, Err, IsTrue, ◌↔◌, length};
 ghost use Rattle.std.specs.Io.KnownBytes.{IsAtEnd};
 ghost use Rattle.ats_io.specs.Bytes.{Adds, AddsPrefix, ConsumesAtMost};
 ghost use Rattle.ats_io.specs.Faults.{Rose};
 ghost use Rattle.command_words.specs.Subcommands.{HasItsNumbers};
-ghost use Rattle.ats_run.specs.Orders.{order_of, Reads, OnInput, Holds, MakesCertificates, crew_in, IsAlone};
 ghost use Rattle.command_words.specs.declared.orders.Order.{Order as OrderValue};
-ghost use Rattle.command_words.specs.declared.orders.Order.TheVariants.{Run, Drill};
-ghost use Rattle.shared_run.specs.Crews.{crew_of as crew};
-ghost use Rattle.document_generator.specs.Generated.{generated};
-ghost use Rattle.ats_run.specs.Command.{Comes, IsDocWith, IsRunInput, IsAnyDrill};
-ghost use Rattle.ats_run.specs.Complete.{IsAcceptedInput, IsGoodInput, IsDoneOrMemory};
-ghost use Rattle.rail_model.specs.Yard.{opening};
-ghost use Rattle.ats_run.specs.Headline.{IsRun, IsRoundRobin};
+ghost use Rattle.command_words.specs.declared.orders.Order.TheVariants.{Run};
+ghost use Rattle.ats_run.specs.Calls.{asked, OnDone, OnRun, OnDrill, OnGoodInput, Wrote, WroteFor, WroteDocument, IsRunOf, IsRoundRobinOf};
 ghost use Rattle.ats_run.specs.Causes.{call_of, IsReadWhole, IsServed, IsCause, IsUnread, Tells, most_bytes};
-ghost use Rattle.ats_run.specs.Ending.{status_of};
+ghost use Rattle.ats_run.specs.Command.{IsRunInput, IsAnyDrill};
+ghost use Rattle.ats_run.specs.Complete.{IsDoneOrMemory};
+ghost use Rattle.ats_run.specs.Orders.{Reads, OnInput, IsAlone};
 ghost use Rattle.ats_run.specs.Report.{line_of as line_of_failure, IsLineMade};
 
 use crate::answer::{answer, answer_alone};
@@ -34,7 +30,8 @@ fn read_input<S: Source>(alloc: Global, source: &mut S) -> Result<Vec<u8>, Failu
     ensures end { OnOk result (IsAtEnd (S.left source.new)) }
     ensures within { OnOk result (IfSome (S.left source.old) (λ all. length all ≤ most_bytes)) }
 
-    ensures unread { IfErr result (IsUnread (S.left source.old) (Rose (S.faults source.old) (S.faults source.new))) }
+    ensures unread { IfErr result (IsUnread (S.left source.old)
+        (Rose (S.faults source.old) (S.faults source.new))) }
 
     ensures at_most { ConsumesAtMost (most_bytes + 1) (S.left source.old) (S.left source.new) }
     ensures same_plan { S.planned source.new ≡ S.planned source.old }
@@ -59,7 +56,8 @@ fn input_of<S: Source>(alloc: Global, order: Order, source: &mut S) -> Result<Ve
     ensures whole { OnOk result (IsReadWhole order (S.left source.old) (IsAtEnd (S.left source.new))) }
     ensures input { IfOk result (λ input. OnInput order (S.left source.old) (λ all. input.items ≡ all)) }
 
-    ensures unread { IfErr result (λ e. Reads order × IsUnread (S.left source.old) (Rose (S.faults source.old) (S.faults source.new)) e) }
+    ensures unread { IfErr result (λ e. Reads order
+        × IsUnread (S.left source.old) (Rose (S.faults source.old) (S.faults source.new)) e) }
 
     ensures untouched { (Reads order → ⊥) → source.new ≡ source.old }
     ensures at_most { ConsumesAtMost (most_bytes + 1) (S.left source.old) (S.left source.new) }
@@ -102,17 +100,20 @@ pub fn serve_alone<S: Source, K: Sink>(
 ) -> Result<(), Failure>
     requires numbers { HasItsNumbers order }
     requires alone { IsAlone order }
-    ensures done { OnOk result (IsServed (Some order) (S.left source.old) (S.left source.new) (Adds (K.taken out.old) (K.taken out.new))) }
+    ensures done { OnOk result (IsServed (Some order)
+        (S.left source.old) (S.left source.new) (Adds (K.taken out.old) (K.taken out.new))) }
 
-    ensures cause { IfErr result (IsCause (call_of (Some order) (S.left source.old) (S.left source.new)
+    ensures cause { IfErr result (IsCause (call_of (Some order)
+        (S.left source.old) (S.left source.new)
         (Rose (S.faults source.old) (S.faults source.new)) (Rose (K.faults out.old) (K.faults out.new)))) }
     ensures nothing { IfErr result (λ e. e ≢ Failure.WriteFault → Adds (K.taken out.old) (K.taken out.new) []) }
-    ensures prefix { result ≡ Err Failure.WriteFault
-        → IsServed (Some order) (S.left source.old) (S.left source.new) (AddsPrefix (K.taken out.old) (K.taken out.new)) }
+    ensures prefix { result ≡ Err Failure.WriteFault → IsServed (Some order)
+        (S.left source.old) (S.left source.new) (AddsPrefix (K.taken out.old) (K.taken out.new)) }
 
     ensures untouched { (Reads order → ⊥) → source.new ≡ source.old }
     ensures at_most { ConsumesAtMost (most_bytes + 1) (S.left source.old) (S.left source.new) }
-    ensures same_plans { (S.planned source.new ≡ S.planned source.old) × (K.planned out.new ≡ K.planned out.old) }
+    ensures same_plans { (S.planned source.new ≡ S.planned source.old)
+        × (K.planned out.new ≡ K.planned out.old) }
 {
     let input = input_of(alloc, order, source)?;
     let text = answer_alone(rt, alloc, order, &input)?;
@@ -129,17 +130,20 @@ fn serve_any<S: Source, K: Sink, R: Threads + Wait + Sync, G: Gate>(
     gate: &G,
 ) -> Result<(), Failure>
     requires { HasItsNumbers order }
-    ensures done { OnOk result (IsServed (Some order) (S.left source.old) (S.left source.new) (Adds (K.taken out.old) (K.taken out.new))) }
+    ensures done { OnOk result (IsServed (Some order)
+        (S.left source.old) (S.left source.new) (Adds (K.taken out.old) (K.taken out.new))) }
 
-    ensures cause { IfErr result (IsCause (call_of (Some order) (S.left source.old) (S.left source.new)
+    ensures cause { IfErr result (IsCause (call_of (Some order)
+        (S.left source.old) (S.left source.new)
         (Rose (S.faults source.old) (S.faults source.new)) (Rose (K.faults out.old) (K.faults out.new)))) }
     ensures nothing { IfErr result (λ e. e ≢ Failure.WriteFault → Adds (K.taken out.old) (K.taken out.new) []) }
-    ensures prefix { result ≡ Err Failure.WriteFault
-        → IsServed (Some order) (S.left source.old) (S.left source.new) (AddsPrefix (K.taken out.old) (K.taken out.new)) }
+    ensures prefix { result ≡ Err Failure.WriteFault → IsServed (Some order)
+        (S.left source.old) (S.left source.new) (AddsPrefix (K.taken out.old) (K.taken out.new)) }
 
     ensures untouched { (Reads order → ⊥) → source.new ≡ source.old }
     ensures at_most { ConsumesAtMost (most_bytes + 1) (S.left source.old) (S.left source.new) }
-    ensures same_plans { (S.planned source.new ≡ S.planned source.old) × (K.planned out.new ≡ K.planned out.old) }
+    ensures same_plans { (S.planned source.new ≡ S.planned source.old)
+        × (K.planned out.new ≡ K.planned out.old) }
 {
     let input = input_of(alloc, order, source)?;
     let text = answer(rt, alloc, order, &input, gate)?;
@@ -155,17 +159,20 @@ fn serve_words<S: Source, K: Sink, R: Threads + Wait + Sync, G: Gate>(
     out: &mut K,
     gate: &G,
 ) -> Result<(), Failure>
-    ensures done { OnOk result (IsServed (order_of (map string_bytes line.now)) (S.left source.old) (S.left source.new) (Adds (K.taken out.old) (K.taken out.new))) }
+    ensures done { OnOk result (IsServed (asked line.now)
+        (S.left source.old) (S.left source.new) (Adds (K.taken out.old) (K.taken out.new))) }
 
-    ensures cause { IfErr result (IsCause (call_of (order_of (map string_bytes line.now)) (S.left source.old) (S.left source.new)
+    ensures cause { IfErr result (IsCause (call_of (asked line.now)
+        (S.left source.old) (S.left source.new)
         (Rose (S.faults source.old) (S.faults source.new)) (Rose (K.faults out.old) (K.faults out.new)))) }
     ensures nothing { IfErr result (λ e. e ≢ Failure.WriteFault → Adds (K.taken out.old) (K.taken out.new) []) }
-    ensures prefix { result ≡ Err Failure.WriteFault
-        → IsServed (order_of (map string_bytes line.now)) (S.left source.old) (S.left source.new) (AddsPrefix (K.taken out.old) (K.taken out.new)) }
+    ensures prefix { result ≡ Err Failure.WriteFault → IsServed (asked line.now)
+        (S.left source.old) (S.left source.new) (AddsPrefix (K.taken out.old) (K.taken out.new)) }
 
-    ensures untouched { IfSome (order_of (map string_bytes line.now)) (λ order. Reads order → ⊥) → source.new ≡ source.old }
+    ensures untouched { IfSome (asked line.now) (λ order. Reads order → ⊥) → source.new ≡ source.old }
     ensures at_most { ConsumesAtMost (most_bytes + 1) (S.left source.old) (S.left source.new) }
-    ensures same_plans { (S.planned source.new ≡ S.planned source.old) × (K.planned out.new ≡ K.planned out.old) }
+    ensures same_plans { (S.planned source.new ≡ S.planned source.old)
+        × (K.planned out.new ≡ K.planned out.old) }
 {
     match words(alloc, line) {
         Ok(order) => serve_any(rt, alloc, order, source, out, gate),
@@ -177,19 +184,21 @@ fn serve_words<S: Source, K: Sink, R: Threads + Wait + Sync, G: Gate>(
 // Writes a line to the error sink. A fault of it changes nothing.
 fn tell<E: Sink>(err: &mut E, line: &str)
     ensures prefix { AddsPrefix (E.taken err.old) (E.taken err.new) line.now }
-    ensures whole { (Rose (E.faults err.old) (E.faults err.new) → ⊥) → Adds (E.taken err.old) (E.taken err.new) line.now }
+    ensures whole { (Rose (E.faults err.old) (E.faults err.new) → ⊥)
+        → Adds (E.taken err.old) (E.taken err.new) line.now }
 {
     match write_all(err, line.as_bytes()) {
         Ok(()) | Err(WriteFault) => {}
     }
 }
 
-/// Tells a failure on `err`, and gives what was told: the failure, or, where its line is made and there is no memory for it, that. A fault
-/// of `err` changes nothing.
+/// Writes the line of a failure to `err`, and gives the failure; or, where its line is made and there is no memory for it, `Memory` and
+/// the line of that. A fault of `err` changes nothing.
 pub fn refuse<E: Sink>(alloc: Global, failure: Failure, err: &mut E) -> Failure
     ensures kept { (result ≡ failure) ⊎ ((result ≡ Failure.Memory) × IsLineMade failure) }
     ensures prefix { AddsPrefix (E.taken err.old) (E.taken err.new) (line_of_failure result) }
-    ensures whole { (Rose (E.faults err.old) (E.faults err.new) → ⊥) → Adds (E.taken err.old) (E.taken err.new) (line_of_failure result) }
+    ensures whole { (Rose (E.faults err.old) (E.faults err.new) → ⊥)
+        → Adds (E.taken err.old) (E.taken err.new) (line_of_failure result) }
 {
     if let Some(line) = fixed_line(&failure) {
         tell(err, line);
@@ -222,50 +231,52 @@ pub fn ats<S: Source, K: Sink, E: Sink, R: Threads + Wait + Sync, G: Gate>(
     gate: &G,
 ) -> Status
     // A run that ends well: the text of one whole journal of checked tables, from every state of which each way of going on ends well.
-    ensures headline { (workers rounds block : ℕ) → result ≡ Status.Done → order_of (map string_bytes line.now) ≡ Some (Run workers rounds block)
-        → IfSome (S.left source.old) (λ input. (written : List ℕ) × IsDocWith input (λ D. IsRun D written) × Adds (K.taken out.old) (K.taken out.new) written) }
+    ensures headline { OnRun result (asked line.now) (λ crew.
+        WroteFor (S.left source.old) (Adds (K.taken out.old) (K.taken out.new)) IsRunOf) }
 
     // Without workers its lines are those of the round robin from the start.
-    ensures round_robin { (rounds block : ℕ) → result ≡ Status.Done → order_of (map string_bytes line.now) ≡ Some (Run 0 rounds block)
-        → IfSome (S.left source.old) (λ input. (written : List ℕ)
-        × IsDocWith input (λ D. (run : IsRun D written) × IsRoundRobin D (opening D.start) run.journal.lines) × Adds (K.taken out.old) (K.taken out.new) written) }
+    ensures round_robin { (rounds block : ℕ) → OnDone result (asked line.now) (Run 0 rounds block)
+        (WroteFor (S.left source.old) (Adds (K.taken out.old) (K.taken out.new)) IsRoundRobinOf) }
 
     // With workers they are the journal of a legal history of their rounds, and then those of the round robin from its state.
-    ensures by_workers { (workers rounds block : ℕ) → result ≡ Status.Done → order_of (map string_bytes line.now) ≡ Some (Run workers rounds block)
-        → IfSome (S.left source.old) (λ input. (written : List ℕ) × IsRunInput (crew workers rounds block) input written × Adds (K.taken out.old) (K.taken out.new) written) }
+    ensures by_workers { OnRun result (asked line.now) (λ crew.
+        WroteFor (S.left source.old) (Adds (K.taken out.old) (K.taken out.new)) (IsRunInput crew)) }
 
     // A drill writes the same line for every number of workers.
-    ensures drill { (seed trains workers : ℕ) → result ≡ Status.Done → order_of (map string_bytes line.now) ≡ Some (Drill seed trains workers)
-        → (written : List ℕ) × IsAnyDrill (generated seed trains) written × Adds (K.taken out.old) (K.taken out.new) written }
+    ensures drill { OnDrill result (asked line.now) (λ document.
+        Wrote (Adds (K.taken out.old) (K.taken out.new)) (IsAnyDrill document)) }
 
-    // Every command that ends well has read all that it reads, has written what it comes to on these bytes, and told nothing.
-    ensures done { result ≡ Status.Done
-        → IsServed (order_of (map string_bytes line.now)) (S.left source.old) (S.left source.new) (Adds (K.taken out.old) (K.taken out.new)) }
+    // Every command that ends well has read all that it reads, has written what it comes to on these bytes, and nothing to `err`.
+    ensures done { result ≡ Status.Done → IsServed (asked line.now)
+        (S.left source.old) (S.left source.new) (Adds (K.taken out.old) (K.taken out.new)) }
     ensures quiet { result ≡ Status.Done → Adds (E.taken err.old) (E.taken err.new) [] }
 
     // What make, derive, repair and gen write is a document whose every table accepts its certificate.
-    ensures documents { (order : OrderValue) → result ≡ Status.Done → order_of (map string_bytes line.now) ≡ Some order → MakesCertificates order
-        → OnInput order (S.left source.old) (λ input. (written : List ℕ) × IsAcceptedInput written × Adds (K.taken out.old) (K.taken out.new) written) }
+    ensures documents { (order : OrderValue) → OnDone result (asked line.now) order
+        (WroteDocument order (S.left source.old) (Adds (K.taken out.old) (K.taken out.new))) }
 
-    // Any other status has its cause, and the line of it was told.
-    ensures refused { result ≢ Status.Done → Tells (call_of (order_of (map string_bytes line.now)) (S.left source.old) (S.left source.new)
+    // Any other status has its cause, and the line of it was written to `err`.
+    ensures refused { result ≢ Status.Done → Tells (call_of (asked line.now)
+        (S.left source.old) (S.left source.new)
         (Rose (S.faults source.old) (S.faults source.new)) (Rose (K.faults out.old) (K.faults out.new)))
         result (Rose (E.faults err.old) (E.faults err.new)) (E.taken err.old) (E.taken err.new) }
-    ensures nothing { result ≢ Status.Done → result ≢ Status.WriteFault → Adds (K.taken out.old) (K.taken out.new) [] }
-    ensures prefix { result ≡ Status.WriteFault
-        → IsServed (order_of (map string_bytes line.now)) (S.left source.old) (S.left source.new) (AddsPrefix (K.taken out.old) (K.taken out.new)) }
+    ensures nothing { result ≢ Status.Done → result ≢ Status.WriteFault
+        → Adds (K.taken out.old) (K.taken out.new) [] }
+    ensures prefix { result ≡ Status.WriteFault → IsServed (asked line.now)
+        (S.left source.old) (S.left source.new) (AddsPrefix (K.taken out.old) (K.taken out.new)) }
 
     // Where no device fails, a good input ends well, or there was no memory.
-    ensures complete { (order : OrderValue) (input : List ℕ) → order_of (map string_bytes line.now) ≡ Some order → Holds order (S.left source.old) input
-        → IsGoodInput order input → (Rose (S.faults source.old) (S.faults source.new) → ⊥) → (Rose (K.faults out.old) (K.faults out.new) → ⊥)
-        → IsDoneOrMemory result }
+    ensures complete { OnGoodInput (asked line.now) (S.left source.old)
+        ((Rose (S.faults source.old) (S.faults source.new) → ⊥)
+        → (Rose (K.faults out.old) (K.faults out.new) → ⊥) → IsDoneOrMemory result) }
 
     // The source isn't touched where the words are refused or what they ask for reads nothing.
-    ensures untouched { IfSome (order_of (map string_bytes line.now)) (λ order. Reads order → ⊥) → source.new ≡ source.old }
+    ensures untouched { IfSome (asked line.now) (λ order. Reads order → ⊥) → source.new ≡ source.old }
     ensures at_most { ConsumesAtMost (most_bytes + 1) (S.left source.old) (S.left source.new) }
 
-    // Which calls of the devices are to fail stays, where they tell it.
-    ensures same_plans { (S.planned source.new ≡ S.planned source.old) × (K.planned out.new ≡ K.planned out.old) }
+    // The plan of each device, by which its calls fail, stays.
+    ensures same_plans { (S.planned source.new ≡ S.planned source.old)
+        × (K.planned out.new ≡ K.planned out.old) }
 {
     match serve_words(rt, alloc, line, source, out, gate) {
         Ok(()) => Status::Done,

@@ -1,4 +1,4 @@
--- The options of the command line: each takes one whole number, and stands for its default where it isn't given.
+-- The options of the command line: each takes one whole number, and has a default where it isn't given.
 use Rattle.std.specs.Prelude.{ℕ, ◌≤◌, ◌&&◌, List, codes, nat_le, Option, Some, None, option_and_then, if◌then◌else◌}
 use Rattle.std.specs.Option.{option_map_or}
 use Rattle.clap.specs.Words.{Row, Text, first_of}
@@ -60,6 +60,6 @@ abbrev pub number_between : ℕ → ℕ → Text → Option ℕ
 number_between least greatest text =
     option_and_then (λ n. if nat_le least n && nat_le n greatest then Some n else None) (number_of text)
 
--- the number that an option stands for: the one that it was given, else its default
+-- the number of an option: the one that it was given, else its default
 abbrev pub number : NumberOption → List Row → Option ℕ
 number o given = option_map_or (number_between o.least o.greatest) (first_of o.name given) (Some o.default)

@@ -3,7 +3,7 @@
 /// What the words ask for, with the numbers of its options.
 #[derive(Clone, Copy)]
 pub enum Order {
-    /// Run the trains of a document. So many workers run them at once, in so many rounds at most, in each of which a
+    /// Run the trains of a document. `workers` run them at once, in at most `rounds` rounds, in each of which a
     /// train asks for up to `block` steps; then one thread finishes the run. Without workers it makes all of it.
     Run {
         workers: u32,
@@ -22,16 +22,16 @@ pub enum Order {
     Verify,
     /// Bring a document of version 1 to version 2.
     Migrate,
-    /// Make the certificates of a document, of so many nodes at most.
+    /// Make the certificates of a document, each of at most `budget` nodes.
     Make {
         budget: u32,
     },
-    /// Make the sections of a document from the rings of so many trains at most, and its certificates.
+    /// Make the sections of a document from the rings of at most `most` trains, and its certificates.
     Derive {
         most: u32,
         budget: u32,
     },
-    /// Make the sections of a document from the states that are stuck, in so many rounds at most, and its
+    /// Make the sections of a document from the states that are stuck, in at most `rounds` rounds, and its
     /// certificates.
     Repair {
         budget: u32,
@@ -39,18 +39,18 @@ pub enum Order {
     },
     /// Run the trains of a document by the times that they take.
     Simulate,
-    /// Make a document of so many trains from a seed.
+    /// Make a document of a number of trains from a seed.
     Generate {
         seed: u32,
         trains: u32,
     },
-    /// Make a document of so many trains from a seed, and run its trains by so many workers.
+    /// Make a document of a number of trains from a seed, and run its trains by `workers`.
     Drill {
         seed: u32,
         trains: u32,
         workers: u32,
     },
-    /// Make so many turns of a document's trains and control, each by the one that is drawn from a seed, and finish
+    /// Make a number of turns of a document's trains and control, each by the one that is drawn from a seed, and finish
     /// the run on one thread.
     Weave {
         seed: u32,

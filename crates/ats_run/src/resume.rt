@@ -1,0 +1,97 @@
+// Runs that go on from a journal.
+ghost use Rattle.std.specs.Prelude.{◌≡◌, ◌⊎◌, ◌++◌, List, ℕ, IfOk, IfErr};
+ghost use Rattle.rail_model.specs.Yard.{opening};
+ghost use Rattle.rail_model.specs.Journal.{after_lines, IsRight};
+ghost use Rattle.rail_model.specs.Certificate.{Tree};
+ghost use Rattle.plain_yard.specs.Keeps.{Keeps};
+ghost use Rattle.move_journal.specs.Answers.{IsTextOf, IsFrontOf, IsPart};
+ghost use Rattle.layout_json.specs.Doc.{IsDoc, offers_of, names_of};
+ghost use Rattle.ats_run.specs.Certificates.{AreAccepted};
+ghost use Rattle.ats_run.specs.Journals.{IsResumed, IsLineFault, IsFrontFault, IsPartFault};
+ghost use Rattle.ats_run.specs.Tasks.{TaskLeads, PrintsText};
+ghost use Rattle.ats_run.specs.Command.{IsResumedInput, RefusesResume};
+ghost use Rattle.ats_run.specs.declared.failure.Failure.TheVariants.{Memory as NoMemory};
+
+use crate::Failure;
+use crate::checked::check_document;
+use crate::journals::cut;
+use crate::tasks::Task;
+use crate::verify::verify_lines;
+use cert_checker::Accepted;
+use layout_json::{Doc, names_of, start_of};
+use move_journal::{Journal, Part, read_prefix, replay};
+use rail_model::PlainState;
+use std::alloc::Global;
+use std::thread::Threads;
+
+/// The run that goes on from a journal, at the state that its front leads to, or the journal as it is where it is whole.
+pub(crate) fn resume(
+    rt: &(impl Threads + Sync),
+    alloc: Global,
+    input: &[u8],
+) -> Result<Task, Failure>
+    ensures leads { IfOk result (TaskLeads PrintsText (λ crew written. IsResumedInput crew input.now written)) }
+
+    ensures refused { IfErr result (λ e. (e ≡ NoMemory) ⊎ RefusesResume input.now e) }
+{
+    let Some((document, given)) = cut(input) else {
+        return Err(Failure::NoJournal);
+    };
+    let checked = check_document(rt, alloc, document)?;
+    match read_part(alloc, &checked.doc, given)? {
+        Part::Whole(journal) => keep(alloc, &checked.doc, &checked.tables, &journal, given),
+        Part::Open(front) => {
+            let from = replay_front(alloc, &checked.doc, &checked.tables, &front)?;
+            Ok(Task::Goes { checked, from })
+        }
+    }
+}
+
+// The journal, or its front, whose text the bytes are.
+fn read_part(alloc: Global, doc: &Doc, given: &[u8]) -> Result<Part, Failure>
+    ensures part { IfOk result (IsPart (names_of doc.now) given.now) }
+
+    ensures formed { IsDoc doc.now }
+
+    ensures fault { IfErr result (λ e. (e ≡ NoMemory) ⊎ IsPartFault (names_of doc.now) given.now e) }
+{
+    Ok(read_prefix(alloc, names_of(doc), given)?)
+}
+
+// A whole text again.
+fn keep(
+    alloc: Global,
+    doc: &Doc,
+    tables: &[Accepted],
+    journal: &Journal,
+    given: &[u8],
+) -> Result<Task, Failure>
+    requires tables { tables.now ≡ offers_of doc.now }
+    requires text { IsTextOf (names_of doc.now) given.now journal.now }
+    ensures leads { IfOk result (λ task. (trees : List Tree) → AreAccepted doc.now trees
+        → TaskLeads PrintsText (λ crew written. IsResumed doc.now crew given.now written) task) }
+
+    ensures refused { IfErr result (λ e. (e ≡ NoMemory) ⊎ IsLineFault (offers_of doc.now) (opening doc.now.start) journal.now e) }
+{
+    verify_lines(alloc, doc, tables, journal)?;
+    Ok(Task::Printed(Vec::from_slice(alloc, given)?))
+}
+
+// The state that a front leads to.
+fn replay_front(
+    alloc: Global,
+    doc: &Doc,
+    tables: &[Accepted],
+    front: &Journal,
+) -> Result<PlainState, Failure>
+    requires { tables.now ≡ offers_of doc.now }
+    ensures formed { IsDoc doc.now }
+    ensures right { IfOk result (λ state. IsRight (offers_of doc.now) (opening doc.now.start) front.now.lines) }
+    ensures yard { IfOk result (λ state. state.yard ≡ after_lines (opening doc.now.start) front.now.lines) }
+    ensures lines { IfOk result (λ state. state.lines ≡ front.now.lines) }
+    ensures keeps { IfOk result (λ state. Keeps (offers_of doc.now) state.yard state.lines) }
+
+    ensures refused { IfErr result (λ e. (e ≡ NoMemory) ⊎ IsFrontFault (offers_of doc.now) (opening doc.now.start) front.now e) }
+{
+    Ok(replay(alloc, tables, start_of(doc), front)?)
+}

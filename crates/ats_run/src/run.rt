@@ -1,0 +1,67 @@
+// The run of a document from its start, as text.
+ghost use Rattle.std.specs.Prelude.{◌≡◌, ◌⊎◌, ◌-◌, IfOk, IfErr};
+ghost use Rattle.layout_json.specs.Doc.{offers_of, names_of};
+ghost use Rattle.rail_model.specs.Table.{trains};
+ghost use Rattle.rail_model.specs.Yard.{offer};
+ghost use Rattle.rail_model.specs.Journal.{IsDone, text as text_of, with_counts};
+ghost use Rattle.plain_yard.specs.Keeps.{Keeps};
+ghost use Rattle.plain_yard.specs.Rounds.{Finishes};
+ghost use Rattle.ats_run.specs.Command.{IsRunInput, RefusesCheck};
+ghost use Rattle.ats_run.specs.Tasks.{TaskLeads, PrintsText};
+ghost use Rattle.ats_run.specs.declared.failure.Failure.TheVariants.{Memory as NoMemory};
+
+use crate::Failure;
+use crate::checked::check_document;
+use crate::tasks::Task;
+use cert_checker::Accepted;
+use layout_json::{Doc, names_of, start_of};
+use move_journal::{Journal, text};
+use plain_yard::{PlainYard, begin};
+use rail_model::PlainState;
+use std::alloc::{AllocError, Global};
+use std::thread::Threads;
+
+/// The run of a document, at its start.
+pub(crate) fn begin_run(
+    rt: &(impl Threads + Sync),
+    alloc: Global,
+    input: &[u8],
+) -> Result<Task, Failure>
+    ensures leads { IfOk result (TaskLeads PrintsText (λ crew written. IsRunInput crew input.now written)) }
+
+    ensures unchecked { IfErr result (λ e. (e ≡ NoMemory) ⊎ RefusesCheck input.now e) }
+{
+    let checked = check_document(rt, alloc, input)?;
+    let from = begin(alloc, start_of(&checked.doc))?;
+    Ok(Task::Goes { checked, from })
+}
+
+/// The state and the lines in which the round robin from a state of a document's run ends.
+pub fn finish_from(
+    doc: &Doc,
+    tables: &[Accepted],
+    state: PlainState,
+) -> Result<PlainState, AllocError>
+    requires tables { tables.now ≡ offers_of doc.now }
+    requires keeps { Keeps (offers_of doc.now) state.yard state.lines }
+    ensures done { IfOk result (λ end. IsDone (offers_of doc.now) end.yard) }
+    ensures round { IfOk result (λ end. Finishes (offers_of doc.now) state.yard (trains (offer (offers_of doc.now) 0).table - 1)
+        state.lines end.yard end.lines) }
+    ensures keeps { IfOk result (λ end. Keeps (offers_of doc.now) end.yard end.lines) }
+{
+    let Ok(mut yard) = PlainYard::new(tables, state) else {
+        return Err(AllocError);
+    };
+    yard.finish();
+    Ok(yard.into_state())
+}
+
+/// The text of the lines that a run of a document has.
+pub fn text_of_run(alloc: Global, doc: &Doc, state: PlainState) -> Result<Vec<u8>, AllocError>
+    requires { Keeps (offers_of doc.now) state.yard state.lines }
+    ensures { IfOk result (λ text. text.items ≡ text_of (names_of doc.now) (with_counts state.lines)) }
+{
+    let names = names_of(doc);
+    let (_, lines) = state.into_parts();
+    text(alloc, names, &Journal::from_lines(lines))
+}

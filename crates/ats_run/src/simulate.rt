@@ -1,0 +1,121 @@
+// The run of a document by its travel times, as text.
+ghost use Rattle.std.specs.Prelude.{◌≡◌, ◌⊎◌, ◌-◌, ◌++◌, [], All, List, length, IfOk, IfErr, OnOk, string_bytes};
+ghost use Rattle.rail_model.specs.Certificate.{Tree};
+ghost use Rattle.rail_model.specs.Journal.{IsDone, with_counts};
+ghost use Rattle.rail_model.specs.Yard.{opening};
+ghost use Rattle.plain_yard.specs.Keeps.{Keeps};
+ghost use Rattle.move_journal.specs.Printable.{IsNamed};
+ghost use Rattle.train_sim.specs.Report.{Simulates, IsSoon};
+ghost use Rattle.layout_json.specs.Doc.{IsDoc, offers_of, times_of, names_of};
+ghost use Rattle.ats_run.specs.Certificates.{AreAccepted};
+ghost use Rattle.ats_run.specs.Command.{IsDocWith, RefusesCheck};
+ghost use Rattle.ats_run.specs.Simulating.{IsSimulated, timed_text, last_text};
+ghost use Rattle.ats_run.specs.declared.failure.Failure.TheVariants.{Memory as NoMemory};
+
+use crate::Failure;
+use crate::checked::check_document;
+use cert_checker::Accepted;
+use layout_json::{Doc, names_of, start_of, times_of};
+use move_journal::{Journal, push_line};
+use plain_yard::{PlainYard, begin};
+use rail_model::{Line, Names};
+use std::alloc::{AllocError, Global};
+use std::thread::Threads;
+use train_sim::{SimReport, simulate as simulate_yard};
+
+/// The timed journal of a document's run, with the tick of its last move.
+pub fn simulate(rt: &(impl Threads + Sync), alloc: Global, input: &[u8]) -> Result<Vec<u8>, Failure>
+    ensures simulated { IfOk result (λ text. IsDocWith input.now (λ D. IsSimulated D text.items)) }
+
+    ensures unchecked { IfErr result (λ e. (e ≡ NoMemory) ⊎ RefusesCheck input.now e) }
+{
+    let checked = check_document(rt, alloc, input)?;
+    let text = simulate_checked(alloc, &checked.doc, &checked.tables)?;
+    Ok(text)
+}
+
+// The timed journal of a document under its tables, each of which accepts its certificate.
+fn simulate_checked(alloc: Global, doc: &Doc, tables: &[Accepted]) -> Result<Vec<u8>, AllocError>
+    requires { tables.now ≡ offers_of doc.now }
+    ensures simulated { IfOk result (λ text. (trees : List Tree) → AreAccepted doc.now trees → IsSimulated doc.now text.items) }
+{
+    let report = report_of(alloc, doc, tables)?;
+    text_of_report(alloc, doc, report)
+}
+
+// What the simulation of a document reports.
+fn report_of(alloc: Global, doc: &Doc, tables: &[Accepted]) -> Result<SimReport, AllocError>
+    requires { tables.now ≡ offers_of doc.now }
+    ensures formed { IsDoc doc.now }
+    ensures simulates { IfOk result (λ r. Simulates (offers_of doc.now) (times_of doc.now) (opening doc.now.start) []
+        r.state.lines r.ticks.items r.last_tick r.state.yard) }
+    ensures soon { IfOk result (λ r. IsSoon (offers_of doc.now) (times_of doc.now) r.state.yard.moves r.last_tick) }
+    ensures done { IfOk result (λ r. IsDone (offers_of doc.now) r.state.yard) }
+    ensures keeps { IfOk result (λ r. Keeps (offers_of doc.now) r.state.yard r.state.lines) }
+    ensures one_each { IfOk result (λ r. length r.ticks.items ≡ length r.state.lines) }
+{
+    let yard = begin_run(alloc, doc, tables)?;
+    let Ok(report) = simulate_yard(alloc, yard, times_of(doc)) else {
+        return Err(AllocError);
+    };
+    Ok(report)
+}
+
+// The yard at a document's start.
+fn begin_run<'a>(
+    alloc: Global,
+    doc: &Doc,
+    tables: &'a [Accepted],
+) -> Result<PlainYard<'a, Accepted>, AllocError>
+    requires { tables.now ≡ offers_of doc.now }
+    ensures formed { IsDoc doc.now }
+    ensures run { IfOk result (λ run. run
+        ≡ record { tables = offers_of doc.now; yard = opening doc.now.start; lines = []; room = run.room }) }
+{
+    let begun = begin(alloc, start_of(doc))?;
+    let Ok(yard) = PlainYard::new(tables, begun) else {
+        return Err(AllocError);
+    };
+    Ok(yard)
+}
+
+// The text of a report.
+fn text_of_report(alloc: Global, doc: &Doc, report: SimReport) -> Result<Vec<u8>, AllocError>
+    requires one_each { length report.ticks.items ≡ length report.state.lines }
+    requires keeps { Keeps (offers_of doc.now) report.state.yard report.state.lines }
+    ensures { IfOk result (λ text. text.items
+        ≡ timed_text (names_of doc.now) report.ticks.items report.state.lines ++ last_text report.state.lines report.last_tick) }
+{
+    let (_, lines) = report.state.into_parts();
+    let mut out = String::new(alloc);
+    push_timed(&mut out, names_of(doc), &report.ticks, &lines)?;
+    push_last(&mut out, &Journal::from_lines(lines), report.last_tick)?;
+    Ok(out.into_bytes())
+}
+
+// Adds each line, with its tick before it.
+fn push_timed(
+    out: &mut String,
+    names: &Names,
+    ticks: &[u32],
+    lines: &[Line],
+) -> Result<(), AllocError>
+    requires one_each { length ticks.now ≡ length lines.now }
+    requires named { All (IsNamed names.now) lines.now }
+    ensures { OnOk result (string_bytes out.new ≡ string_bytes out.old ++ timed_text names.now ticks.now lines.now) }
+{
+    for index in 0..lines.len() {
+        push_line(out, names, u64::from(ticks[index]), &lines[index])?;
+    }
+    Ok(())
+}
+
+// Adds the counts of the lines and the tick of the last move.
+fn push_last(out: &mut String, journal: &Journal, last_tick: u32) -> Result<(), AllocError>
+    requires { journal.now ≡ with_counts journal.now.lines }
+    ensures { OnOk result (string_bytes out.new ≡ string_bytes out.old ++ last_text journal.now.lines last_tick) }
+{
+    let moves = journal.moves();
+    let tables = journal.tables();
+    write!(out, "end moves={moves} tables={tables} last={last_tick}\n")
+}
