@@ -5,7 +5,7 @@ ghost use Rattle.cert_maker.specs.declared.made.Made.{Made as Answer};
 ghost use Rattle.cert_maker.specs.Rule.{Makes};
 ghost use Rattle.cert_maker.specs.Claims.{RuleIsUnique};
 
-/// A table and a budget have just one answer, and a box has one tree of the rule.
+/// A table and a budget have exactly one answer, and a box has one tree of the rule.
 pub fn each_budget_has_one_answer()
     ensures some { (T : Table) (budget : ℕ) → (m : Answer) × Makes T budget m }
     ensures one { (T : Table) (budget : ℕ) (m n : Answer) → Makes T budget m → Makes T budget n → m ≡ n }

@@ -13,7 +13,7 @@ use Rattle.document_generator.specs.Pairs.{times_from, times_of}
 pub map-below_next : {X : Type 0} (f : ℕ → X) (n : ℕ) → map f (below (n + 1)) ≡ map f (below n) ++ f n ∷ []
 map-below_next f n = map-range_with_len_more f 0 n n (omega arith)
 
--- the next number stands last
+-- the next number is last
 range_next : (n a : ℕ) → range_with_len a (n + 1) ≡ range_with_len a n ++ (a + n) ∷ []
 range_next zero a = let e : a ≡ a + 0 = omega arith in ap (λ (k : ℕ). k ∷ []) e
 range_next (suc n) a =
@@ -26,7 +26,7 @@ pub draw-add : (n k x : ℕ) → draw (n + k) x ≡ draw n (draw k x)
 draw-add zero k x = let e : 0 + k ≡ k = omega arith in ap (λ (m : ℕ). draw m x) e
 draw-add (suc n) k x = let e : suc n + k ≡ suc (n + k) = omega arith in ap (λ (m : ℕ). draw m x) e ∙ ap next_draw (draw-add n k x)
 
--- the draws of so many trains more
+-- the draws of a number of trains more
 pub draw_trains : (trains steps x : ℕ) → draw steps (draw (trains * steps) x) ≡ draw ((trains + 1) * steps) x
 draw_trains trains steps x =
     let e : steps + trains * steps ≡ (trains + 1) * steps = omega arith in

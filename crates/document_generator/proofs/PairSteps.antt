@@ -3,7 +3,7 @@ use Rattle.std.proofs.Common.{◌≡◌, ℕ, suc, ◌+◌, ◌-◌, ◌*◌, �
 use Rattle.std.specs.Prelude.{min}
 use Rattle.document_generator.specs.Pairs.{Pair, pair_after, pairs_from, loops_after, last_draw}
 
--- the first of the further pairs, and those behind it
+-- the first of the further pairs, and those after it
 pairs-next : (n i first left x : ℕ) → i < n →
     pairs_from (n - i) i first left x
     ≡ pair_after i first (min left 2) x

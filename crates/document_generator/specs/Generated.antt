@@ -11,7 +11,7 @@ use Rattle.document_generator.specs.Pieces.{points_of, links_of, ways_of, sectio
 abbrev pub train_name : ℕ → List ℕ
 train_name i = codes "T" ++ decimal i
 
--- the names of so many trains
+-- the names of a number of trains
 abbrev pub train_names : ℕ → List (List ℕ)
 train_names trains = map train_name (below trains)
 
@@ -27,7 +27,7 @@ table_of all = record {
   after = Some 0;
 }
 
--- the document of all pairs with so many trains
+-- the document of all pairs with a number of trains
 abbrev pub document_of : ℕ → List Pair → DocMembers
 document_of trains all = record {
   version = 1;

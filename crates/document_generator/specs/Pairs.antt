@@ -20,7 +20,7 @@ pub record IsPair (g q c : ℕ) : Type 0 where
 abbrev pub times_from : ℕ → ℕ → List ℕ
 times_from steps x = map (λ k. 1 + draw (k + 1) x % 9) (below steps)
 
--- the travel times of so many trains, train by train
+-- the travel times of a number of trains, train by train
 abbrev pub times_of : ℕ → ℕ → ℕ → List (List ℕ)
 times_of trains steps x = map (λ t. times_from steps (draw (t * steps) x)) (below trains)
 
@@ -28,7 +28,7 @@ times_of trains steps x = map (λ t. times_from steps (draw (t * steps) x)) (bel
 abbrev pub loops_after : ℕ → ℕ
 loops_after x = 1 + next_draw x % 8
 
--- the pair of this number and first point with so many trains, drawn after x
+-- the pair of this number and first point with a number of trains, drawn after x
 abbrev pub pair_after : ℕ → ℕ → ℕ → ℕ → Pair
 pair_after number first trains x =
     record { number = number; first = first; loops = loops_after x; times = times_of trains (2 * loops_after x) (next_draw x) }
@@ -37,17 +37,17 @@ pair_after number first trains x =
 abbrev pub last_draw : ℕ → ℕ → ℕ
 last_draw trains x = draw (trains * (2 * loops_after x)) (next_draw x)
 
--- so many further pairs, for so many trains that are left
+-- a number of further pairs, for the trains that are left
 abbrev pub pairs_from : ℕ → ℕ → ℕ → ℕ → ℕ → List Pair
 pairs_from zero number first left x = []
 pairs_from (suc n) number first left x =
     pair_after number first (min left 2) x
     ∷ pairs_from n (number + 1) (first + (3 * loops_after x + 1)) (left - min left 2) (last_draw (min left 2) x)
 
--- how many pairs there are for so many trains: at least one
+-- how many pairs there are for a number of trains: at least one
 abbrev pub pair_count : ℕ → ℕ
 pair_count trains = max ((trains + 1) / 2) 1
 
--- all pairs of a seed, for so many trains
+-- all pairs of a seed, for a number of trains
 abbrev pub all_pairs : ℕ → ℕ → List Pair
 all_pairs seed trains = pairs_from (pair_count trains) 0 0 trains (drawn_of seed)

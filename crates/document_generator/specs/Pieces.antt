@@ -1,4 +1,4 @@
--- What stands in a document for each pair: points, links, ways and a section.
+-- What a document has for each pair: points, links, ways and a section.
 use Rattle.std.specs.Prelude.{ℕ, ◌+◌, ◌-◌, ◌*◌, ◌%◌, ◌==◌, nat_lt, ℤ, pos, negsuc, List, [], ◌∷◌, ◌++◌, length, map, flat_map, take, replicate, codes, if◌then◌else◌}
 use Rattle.std.specs.Fmt.{decimal}
 use Rattle.rail_model.specs.Checks.{below}
@@ -26,7 +26,7 @@ name g (Lower r) = lower g r
 abbrev pub zone : ℕ → ℕ
 zone q = q % 4
 
--- loop r: its points behind its first joint, with their zones
+-- loop r: its points after its first joint, with their zones
 abbrev pub loop_points : Pair → ℕ → List (List ℕ × ℕ)
 loop_points g r =
     (upper g r, zone (g.first + 3 * r + 1))
@@ -62,7 +62,7 @@ way_back g = flat_map (λ k. joint g (g.loops - k) ∷ lower g (g.loops - k - 1)
 abbrev pub ways_of : Pair → List (List (List ℕ))
 ways_of g = take (length g.times) (way_up g ∷ way_back g ∷ [])
 
--- the change at place k of a way of so many steps: in at place 1, out at the last
+-- the change at place k of a way with this number of steps: in at place 1, out at the last
 abbrev pub change_at : ℕ → ℕ → ℤ
 change_at steps k = if k == 1 then pos 1 else (if k == steps then negsuc 0 else pos 0)
 

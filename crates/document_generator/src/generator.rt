@@ -43,7 +43,7 @@ fn train_name(alloc: Global, train: u32) -> Result<String, AllocError>
     format!(in alloc; "T{train}")
 }
 
-// The names of so many trains.
+// The names of this many trains.
 fn trains(alloc: Global, count: u32) -> Result<Vec<String>, AllocError>
     ensures { IfOk result (λ v. names_seen v ≡ train_names count) }
 {
@@ -100,12 +100,12 @@ fn document(alloc: Global, count: u32, pairs: &[Pair]) -> Result<DocMembers, All
     })
 }
 
-/// The text of the document that is generated of a seed for so many trains, at most 32: compact JSON in version 1, with
+/// The text of the document that is generated from a seed for `trains` trains, at most 32: compact JSON in version 1, with
 /// one table, due after 0 moves, whose certificate is empty.
 ///
 /// # Errors
 ///
-/// Want of memory.
+/// Out of memory.
 pub fn generate(alloc: Global, seed: u32, trains: u32) -> Result<Vec<u8>, AllocError>
     requires { trains ≤ 32 }
     ensures text { IfOk result (λ b. b.items ≡ generated seed trains) }

@@ -25,7 +25,7 @@ fn add_point(
     Ok(())
 }
 
-// Adds the points of a loop behind its first joint.
+// Adds the points of a loop after its first joint.
 fn add_loop_points(
     alloc: Global,
     pair: &Pair,

@@ -8,13 +8,13 @@ use rail_model::TrainTimes;
 use std::alloc::{AllocError, Global};
 use std::marker::Model;
 
-// A step takes 1 to so many ticks.
+// A step takes at least 1 tick, and at most this many.
 const MOST_TICKS: u32 = 9;
 
-// A pair has 1 to so many loops.
+// A pair has at least 1 loop, and at most this many.
 const MOST_LOOPS: u32 = 8;
 
-// How many trains a pair has, if there are so many left.
+// How many trains a pair has, from the number that are left.
 const TRAINS_OF_A_PAIR: u32 = 2;
 
 /// Two trains with a row of loops of their own; the last pair may have one train or none.
@@ -79,7 +79,7 @@ fn train_times(alloc: Global, draws: &mut Draws, steps: u32) -> Result<TrainTime
     Ok(TrainTimes::from(times))
 }
 
-// The travel times of so many trains.
+// The travel times of a number of trains.
 fn pair_times(
     alloc: Global,
     draws: &mut Draws,
@@ -119,7 +119,7 @@ fn draw_pair(
     })
 }
 
-/// All pairs of a seed, for so many trains.
+/// All pairs of a seed, for `trains` trains.
 pub(crate) fn draw_pairs(alloc: Global, seed: u32, trains: u32) -> Result<Vec<Pair>, AllocError>
     requires { trains ≤ 32 }
     ensures { IfOk result (λ v. v.items ≡ all_pairs seed trains) }

@@ -1,4 +1,4 @@
--- Sections that forbid just the states in which all of some trains are in given ranges.
+-- Sections that forbid exactly the states in which all of some trains are in given ranges.
 use Rattle.std.specs.Prelude.{◌≡◌, ℕ, ◌+◌, ◌-◌, ◌<◌, ◌≤◌, ◌==◌, ℤ, pos, negsuc, List, [], ◌∷◌, length, map, find, if◌then◌else◌, Option, Some, None}
 use Rattle.rail_model.specs.Table.{Table, Mission, Section, mission, last, last_of, place}
 use Rattle.rail_model.specs.Certificate.{Range, IsIn}

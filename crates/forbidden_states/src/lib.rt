@@ -1,4 +1,4 @@
-//! Sections that forbid just the states in which all of some trains are in given spans of places.
+//! Sections that forbid exactly the states in which all of some trains are in given spans of places.
 #![tactic(auto)]
 
 mod laws;

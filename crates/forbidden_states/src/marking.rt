@@ -96,7 +96,7 @@ fn sections(alloc: Global, missions: &Missions, all: &[Stays]) -> Result<Vec<Sec
 }
 
 /// The missions with a section for each list of stays, in the lists' order. A section's limit is one less than the number of its
-/// stays, and a train's share is 1 in its span. The only error is want of memory; the missions are let go then.
+/// stays, and a train's share is 1 in its span. The only error is that there is no memory; the missions are dropped then.
 pub fn marked(alloc: Global, missions: Missions, all: &[Stays]) -> Result<Table, AllocError>
     requires few { length all.now ≤ 64 }
     requires stays { All (AreStays (length missions)) all.now }

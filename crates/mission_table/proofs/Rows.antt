@@ -51,7 +51,7 @@ first_path = refl
 first_path_is_linked : AreMissionsOf layout path
 first_path_is_linked = ((missions_taken layout 1 (way ∷ []) (false ∷ []) path).0 first_path).3
 
--- two trains that leave the layout behind B
+-- two trains that leave the layout after B
 leaving : missions_from layout 2 ((codes "A" ∷ codes "B" ∷ []) ∷ (codes "C" ∷ codes "B" ∷ []) ∷ []) (true ∷ true ∷ [])
     ≡ Ok (record { points = 0 ∷ 1 ∷ []; exits = true } ∷ record { points = 2 ∷ 1 ∷ []; exits = true } ∷ [])
 unfolding missions_from

@@ -1,4 +1,4 @@
--- A name that stands twice, as a refusal of trains.
+-- A name that comes twice, as a refusal of trains.
 use Rattle.track_layout.specs.declared.numbers.NotNumbered.{NotNumbered}
 use Rattle.track_layout.specs.declared.numbers.NotNumbered.TheVariants as numbering
 use Rattle.mission_table.specs.declared.refused.TrainRefused.{TrainRefused}

@@ -20,11 +20,11 @@ too_many count = then_some (nat_lt 32 count) (TooMany count)
 abbrev pub bad_name : List (List ℕ) → Option TrainRefused
 bad_name names = option_map Name (position (λ name. not (is_name name)) names)
 
--- the first name that stands twice
+-- the first name that comes twice
 abbrev pub double_name : List (List ℕ) → Option TrainRefused
 double_name names = option_map (λ pair. DoubleName pair.0 pair.1) (first_double names)
 
--- what is wrong with the names, in the order in which it is told
+-- what is wrong with the names, in the order in which it is reported
 abbrev pub trains_refusal : List (List ℕ) → Option TrainRefused
 trains_refusal names = first_of (too_many (length names) ∷ bad_name names ∷ double_name names ∷ [])
 

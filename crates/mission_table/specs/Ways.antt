@@ -69,7 +69,7 @@ other_lists trains lists = then_some (not (lists == trains)) (Lists lists)
 abbrev pub other_exits : ℕ → ℕ → Option MissionRefused
 other_exits trains exits = then_some (not (exits == trains)) (Exits exits)
 
--- what is wrong with the lists, in the order in which it is told
+-- what is wrong with the lists, in the order in which it is reported
 abbrev pub missions_refusal : Layout → ℕ → List (List (List ℕ)) → List Bool → Option MissionRefused
 missions_refusal L trains lists exits =
     first_of (
@@ -90,6 +90,6 @@ mission_value L names exits = record { points = way_value L names; exits = exits
 abbrev pub missions_value : Layout → List (List (List ℕ)) → List Bool → List Mission
 missions_value L lists exits = map (λ p. mission_value L p.0 p.1) (zip lists exits)
 
--- the missions of so many trains, or the first refusal
+-- the missions of a number of trains, or the first refusal
 unfoldable pub missions_from : Layout → ℕ → List (List (List ℕ)) → List Bool → Result (List Mission) MissionRefused
 missions_from L trains lists exits = unless (missions_refusal L trains lists exits) (missions_value L lists exits)

@@ -12,15 +12,15 @@ use rail_model::{Layout, Mission, Missions, are_linked, points_of};
 use std::alloc::Global;
 use track_layout::number_of;
 
-// A mission has at most so many places; the one behind the exit counts.
+// The most places of a mission; the one after the exit counts.
 const MOST_PLACES: usize = 128;
 
-/// The missions of these trains: for each the names of the points on its way, and whether it leaves the layout behind the last one.
+/// The missions of these trains: for each the names of the points on its way, and whether it leaves the layout after the last one.
 ///
 /// # Errors
 ///
 /// The first thing wrong with them: the number of lists, the number of exits, then train by train the length, and place by place
-/// the point and the link; want of memory.
+/// the point and the link; out of memory.
 pub fn missions(
     alloc: Global,
     layout: &Layout,
@@ -30,7 +30,7 @@ pub fn missions(
 ) -> Result<Missions, MissionRefused>
     ensures { Answers MissionRefused.Memory (λ missions. missions) result (missions_from layout.now (length trains.now) (ways_seen lists.items) exits.items) }
 {
-    // The read brings in what a layout keeps.
+    // This read gives the proof what a layout keeps.
     let _points = points_of(layout);
     check_counts(trains.len(), lists.len(), exits.len())?;
     let missions = each_mission(alloc, layout, &lists, &exits)?;

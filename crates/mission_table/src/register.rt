@@ -10,14 +10,14 @@ use rail_model::first_bad_name;
 use std::alloc::Global;
 use track_layout::Numbers;
 
-// There are at most so many trains.
+// The most trains of a document.
 const MOST_TRAINS: usize = 32;
 
 /// The trains with these names.
 ///
 /// # Errors
 ///
-/// The first thing wrong with the names, in the order of `TrainRefused`; want of memory.
+/// The first thing wrong with the names, in the order of `TrainRefused`; out of memory.
 pub fn trains(alloc: Global, names: Vec<String>) -> Result<Trains, TrainRefused>
     ensures { Answers TrainRefused.Memory (λ trains. trains) result (trains_from (names_seen names.items)) }
 {

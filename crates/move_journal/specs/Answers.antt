@@ -38,7 +38,7 @@ pub record BeginsWithNone (N : Names) (bytes : List ℕ) : Type 0 where
   pub no_line : (n : ℕ) (l : Line) (later : List ℕ) → BeginsWithLine N bytes n l later → ⊥
   pub no_end : (moves tables : ℕ) (later : List ℕ) → BeginsWithEnd bytes moves tables later → ⊥
 
--- The lines stand at the front, numbered from 1, and the rest is left.
+-- The lines are at the front, numbered from 1, and the rest is left.
 pub record Reads (N : Names) (bytes : List ℕ) (lines : List Line) (rest : List ℕ) : Type 0 where
   pub printable : ArePrintable N lines
   pub text : bytes ≡ lines_text N 1 lines ++ rest
@@ -51,7 +51,7 @@ Stops N k rest After = (moves : ℕ) × (tables : ℕ) × (later : List ℕ) × 
 Stops N k rest NoEnd = length rest ≡ 0
 Stops N k rest Memory = ⊥
 
--- The fault that comes first: all lines before it stand there with their numbers.
+-- The fault that comes first: all lines before it are there with their numbers.
 abbrev pub HasFault : Names → List ℕ → BadText → Type 0
 HasFault N bytes e = (lines : List Line) × (rest : List ℕ) × Reads N bytes lines rest × Stops N (length lines + 1) rest e
 

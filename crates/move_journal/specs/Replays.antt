@@ -15,11 +15,11 @@ use Rattle.move_journal.specs.declared.faults.BadLine.{BadLine}
 use Rattle.move_journal.specs.declared.faults.BadLine.TheVariants as bad
 use Rattle.move_journal.specs.Counted.{AreTrue}
 
--- Train i stands at one point, and its next one is the other, if there is one.
+-- Train i is at one point, and its next one is the other, if there is one.
 abbrev pub IsStep : Table → List ℕ → ℕ → ℕ → Option ℕ → Type 0
 IsStep T p i from to = (point T i (place p i) ≡ Some from) × (point T i (place p i + 1) ≡ to)
 
--- A move that the train can't make: what it is told, which isn't Yes. It has arrived, or the two points are right.
+-- A move that the train can't make: its answer, which isn't Yes. It has arrived, or the two points are right.
 abbrev pub IsRefused : List Offer → Yard → Line → Ask → Type 0
 IsRefused tables y (Move i from to) ask =
     (i < trains (in_force tables y)) × Answers (in_force tables y) y.positions i ask × (ask ≢ Yes)
@@ -33,7 +33,7 @@ IsMisplaced tables y (Move i from to) =
     ⊎ ((place y.positions i ≢ last (in_force tables y) i) × (IsStep (in_force tables y) y.positions i from to → ⊥))
 IsMisplaced tables y l = ⊥
 
--- A line of a table that isn't the next one, or isn't due, or was told another thing.
+-- A line of a table that isn't the next one, or isn't due, or has another answer.
 abbrev pub IsWrongTable : List Offer → Yard → Line → Type 0
 IsWrongTable tables y (Move i from to) = ⊥
 IsWrongTable tables y l = IsLine tables y l → ⊥

@@ -1,4 +1,4 @@
--- What the words of a line stand for, as the readers of words take them.
+-- What the words of a line mean, as the readers of words take them.
 use Rattle.std.specs.Prelude.{◌≡◌, ℕ, ◌==◌, List, [], ◌∷◌, Bool, length, codes, take, drop, Option, Some, None, option_and_then, option_map, if◌then◌else◌}
 use Rattle.std.specs.List.{slice_split, position}
 use Rattle.std.specs.Str.{bytes_eq}
@@ -35,7 +35,7 @@ called names word = position (λ name. bytes_eq name word) names
 unfoldable pub target_of : Names → List ℕ → Option (Option ℕ)
 target_of N word = if bytes_eq word (codes "-") then Some None else option_map Some (called N.points word)
 
--- the words behind `move`
+-- the words after `move`
 unfoldable pub move_of : Names → List (List ℕ) → Option Line
 move_of N (train ∷ from ∷ to ∷ []) = do
   i ← called N.trains train
@@ -44,14 +44,14 @@ move_of N (train ∷ from ∷ to ∷ []) = do
   Some (Move i p q)
 move_of N _ = None
 
--- the words behind `table`
+-- the words after `table`
 unfoldable pub table_of : List (List ℕ) → Option Line
 table_of (table ∷ []) = do
   t ← number_of table
   Some (Table t)
 table_of _ = None
 
--- the words behind `differs`
+-- the words after `differs`
 unfoldable pub differs_of : Names → ℕ → List (List ℕ) → Option Line
 differs_of N t (train ∷ place ∷ []) = do
   i ← called N.trains train
@@ -59,7 +59,7 @@ differs_of N t (train ∷ place ∷ []) = do
   Some (KeptDiffers t i k)
 differs_of N t _ = None
 
--- the words behind `over`
+-- the words after `over`
 unfoldable pub over_of : ℕ → List (List ℕ) → Option Line
 over_of t (section ∷ count ∷ []) = do
   s ← number_of section
@@ -67,14 +67,14 @@ over_of t (section ∷ count ∷ []) = do
   Some (KeptOver t s n)
 over_of t _ = None
 
--- the words behind `kept`
+-- the words after `kept`
 unfoldable pub kept_of : Names → List (List ℕ) → Option Line
 kept_of N (table ∷ kind ∷ later) = do
   t ← number_of table
   if bytes_eq kind (codes "differs") then differs_of N t later else (if bytes_eq kind (codes "over") then over_of t later else None)
 kept_of N _ = None
 
--- the words behind a line's number
+-- the words after a line's number
 unfoldable pub line_of : Names → List (List ℕ) → Option Line
 line_of N (kind ∷ later) =
     if bytes_eq kind (codes "move") then move_of N later
@@ -90,7 +90,7 @@ numbered_of N (number ∷ later) = do
   Some (n, l)
 numbered_of N [] = None
 
--- the number behind a name such as `moves=`
+-- the number after a name such as `moves=`
 unfoldable pub field_of : List ℕ → List ℕ → Option ℕ
 field_of name word = if bytes_eq (take (length name) word) name then number_of (drop (length name) word) else None
 

@@ -9,7 +9,7 @@ pub enum BadText {
     Line { line: u64 },
     /// A line whose number isn't its place.
     Number { line: u64 },
-    /// Bytes behind the end line.
+    /// Bytes after the end line.
     After,
     /// No end line.
     NoEnd,
@@ -30,7 +30,7 @@ impl<T: Drop> From<AllocFailed<T>> for BadText {
 /// The first line that isn't right, counted from 1, or what a journal lacks at its end.
 #[derive(Clone, Copy)]
 pub enum BadLine {
-    /// A move that the train can't make: what it would be told.
+    /// A move that the train can't make: the answer that it would get.
     Move { line: u64, ask: Ask },
     /// A move of no train, or not between the train's point and its next one.
     Place { line: u64 },

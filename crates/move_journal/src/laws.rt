@@ -19,7 +19,7 @@ pub fn one_journal_per_text()
     ensures { (N : Names) (a b : Journal) → IsNames N → HasText N a → HasText N b → text N a ≡ text N b → a ≡ b }
 {}
 
-/// For each text a reader has exactly one answer other than want of memory.
+/// For each text a reader has exactly one answer other than being out of memory.
 pub fn one_answer_per_text()
     ensures some_whole { (N : Names) (bytes : List ℕ) → IsNames N
         → (a : Result Journal BadTextValue) × (a ≡ Err Memory → ⊥) × Answers N bytes a }

@@ -1,7 +1,7 @@
 // The reader of a text.
 ghost use Rattle.std.specs.Prelude.{◌≡◌, ℕ, List};
 ghost use Rattle.rail_model.specs.Journal.{Journal as JournalValue};
-ghost use Rattle.rail_model.specs.Names.{Names as NamesValue};
+ghost use Rattle.rail_model.specs.Names.{Names as NamesValue, IsNames};
 ghost use Rattle.move_journal.specs.declared.lines.Part.{Part as PartValue};
 ghost use Rattle.move_journal.specs.Answers.{Answers, AnswersPrefix, Gives, IsPart, IsTextOf};
 ghost use Rattle.move_journal.specs.Heads.{IsHead, IsContent};
@@ -16,14 +16,13 @@ use std::alloc::Global;
 /// # Errors
 ///
 /// The first fault of the bytes, from the front: a line of no form, a line whose number isn't its place, bytes
-/// behind the end line, or no end line. `Memory` where memory runs out, whatever the bytes are.
+/// after the end line, or no end line. `Memory` where memory runs out, whatever the bytes are.
 pub fn read(alloc: Global, names: &Names, bytes: &[u8]) -> Result<Journal, BadText>
     // The text of a journal, or its first fault.
     ensures exact { Answers names.now bytes.now result }
     // What was written is read again, unless memory runs out.
     ensures again { (J : JournalValue) → IsTextOf names.now bytes.now J → Gives J result }
 {
-    let _trains = names.trains();
     whole(read_prefix(alloc, names, bytes))
 }
 
@@ -37,7 +36,9 @@ pub fn read_prefix(alloc: Global, names: &Names, bytes: &[u8]) -> Result<Part, B
     ensures exact { AnswersPrefix names.now bytes.now result }
     // What was written is read again, unless memory runs out.
     ensures again { (part : PartValue) → IsPart names.now bytes.now part → Gives part result }
+    ensures formed { IsNames names.now }
 {
+    // Read for the proof: the names are well formed.
     let _trains = names.trains();
     lines_from(alloc, names, bytes)
 }
@@ -55,6 +56,7 @@ fn whole(part: Result<Part, BadText>) -> Result<Journal, BadText>
 
 // Line after line, up to an end line or the end of the bytes.
 fn lines_from(alloc: Global, names: &Names, bytes: &[u8]) -> Result<Part, BadText>
+    requires { IsNames names.now }
     ensures { AnswersPrefix names.now bytes.now result }
 {
     let mut lines = Vec::new(alloc);
@@ -93,9 +95,9 @@ enum Head {
 
 // The first line, and what follows it.
 fn head_of<'a>(names: &Names, rest: &'a [u8]) -> (Head, &'a [u8])
+    requires { IsNames names.now }
     ensures { IsHead names.now rest.entry.now result.0 result.1.now }
 {
-    let _trains = names.trains();
     match split_once(rest, b'\n') {
         Some((content, later)) => (content_of(names, content), later),
         None => (Head::Other, rest),

@@ -113,13 +113,14 @@ fn replay_move<A: HasTable>(
     }
 }
 
-// Whether a train stands at one point, and its next one is the other, if there is one.
+// Whether a train is at one point, and its next one is the other, if there is one.
 fn is_step(table: &Table, state: &State, train: u32, from: u32, to: Option<u32>) -> bool
     requires size { length state.now ≡ trains table.now }
     requires train { train < trains table.now }
     requires unfinished { place state.now train < last table.now train }
     ensures { IsTrue result ↔ IsStep table.now state.now train from to }
 {
+    // Read for the proof: a train's places are few.
     let _last = last_of(table, train);
     let at = state.place(train);
     point_of(table, train, at) == Some(from) && point_of(table, train, at + 1) == to

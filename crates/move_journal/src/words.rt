@@ -6,7 +6,7 @@ ghost use Rattle.move_journal.specs.Words as spec;
 use decimal_number::number_of;
 use rail_model::{Line, Names};
 
-/// What stands before the first such byte, and what follows it.
+/// What comes before the first such byte, and what follows it.
 pub(crate) fn split_once(bytes: &[u8], at: u8) -> Option<(&[u8], &[u8])>
     ensures { MatchOption result (All (λ b. b ≢ at) bytes.now)
         (λ parts. (bytes.now ≡ parts.0.now ++ at ∷ parts.1.now) × All (λ b. b ≢ at) parts.0.now) }
@@ -19,7 +19,7 @@ pub(crate) fn split_once(bytes: &[u8], at: u8) -> Option<(&[u8], &[u8])>
     None
 }
 
-// The first word, and what follows the space behind it.
+// The first word, and what follows the space after it.
 fn split_word(bytes: &[u8]) -> (&[u8], Option<&[u8]>)
     ensures { MatchOption result.1 (spec.word_list bytes.now ≡ result.0.now ∷ [])
         (λ later. spec.word_list bytes.now ≡ result.0.now ∷ spec.word_list later.now) }
@@ -66,7 +66,7 @@ fn target_of(names: &Names, word: &[u8]) -> Option<Option<u32>>
     Some(Some(point))
 }
 
-// The words behind `move`.
+// The words after `move`.
 #[tactic(auto, unfolding(crate::specs::Words::move_of))]
 fn move_of(names: &Names, rest: &[u8]) -> Option<Line>
     ensures { result ≡ spec.move_of names.now (spec.word_list rest.now) }
@@ -80,7 +80,7 @@ fn move_of(names: &Names, rest: &[u8]) -> Option<Line>
     Some(Line::Move { train, from, to })
 }
 
-// The word behind `table`.
+// The word after `table`.
 #[tactic(auto, unfolding(crate::specs::Words::table_of))]
 fn table_of(rest: &[u8]) -> Option<Line>
     ensures { result ≡ spec.table_of (spec.word_list rest.now) }
@@ -90,7 +90,7 @@ fn table_of(rest: &[u8]) -> Option<Line>
     Some(Line::Table { table })
 }
 
-// The words behind `differs`.
+// The words after `differs`.
 #[tactic(auto, unfolding(crate::specs::Words::differs_of))]
 fn differs_of(names: &Names, table: u32, rest: &[u8]) -> Option<Line>
     ensures { result ≡ spec.differs_of names.now table (spec.word_list rest.now) }
@@ -106,7 +106,7 @@ fn differs_of(names: &Names, table: u32, rest: &[u8]) -> Option<Line>
     })
 }
 
-// The words behind `over`.
+// The words after `over`.
 #[tactic(auto, unfolding(crate::specs::Words::over_of))]
 fn over_of(table: u32, rest: &[u8]) -> Option<Line>
     ensures { result ≡ spec.over_of table (spec.word_list rest.now) }
@@ -122,7 +122,7 @@ fn over_of(table: u32, rest: &[u8]) -> Option<Line>
     })
 }
 
-// The words behind `kept`.
+// The words after `kept`.
 #[tactic(auto, using(crate::proofs::Alone::kept_alone), unfolding(crate::specs::Words::kept_of))]
 fn kept_of(names: &Names, rest: &[u8]) -> Option<Line>
     ensures { result ≡ spec.kept_of names.now (spec.word_list rest.now) }
@@ -140,7 +140,7 @@ fn kept_of(names: &Names, rest: &[u8]) -> Option<Line>
     }
 }
 
-// The words behind a line's number.
+// The words after a line's number.
 #[tactic(auto, using(crate::proofs::Alone::line_alone), unfolding(crate::specs::Words::line_of))]
 fn line_of(names: &Names, rest: &[u8]) -> Option<Line>
     ensures { result ≡ spec.line_of names.now (spec.word_list rest.now) }
@@ -170,7 +170,7 @@ pub(crate) fn numbered_of(names: &Names, content: &[u8]) -> Option<(u32, Line)>
     Some((number, line))
 }
 
-// The number behind a name such as `moves=`.
+// The number after a name such as `moves=`.
 #[tactic(auto, unfolding(crate::specs::Words::field_of))]
 fn field_of(name: &[u8], word: &[u8]) -> Option<u32>
     ensures { result ≡ spec.field_of name.now word.now }

@@ -26,7 +26,7 @@ pub fn text(alloc: Global, names: &Names, journal: &Journal) -> Result<Vec<u8>, 
     Ok(out.into_bytes())
 }
 
-/// Adds a line behind a number: its own in a journal, or its tick where a run is timed.
+/// Adds a number and a line: its own in a journal, or its tick where a run is timed.
 pub fn push_line(
     out: &mut String,
     names: &Names,

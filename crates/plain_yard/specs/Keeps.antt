@@ -13,7 +13,7 @@ pub record PlainRun : Type 0 where
   pub lines : List Line
   pub room : ℕ
 
--- The state stands for a legal run of the tables: from a legal state of table 0 the lines are right, and they lead to it.
+-- The state is one of a legal run of the tables: from a legal state of table 0 the lines are right, and they lead to it.
 pub record Keeps (tables : List Offer) (y : Yard) (lines : List Line) : Type 0 where
   pub are : AreTables tables
   pub start : List ℕ

@@ -11,19 +11,19 @@ ghost use Rattle.table_exchange.specs.Tables.{AreTables, Stands};
 ghost use Rattle.plain_yard.specs.Keeps.{Keeps};
 ghost use Rattle.plain_yard.specs.Rounds.{Finishes};
 
-/// A run that begins at a legal state of table 0 stands for a legal run.
+/// A run that begins at a legal state of table 0 keeps a legal run.
 pub fn begun_keeps()
     ensures { (tables : List Offer) (start : List ℕ) → AreTables tables → Legal (offer tables 0).table start → Keeps tables (opening start) [] }
 {}
 
-/// What right lines from a legal state of table 0 lead to stands, with the lines, for a legal run.
+/// What right lines from a legal state of table 0 lead to keeps, with the lines, a legal run.
 pub fn replayed_keeps()
     ensures { (tables : List Offer) (start : List ℕ) (all : List LineValue) (state : Plain)
         → AreTables tables → Legal (offer tables 0).table start → IsRight tables (opening start) all
         → state.yard ≡ after_lines (opening start) all → state.lines ≡ all → Keeps tables state.yard state.lines }
 {}
 
-/// Right lines after a state that stands for a legal run lead to one that does, and so does a history with its journal.
+/// Right lines after a state that keeps a legal run lead to one that does, and so does a history with its journal.
 pub fn histories_keep()
     ensures lines { (tables : List Offer) (y : Yard) (lines added : List LineValue)
         → Keeps tables y lines → IsRight tables y added → Keeps tables (after_lines y added) (lines ++ added) }
@@ -40,7 +40,7 @@ pub fn finished_is_whole()
     ensures round { (tables : List Offer) (y z : Yard) (last : ℕ) (lines : List LineValue) → Finishes tables y last [] z lines → IsRound tables y last lines }
 {}
 
-/// A run that is done has a whole journal, its yard stands, and its moves are those of its lines.
+/// A run that is done has a whole journal, its yard is legal, and its moves are those of its lines.
 pub fn run_is_whole()
     ensures whole { (tables : List Offer) (y : Yard) (lines : List LineValue) → (run : Keeps tables y lines) → IsDone tables y → IsWhole tables (opening run.start) (with_counts lines) }
     ensures stands { (tables : List Offer) (y : Yard) (lines : List LineValue) → Keeps tables y lines → Stands tables y }

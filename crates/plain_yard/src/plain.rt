@@ -49,12 +49,12 @@ impl<'a, A: CheckedTable> Model for PlainYard<'a, A> {
 }
 
 impl<'a, A: CheckedTable> PlainYard<'a, A> {
-    /// Takes a state that stands for a legal run of the tables, and reserves room for [`MOST_LINES`]. After that
+    /// Takes a state of a legal run of the tables, with its lines, and reserves room for [`MOST_LINES`]. After that
     /// nothing here takes memory.
     ///
     /// # Errors
     ///
-    /// Want of memory alone; the state comes back as it was.
+    /// Out of memory, and nothing else; the state comes back as it was.
     pub fn new(tables: &'a [A], state: PlainState) -> Result<Self, PlainState>
         requires { Keeps (map A.offer tables.now) state.yard state.lines }
         ensures ok { IfOk result (λ run. run ≡ record { tables = map A.offer tables.entry.now; yard = state.yard; lines = state.lines; room = run.room }) }

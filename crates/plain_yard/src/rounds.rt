@@ -10,7 +10,6 @@ ghost use Rattle.plain_yard.specs.Rounds.{Reaches, Finishes, Went};
 use crate::CheckedTable;
 use crate::lines::{ask_line, try_line};
 use rail_model::{Ask, HasTable, Line, Standing, Table, Tried, trains_of};
-use table_exchange::in_force;
 
 /// Whether a table that was tried has its answer.
 pub fn has_answer(tried: Tried) -> bool
@@ -31,18 +30,24 @@ fn try_next<A: HasTable>(tables: &[A], yard: &mut Standing, lines: &mut Vec<Line
     has_answer(try_line(tables, yard, lines))
 }
 
-// Tries tables as long as the next one is due.
-fn try_due<A: HasTable>(tables: &[A], yard: &mut Standing, lines: &mut Vec<Line>)
+// Tries tables as long as the next one is due, and gives the table in force then.
+fn try_due<'a, A: CheckedTable>(
+    tables: &'a [A],
+    yard: &mut Standing,
+    lines: &mut Vec<Line>,
+) -> &'a Table
     requires { IsReady (map A.offer tables.now) yard.old lines.old.items (vec_capacity lines.old) }
+    ensures given { result.now ≡ table_in_force (map A.offer tables.entry.now) yard.new }
     ensures moved { (yard.new ≡ yard.old) ⊎ (yard.old.tried < yard.new.tried) }
-    ensures reaches { (b : ℕ) → Reaches (map A.offer tables.now) yard.old b lines.old.items yard.new b lines.new.items }
-    ensures none { IsNextDue (map A.offer tables.now) yard.new → ⊥ }
-    ensures formed { IsTable (table_in_force (map A.offer tables.now) yard.new) }
+    ensures reaches { (b : ℕ) → Reaches (map A.offer tables.entry.now) yard.old b lines.old.items yard.new b lines.new.items }
+    ensures none { IsNextDue (map A.offer tables.entry.now) yard.new → ⊥ }
+    ensures formed { IsTable (table_in_force (map A.offer tables.entry.now) yard.new) }
+    ensures live { Live (table_in_force (map A.offer tables.entry.now) yard.new) }
     ensures room { vec_capacity lines.new ≡ vec_capacity lines.old }
-    ensures ready { IsReady (map A.offer tables.now) yard.new lines.new.items (vec_capacity lines.new) }
+    ensures ready { IsReady (map A.offer tables.entry.now) yard.new lines.new.items (vec_capacity lines.new) }
 {
     while try_next(tables, yard, lines) {}
-    let _table = in_force(tables, yard);
+    live_in_force(tables, yard)
 }
 
 // Asks for a train, and says whether it moved.
@@ -78,8 +83,7 @@ pub(crate) fn finish_lines<A: CheckedTable>(
     ensures room { vec_capacity lines.new ≡ vec_capacity lines.old }
     ensures ready { IsReady (map A.offer tables.now) yard.new lines.new.items (vec_capacity lines.new) }
 {
-    try_due(tables, yard, lines);
-    let trains = trains_of(in_force(tables, yard));
+    let trains = trains_of(try_due(tables, yard, lines));
     let mut before = trains.saturating_sub(1);
     let mut asked = 0;
     while asked < trains {
@@ -92,5 +96,4 @@ pub(crate) fn finish_lines<A: CheckedTable>(
             asked += 1;
         }
     }
-    let _table = live_in_force(tables, yard);
 }

@@ -4,7 +4,7 @@ use Rattle.std.specs.Prelude.{decimal, flat_map}
 use Rattle.std.proofs.lemmas.List.{append-nil, take_all}
 use Rattle.refusal_lines.specs.Makers.{places_words}
 
--- the first position, and behind it each other with its comma
+-- the first position, and after it each other with its comma
 first_and_others : (p : ℕ) (ps : List ℕ) → places_words (p ∷ ps) ≡ decimal p ++ flat_map (λ q. 44 ∷ decimal q) ps
 first_and_others p [] = sym (append-nil (decimal p))
 first_and_others p (q ∷ qs) = ap (λ t. decimal p ++ (44 ∷ t)) (first_and_others q qs)

@@ -1,11 +1,11 @@
--- Numbers behind their labels, one after another.
+-- Numbers after their labels, one by one.
 use Rattle.std.proofs.Common.{◌≡◌, ◌∙◌, ℕ, ◌≤◌, List, [], ◌∷◌, ◌++◌, length, take, sym, ap, append_assoc}
 use Rattle.std.specs.Prelude.{decimal, flat_map, fold}
 use Rattle.std.specs.Borrow.{Bor}
 use Rattle.std.proofs.lemmas.List.{append-nil, take_all}
 use Rattle.refusal_lines.specs.Fields.{fields_words}
 
--- a number behind its label
+-- a number after its label
 abbrev pub field_words : Bor (List ℕ) × ℕ → List ℕ
 field_words field = field.0.now ++ decimal field.1
 

@@ -84,7 +84,7 @@ spent = rw (decimal_digit 0 (lit< tt), decimal_digit 5 (lit< tt)) refl
 corridor_stuck : line_of (stuck_words 0 (1 ∷ 1 ∷ [])) ≡ codes "ats: 206 Stuck table=0 at=1,1\n"
 corridor_stuck = rw (decimal_digit 0 (lit< tt), decimal_digit 1 (lit< tt)) refl
 
--- of one train nothing stands behind the position
+-- of one train nothing follows the position
 one_train_stuck : stuck_words 1 (3 ∷ []) ≡ codes "206 Stuck table=1 at=3"
 one_train_stuck = rw (decimal_digit 1 (lit< tt), decimal_digit 3 (lit< tt)) refl
 

@@ -1,4 +1,4 @@
--- What is told of a table's certificate that is refused.
+-- What is printed of a table's certificate that is refused.
 use Rattle.std.specs.Prelude.{ℕ, List, ◌++◌, codes, decimal}
 use Rattle.cert_tree.specs.declared.reading.CertRefused.{CertRefused}
 use Rattle.cert_tree.specs.declared.reading.CertRefused.TheVariants as tree

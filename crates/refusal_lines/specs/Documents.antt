@@ -1,4 +1,4 @@
--- What is told of a document that is refused.
+-- What is printed of a document that is refused.
 use Rattle.std.specs.Prelude.{ℕ, List, ◌++◌, codes, decimal, Option, Some, None}
 use Rattle.document_shapes.specs.Members.{name_of}
 use Rattle.document_shapes.specs.declared.member.Member.{Member}

@@ -1,4 +1,4 @@
--- What is told of a journal that is refused.
+-- What is printed of a journal that is refused.
 use Rattle.std.specs.Prelude.{ℕ, List, ◌++◌, codes, decimal}
 use Rattle.rail_model.specs.declared.types.Ask.{Ask}
 use Rattle.rail_model.specs.declared.types.Ask.TheVariants as ask
@@ -16,7 +16,7 @@ text_words text.NoEnd = codes "73 NoEnd"
 text_words text.After = codes "74 After"
 text_words text.Memory = no_memory
 
--- What the train of a move would be told.
+-- The answer that the train of a move would get.
 abbrev pub ask_words : Ask → List ℕ
 ask_words ask.Yes = codes "Yes"
 ask_words ask.Arrived = codes "Arrived"
@@ -24,7 +24,7 @@ ask_words (ask.Occupied k) = codes "Occupied by=" ++ decimal k
 ask_words (ask.Full s n) = codes "Full section=" ++ decimal s ++ codes " count=" ++ decimal n
 ask_words (ask.Waits c) = codes "Waits connection=" ++ decimal c
 
--- The refusals of lines, and of what is missing behind them.
+-- The refusals of lines, and of what is missing after them.
 abbrev pub line_words : BadLine → List ℕ
 line_words (line.Move n told) = codes "75 Move line=" ++ decimal n ++ codes " " ++ ask_words told
 line_words (line.Table n) = codes "76 Table line=" ++ decimal n

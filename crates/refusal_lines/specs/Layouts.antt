@@ -1,4 +1,4 @@
--- What is told of a layout and of trains that are refused.
+-- What is printed of a layout and of trains that are refused.
 use Rattle.std.specs.Prelude.{ℕ, List, ◌++◌, codes, decimal}
 use Rattle.track_layout.specs.Counted.{name_of}
 use Rattle.track_layout.specs.declared.refused.LayoutRefused.{LayoutRefused}

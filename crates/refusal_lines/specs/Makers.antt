@@ -1,4 +1,4 @@
--- What is told where there are no sections or no certificate to be made for a table.
+-- What is printed where no sections or no certificate can be made for a table.
 use Rattle.std.specs.Prelude.{ℕ, List, ◌++◌, codes, decimal, map}
 use Rattle.std.specs.List.{join_with_byte}
 
@@ -22,6 +22,6 @@ stuck_words t p = codes "206 Stuck table=" ++ decimal t ++ codes " at=" ++ place
 abbrev pub rounds_words : ℕ → ℕ → List ℕ → List ℕ
 rounds_words t n p = codes "209 Rounds table=" ++ decimal t ++ codes " rounds=" ++ decimal n ++ codes " at=" ++ places_words p
 
--- A connection, which no sections can stand for.
+-- A connection, which sections can't express.
 abbrev pub connected_words : ℕ → List ℕ
 connected_words t = codes "210 Connected table=" ++ decimal t

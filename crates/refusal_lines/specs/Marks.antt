@@ -1,4 +1,4 @@
--- What is told of a table's sections and connections that are refused.
+-- What is printed of a table's sections and connections that are refused.
 use Rattle.std.specs.Prelude.{ℕ, ℤ, List, ◌++◌, codes, decimal}
 use Rattle.std.specs.Fmt.{signed_decimal}
 use Rattle.section_marks.specs.declared.refused.MarkRefused.{MarkRefused}
@@ -9,11 +9,11 @@ use Rattle.refusal_lines.specs.Fields.{no_memory}
 abbrev pub value_words : ℤ → List ℕ
 value_words v = codes " value=" ++ signed_decimal v
 
--- A train's place in a section, behind a label.
+-- A train's place in a section, after a label.
 abbrev pub place_words : List ℕ → ℕ → ℕ → ℕ → ℕ → List ℕ
 place_words label t s i k = label ++ decimal t ++ codes " section=" ++ decimal s ++ codes " train=" ++ decimal i ++ codes " place=" ++ decimal k
 
--- A change or a share that no train may have there, behind the label.
+-- A change or a share that no train may have there, after the label.
 abbrev pub change_words : List ℕ → ℕ → ℕ → ℕ → ℕ → ℤ → List ℕ
 change_words label t s i k v = place_words label t s i k ++ value_words v
 

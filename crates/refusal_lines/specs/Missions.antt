@@ -1,4 +1,4 @@
--- What is told of a table's missions that are refused.
+-- What is printed of a table's missions that are refused.
 use Rattle.std.specs.Prelude.{ℕ, List, ◌++◌, codes, decimal}
 use Rattle.mission_table.specs.declared.refused.MissionRefused.{MissionRefused}
 use Rattle.mission_table.specs.declared.refused.MissionRefused.TheVariants as missions

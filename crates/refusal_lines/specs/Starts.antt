@@ -1,4 +1,4 @@
--- What is told of a start that isn't legal.
+-- What is printed of a start that isn't legal.
 use Rattle.std.specs.Prelude.{ℕ, List, ◌++◌, codes, decimal}
 use Rattle.legal_state.specs.declared.judges.Illegal.{Illegal}
 use Rattle.legal_state.specs.declared.judges.Illegal.TheVariants as start

@@ -1,10 +1,10 @@
-// Numbers, each behind its label.
+// Numbers, each after its label.
 ghost use Rattle.std.specs.Prelude.{◌≡◌, ◌++◌, OnOk, string_bytes};
 ghost use Rattle.refusal_lines.specs.Fields.{fields_words};
 
 use std::alloc::AllocError;
 
-/// Adds numbers, each behind its label.
+/// Adds numbers, each after its label.
 pub(crate) fn write_fields(out: &mut String, fields: &[(&str, u64)]) -> Result<(), AllocError>
     ensures { OnOk result (string_bytes out.new ≡ string_bytes out.old ++ fields_words fields.now) }
 {
@@ -15,7 +15,7 @@ pub(crate) fn write_fields(out: &mut String, fields: &[(&str, u64)]) -> Result<(
     Ok(())
 }
 
-/// Adds numbers, each behind its label: `tell!(out; "73 Number line=" line)`.
+/// Adds numbers, each after its label: `tell!(out; "73 Number line=" line)`.
 macro_rules! tell {
     ($out:expr; $($label:literal $number:expr),+) => {
         $crate::fields::write_fields($out, &[$(($label, $number as u64)),+])

@@ -38,7 +38,7 @@ pub fn write_line(out: &mut String, fault: &BadLine) -> Result<(), AllocError>
     }
 }
 
-// Adds what a train would be told.
+// Adds the answer that a train would get.
 fn write_ask(out: &mut String, ask: Ask) -> Result<(), AllocError>
     ensures { OnOk result (string_bytes out.new ≡ string_bytes out.old ++ ask_words ask) }
 {

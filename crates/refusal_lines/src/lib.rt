@@ -1,4 +1,4 @@
-//! The words that tell what is wrong and where, for each refusal of a document, a certificate and a journal,
+//! The words that say what is wrong and where, for each refusal of a document, a certificate and a journal,
 //! and for each table whose sections or certificate can't be made: number, name and fields.
 #![tactic(auto)]
 

@@ -28,7 +28,7 @@ pub fn write_stuck(out: &mut String, table: u32, at: &State) -> Result<(), Alloc
     write_places(out, at)
 }
 
-/// Adds where a table is stuck still after so many rounds.
+/// Adds where a table is still stuck after the last round.
 pub fn write_rounds(out: &mut String, table: u32, rounds: u32, at: &State) -> Result<(), AllocError>
     ensures { OnOk result (string_bytes out.new ≡ string_bytes out.old ++ rounds_words table rounds at.now) }
 {

@@ -38,7 +38,7 @@ pub fn write_marks(out: &mut String, table: usize, refused: &MarkRefused) -> Res
     }
 }
 
-// Adds a change or a share that no train may have, behind its label.
+// Adds a change or a share that no train may have, after its label.
 fn write_change(
     out: &mut String,
     label: &str,

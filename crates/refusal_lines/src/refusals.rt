@@ -95,7 +95,7 @@ pub fn push_stuck(out: &mut String, table: u32, at: &State) -> Result<(), AllocE
     out.push_str(words.as_str())
 }
 
-/// Adds where a table is stuck still after so many rounds.
+/// Adds where a table is still stuck after the last round.
 pub fn push_rounds(out: &mut String, table: u32, rounds: u32, at: &State) -> Result<(), AllocError>
     ensures added { OnOk result (string_bytes out.new ≡ string_bytes out.old ++ rounds_words table rounds at.now) }
     ensures unchanged { OnErr result (string_bytes out.new ≡ string_bytes out.old) }

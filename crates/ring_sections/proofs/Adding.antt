@@ -45,7 +45,7 @@ pub flat-more : {X Y : Type 0} (f : X → List Y) (xs : List X) (k : ℕ) (x : X
 flat-more f xs k x l at =
     ap (flat_map f) (take_more xs k x l ∙ ap (λ y. take k xs ++ y ∷ []) (sym at)) ∙ sym (flat_map_more f [] (take k xs) x)
 
--- the parts before an element, its own, and those behind
+-- the parts before an element, its own, and those after
 pub flat-split : {X Y : Type 0} (f : X → List Y) (xs : List X) (k : ℕ) (x : X) → k < length xs → x ≡ slice_index_or xs k x →
     flat_map f xs ≡ (flat_map f (take k xs) ++ f x) ++ flat_map f (drop (k + 1) xs)
 flat-split f xs k x l at =

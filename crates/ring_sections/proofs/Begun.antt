@@ -40,7 +40,7 @@ waits_for_first M r some ring =
     let m : (k + 1) % length r ≡ 0 = ap (λ j. j % length r) e ∙ mod_self (length r) in
     subst (λ v. WaitsFor M (pair_at r k) v) (ap (pair_at r) m) (ring.waits k (omega arith))
 
--- what comes next stands at the point that is wanted
+-- what comes next is at the point that is wanted
 pub next_stands : (M : List Mission) (r : List Pair) (w : Pair) (later : List Pair) (q : ℕ) → 0 < length r → next_point M (pair_at r (length r - 1)) ≡ Some q →
     IsRing M (r ++ w ∷ later) → point_at M w ≡ Some q
 next_stands M r w later q some wanted ring =

@@ -71,7 +71,7 @@ lost_behind M way shut from behind w is lost later short leads avoid =
       | inr new ↦ leads.1 k d l new
     ])
 
--- where nothing leads back by any of the pairs that stand there
+-- where nothing leads back by any of the pairs there
 pub lost_tried : (M : List Mission) (way : List Pair) (shut : ℕ) (from : Reach) (here : List Pair) (n : ℕ) → here ≡ standing_at M from.point → length here ≤ n →
     (point_at M (pair_at way 0) ≡ Some from.point → ⊥) → ((k : ℕ) → k < n → IsLostBy M way shut from (pair_at here k)) → IsLost M way shut from
 lost_tried M way shut from here n is past away tried = lost_each M way shut from away (λ w later short leads avoid.

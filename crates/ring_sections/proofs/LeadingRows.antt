@@ -35,7 +35,7 @@ avoids = All-cons (outside two) (1, 4) ((3, 0) ∷ []) (λ has. cc) (All-cons (o
 one_outside : count_outside two ((0, 1) ∷ (1, 2) ∷ (2, 7) ∷ []) ≡ 1
 one_outside = refl
 
--- behind T0 at point 1, with point 3 shut, T1 may stand at point 2
+-- after T0 at point 1, with point 3 shut, T1 may be at point 2
 may_stand : MayStand uneven ((0, 1) ∷ []) 3 2 (1, 2)
 may_stand = record { pair = (lit< tt, lit< tt); stands = refl; fits = refl; free = free; open_point = λ e. cc }
   where

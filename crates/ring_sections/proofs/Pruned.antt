@@ -74,7 +74,7 @@ pub too_far : (M : List Mission) (levels : List ℕ) (r : List Pair) (n q : ℕ)
 too_far M levels r n q are some wanted far =
     none_from M r n (λ later short ring. let low = low_level M (pair_at r 0) levels are later r q some refl ring wanted in omega arith)
 
--- the next pair doesn't stand at the wanted point
+-- the next pair isn't at the wanted point
 none_elsewhere : (M : List Mission) (r : List Pair) (w : Pair) (n q : ℕ) → 0 < length r → next_point M (pair_at r (length r - 1)) ≡ Some q →
     stands_at M q w ≡ false → rings_from M (r ++ w ∷ []) n ≡ []
 none_elsewhere M r w n q some wanted other = none_from M (r ++ w ∷ []) n (λ later _ ring.

@@ -1,4 +1,4 @@
--- The list of the circular waits has just the circular waits.
+-- The list of the circular waits has exactly the circular waits.
 use Rattle.std.proofs.Common.{◌≡◌, ℕ, zero, suc, ◌<◌, ◌≤◌, List, [], ◌∷◌, map, length, refl, arith, ap, inl, inr, subst}
 use Rattle.std.specs.Prelude.{All, Contains, slice_index_or, ◌↔◌}
 use Rattle.rail_model.specs.Table.{Mission, last}
@@ -9,7 +9,7 @@ use Rattle.forbidden_states.proofs.Members.{map-among, filter-among, among-filte
 use Rattle.ring_sections.specs.Ring.{Pair, IsRing, pair_at, is_ring, rings, pairs, lists_of}
 use Rattle.ring_sections.proofs.RingTests.{Decides-ring}
 
--- where an element stands
+-- where an element is
 pub among-index : {X : Type 0} (xs : List X) (x d : X) → Among xs x → (k : ℕ) × (k < length xs) × (slice_index_or xs k d ≡ x)
 among-index [] x d a = absurd a
 among-index (y ∷ ys) x d a = elim a [

@@ -65,7 +65,7 @@ is_ring = record {
 not_from_T1 : IsRing uneven ((1, 2) ∷ (0, 1) ∷ []) → ⊥
 not_from_T1 r = let less : 1 < 0 = r.least_first 1 (lit< tt) (lit< tt) in omega arith
 
--- nor with the places exchanged: T0 wants point 3 there, and T1 stands at 5
+-- nor with the places exchanged: T0 wants point 3 there, and T1 is at 5
 not_exchanged : IsRing uneven ((0, 2) ∷ (1, 1) ∷ []) → ⊥
 not_exchanged r = let w = r.waits 0 (lit< tt) in let wants = w.1 in let stands = w.2 in cc
 

@@ -30,7 +30,7 @@ round-section = refl
 round-pairs : all_rings round 2 ≡ Ok []
 round-pairs = refl
 
--- head-on, and a third train behind the second: a ring of two and one of three, in the order of their pairs
+-- head-on, and a third train after the second: a ring of two and one of three, in the order of their pairs
 abbrev crossing : List Mission
 crossing = (record { points = 0 ∷ 1 ∷ 0 ∷ []; exits = false }) ∷ (record { points = 1 ∷ 2 ∷ 0 ∷ []; exits = false }) ∷ (record { points = 2 ∷ 0 ∷ 1 ∷ []; exits = true }) ∷ []
 

@@ -62,7 +62,7 @@ settled-levels M first levels goal settled = record {
       subst (IsSettled first.0 levels) k.2 (settled k.0 s k.1) above;
 }
 
--- what stands at a point
+-- what is at a point
 pub standing-at : (M : List Mission) (n q : ℕ) → q < n → slice_index_or (standing M n) q [] ≡ standing_at M q
 standing-at M n q l = get_or-map-range_with_len (standing_at M) 0 n q q [] l (omega arith)
 

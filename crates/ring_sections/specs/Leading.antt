@@ -20,7 +20,7 @@ abbrev pub count_outside : TrainSet → List Pair → ℕ
 count_outside s [] = 0
 count_outside s (w ∷ later) = cond (bit_at s.bits w.0 == 1) 0 1 + count_outside s later
 
--- The pair may stand at the point behind these pairs, which none of them takes, nor is it shut.
+-- The pair may be at the point after these pairs: none of them takes it, and it isn't shut.
 pub record MayStand (M : List Mission) (way : List Pair) (shut q : ℕ) (w : Pair) : Type 0 where
   pub pair : IsPair M w
   pub stands : point_at M w ≡ Some q
@@ -52,7 +52,7 @@ pub record IsBehind (M : List Mission) (from : Reach) (w : Pair) (behind : Reach
 abbrev pub IsFurther : Reach → Reach → Type 0
 IsFurther from other = (other.point ≡ from.point) × (from.left ≤ other.left)
 
--- One that is known, at the same point and with as many pairs left or more, has just the used trains.
+-- One that is known, at the same point and with as many pairs left or more, has exactly the used trains.
 abbrev pub IsKnown : List Reach → Reach → TrainSet → Type 0
 IsKnown known from used = (other : Reach) × Contains known other × IsFurther from other × (other.used ≡ used)
 

@@ -14,7 +14,7 @@ stays r = map (λ w. record { train = w.0; range = record { lo = w.1; hi = w.1 }
 abbrev pub ring_table : List Mission → List (List Pair) → Table
 ring_table M rs = marked M (map stays rs)
 
--- Each train of the ring stands at its place.
+-- Each train of the ring is at its place.
 abbrev pub HasRing : List ℕ → List Pair → Type 0
 HasRing p r = AllByRecursion (λ w. place p w.0 ≡ w.1) r
 

@@ -1,4 +1,4 @@
--- Circular waits: trains each of which wants the point at which the next one stands.
+-- Circular waits: trains each of which wants the point at which the next one is.
 use Rattle.std.specs.Prelude.{◌≡◌, ◌≢◌, ℕ, zero, suc, ◌+◌, ◌%◌, ◌<◌, ◌≤◌, ◌==◌, nat_lt, nat_le, List, [], ◌∷◌, ◌++◌, length, map, take, drop, filter, flat_map, zip, Bool, true, false, not, ◌&&◌, Option, Some, slice_index_or}
 use Rattle.std.specs.List.{list_any, list_all}
 use Rattle.rail_model.specs.Table.{Mission, mission, last, last_of, point}
@@ -17,7 +17,7 @@ pair_at r k = slice_index_or r k (0, 0)
 abbrev pub point_at : List Mission → Pair → Option ℕ
 point_at M w = point (unmarked M) w.0 w.1
 
--- the point behind it
+-- the point after it
 abbrev pub next_point : List Mission → Pair → Option ℕ
 next_point M w = point (unmarked M) w.0 (w.1 + 1)
 

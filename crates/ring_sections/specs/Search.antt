@@ -24,7 +24,7 @@ pub record IsPlaced (M : List Mission) (r : List Pair) (k : ℕ) : Type 0 where
   pub least_first : 0 < k → (pair_at r 0).0 < (pair_at r k).0
   pub apart : (j : ℕ) → j < k → AreApart M (pair_at r j) (pair_at r k)
 
--- whether the pair stands at the point
+-- whether the pair is at the point
 abbrev pub stands_at : List Mission → ℕ → Pair → Bool
 stands_at M q w = same_point (point_at M w) (Some q)
 
@@ -40,7 +40,7 @@ standing M n = map (standing_at M) (below n)
 abbrev pub ArePointsBelow : List Mission → ℕ → Type 0
 ArePointsBelow M n = (i k q : ℕ) → point (unmarked M) i k ≡ Some q → q < n
 
--- One of the pairs stands at the point.
+-- One of the pairs is at the point.
 abbrev pub IsTaken : List Mission → List Pair → ℕ → Type 0
 IsTaken M r q = (j : ℕ) × (j < length r) × (point_at M (pair_at r j) ≡ Some q)
 

@@ -3,7 +3,7 @@ ghost use Rattle.std.specs.Prelude.{◌≤◌, ◌↔◌, ℕ, List, length, Con
 ghost use Rattle.rail_model.specs.Table.{Mission};
 ghost use Rattle.ring_sections.specs.Ring.{Pair, IsRing, rings as rings_of};
 
-/// The list holds just the circular waits of at most so many trains.
+/// The list has exactly the circular waits of at most `most` trains.
 pub fn lists_just_the_rings()
     ensures { (M : List Mission) (most : ℕ) (r : List Pair) → Contains (rings_of M most) r ↔ (IsRing M r × (length r ≤ most)) }
 {}

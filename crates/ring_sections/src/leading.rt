@@ -11,7 +11,7 @@ use crate::placed::{fits, is_taken, next_point_of, point_of};
 use crate::train_set::{MOST_TRAINS, TrainSet};
 use std::alloc::AllocError;
 
-/// A point that was reached by some trains, with so many pairs left to lead back from it. Not all of the trains need be known.
+/// A point that was reached by some trains, and the number of pairs left to lead back from it. Not all of the trains need be known.
 #[derive(Clone, Copy)]
 pub(crate) struct Reach {
     pub point: u32,
@@ -55,7 +55,7 @@ fn is_covered(known: &[Reach], from: Reach, hit: TrainSet, left: u32) -> bool
     true
 }
 
-// Whether it is told at a glance that nothing leads back from a point that isn't the first pair's.
+// Whether it is plain at once that nothing leads back from a point that isn't the first pair's.
 fn is_lost(chart: &Chart<'_>, way: &[(u32, u32)], shut: u32, from: Reach, lost: &[Reach]) -> bool
     requires levels { AreLevels chart.now.missions.now (pair_at way.now 0) chart.now.levels.now }
     requires way { All (IsPair chart.now.missions.now) way.now }
@@ -75,7 +75,7 @@ fn is_lost(chart: &Chart<'_>, way: &[(u32, u32)], shut: u32, from: Reach, lost: 
     is_covered(lost, from, TrainSet::none(), from.left)
 }
 
-// What is reached by one of the pairs that stand at a point, if its train may be used. Where enough others make the same step, it
+// What is reached by one of the pairs at a point, if its train may be used. Where enough others make the same step, it
 // isn't counted as used: then one of them is always left.
 fn onward(
     chart: &Chart<'_>,
@@ -90,6 +90,7 @@ fn onward(
     ensures behind { IfSome result (λ behind. IsBehind chart.now.missions.now from next behind) }
     ensures none { (shut : ℕ) → result ≡ None → IsLostBy chart.now.missions.now way.now shut from next }
 {
+    // This read gives the proof that there are at most 32 trains.
     let _trains = chart.missions.len();
     if !fits(way, next) || from.used.has(next.0) {
         return None;
@@ -163,6 +164,7 @@ pub(crate) fn may_follow(
     let Some(point) = next_point_of(chart.missions, next) else {
         return Ok(false);
     };
+    // This read gives the proof that there are at most 32 trains.
     let _trains = chart.missions.len();
     let used = TrainSet::none().with(next.0);
     let from = Reach { point, left, used };

@@ -30,8 +30,8 @@ fn all_stays(alloc: Global, rings: &[Ring]) -> Result<Vec<Stays>, AllocError>
     Ok(all)
 }
 
-/// The missions with a section for each of these circular waits, in their order. It lets one train fewer than all of them stand at
-/// their places. The only error is want of memory; the missions are let go then.
+/// The missions with a section for each of these circular waits, in their order. It lets all of them
+/// but one be at their places. The only error is that there is no memory; the missions are dropped then.
 pub fn mark_rings(alloc: Global, missions: Missions, rings: &[Ring]) -> Result<Table, AllocError>
     requires few { length rings.now ≤ 64 }
     requires rings { All (IsRing missions) rings.now }

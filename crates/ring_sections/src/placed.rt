@@ -19,6 +19,7 @@ pub(crate) fn next_point_of(missions: &Missions, pair: (u32, u32)) -> Option<u32
     requires { IsPair missions.now pair }
     ensures { result ≡ next_point missions.now pair }
 {
+    // This read gives the proof that a train has at most 127 places.
     let _trains = missions.len();
     missions.mission(pair.0).point(pair.1 + 1)
 }
@@ -90,7 +91,7 @@ pub(crate) fn fits(way: &[(u32, u32)], next: (u32, u32)) -> bool
     way[0].0 < next.0 && !has_train(way, next.0)
 }
 
-// Whether one of the pairs stands at a point.
+// Whether one of the pairs is at a point.
 pub(crate) fn is_taken(missions: &Missions, way: &[(u32, u32)], point: u32) -> bool
     requires { All (IsPair missions.now) way.now }
     ensures { IsTrue result ↔ IsTaken missions.now way.now point }

@@ -3,8 +3,8 @@ ghost use Rattle.std.specs.Prelude.{◌≡◌};
 
 use std::marker::Model;
 
-/// Trains that wait in a circle, as pairs of a train and its place, the least train first: each wants the point at which the next
-/// one stands, and the last the point of the first.
+/// Trains that wait in a circle, as pairs of a train and its place, the least train first: each wants the point of the next
+/// one, and the last the point of the first.
 #[derive(Drop)]
 pub struct Ring {
     pairs: Vec<(u32, u32)>,

@@ -15,7 +15,7 @@ use crate::{Ring, Rings};
 use rail_model::Missions;
 use std::alloc::{AllocError, Global};
 
-// So many circular waits are listed at most.
+// The most circular waits that are listed.
 const MOST_RINGS: usize = 64;
 
 // Adds the pairs to the circular waits, if they are one.

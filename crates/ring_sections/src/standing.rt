@@ -1,4 +1,4 @@
-// The pairs of trains and places, by the points at which they stand.
+// The pairs of trains and places, by their points.
 ghost use Rattle.std.specs.Prelude.{◌≡◌, ℕ, ◌<◌, ◌≤◌, ◌++◌, ◌^◌, [], All, IfOk, OnOk, length, filter, slice_index_or};
 ghost use Rattle.rail_model.specs.Table.{IsMission};
 ghost use Rattle.ring_sections.specs.Ring.{train_pairs, pairs as all_pairs};
@@ -15,7 +15,7 @@ use std::marker::Model;
 #[derive(Drop)]
 struct Standers {
     pairs: Vec<(u32, u32)>,
-    // For each pair the least of the last so many trains that make its step; 0 where there are fewer.
+    // For each pair the least of the last `most - 1` trains that make its step; 0 where there are fewer.
     lasts: Vec<u32>,
 }
 
@@ -28,7 +28,7 @@ impl Model for Standers {
     ghost view = { λ s. s.pairs.items };
 }
 
-/// For each point the pairs that stand there, in order.
+/// For each point the pairs there, in order.
 #[derive(Drop)]
 pub(crate) struct Standing {
     points: Vec<Standers>,
@@ -59,8 +59,8 @@ impl Standing {
         &self.points[point as usize].pairs
     }
 
-    // Whether there are so many trains above the first that make the step of the pair at an index that some train is left for it,
-    // whichever others stand in a circular wait. It only saves time: what is found doesn't depend on it.
+    // Whether enough trains above the first make the step of the pair at an index, so that some train is left for it whichever
+    // others are in a circular wait. It only saves time: what is found doesn't depend on it.
     pub(crate) fn are_many(&self, point: u32, index: usize, first: u32) -> bool {
         match self.points.get(point as usize) {
             Some(standers) => standers.lasts.get(index).copied().unwrap_or(0) > first,

@@ -3,7 +3,7 @@ ghost use Rattle.std.specs.Prelude.{◌≡◌, ◌<◌, ◌^◌, ◌↔◌, IsTr
 ghost use Rattle.std.specs.Int.Bits.{bit_and, bit_or};
 ghost use Rattle.ring_sections.specs.Leading.{HasTrain};
 
-// So many trains there are at most.
+// The most trains that there are.
 pub(crate) const MOST_TRAINS: u32 = 32;
 
 /// A set of trains below 32, as a bit for each.

@@ -32,7 +32,7 @@ connection_refusal T c k = first_of (bad_trains T c k ∷ bad_places T c k ∷ [
 abbrev pub each_refusal : Table → List Connection → Option MarkRefused
 each_refusal T list = first_below (length list) (λ c. connection_refusal T c (connection_at list c))
 
--- what is wrong with the connections, in the order in which it is told
+-- what is wrong with the connections, in the order in which it is reported
 abbrev pub connections_refusal : Table → List Connection → Option MarkRefused
 connections_refusal T list =
     first_of (

@@ -19,7 +19,7 @@ abbrev pub most_limit : Marks → ℕ
 most_limit One = 32
 most_limit Four = 128
 
--- whether a number stands between two others
+-- whether a number lies between two others
 abbrev pub is_between : ℤ → ℤ → ℤ → Bool
 is_between low high z = int_le low z && int_le z high
 
@@ -106,7 +106,7 @@ abbrev pub each_refusal : Marks → List Mission → List Section → Option Mar
 each_refusal marks missions sections =
     first_below (length sections) (λ s. section_refusal marks missions s (section_at sections s))
 
--- what is wrong with the sections, in the order in which it is told
+-- what is wrong with the sections, in the order in which it is reported
 abbrev pub sections_refusal : Marks → List Mission → List Section → Option MarkRefused
 sections_refusal marks missions sections = first_of (too_many (length sections) ∷ each_refusal marks missions sections ∷ [])
 

@@ -7,7 +7,7 @@ ghost use Rattle.rail_model.specs.Table.{trains};
 use crate::MarkRefused;
 use rail_model::{Connection, Table, last_of, trains_of};
 
-// A table has at most so many connections.
+// The most connections of a table.
 const MOST_CONNECTIONS: usize = 32;
 
 /// The table with these connections in place of its own. It takes no memory.

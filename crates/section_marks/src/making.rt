@@ -10,7 +10,7 @@ use crate::{MarkRefused, Marks};
 use rail_model::{Changes, Missions, Section, Table};
 use std::alloc::{AllocError, Global};
 
-// A table has at most so many sections.
+// The most sections of a table.
 const MOST_SECTIONS: usize = 64;
 
 /// The missions with these sections: for each a limit, and for each train one change per place.
@@ -18,7 +18,7 @@ const MOST_SECTIONS: usize = 64;
 /// # Errors
 ///
 /// The first thing wrong with the sections: their number, then section by section the limit, the numbers of changes, and train by
-/// train and place by place the change and the share; want of memory. The missions are let go.
+/// train and place by place the change and the share; out of memory. The missions are dropped then.
 pub fn sections(
     alloc: Global,
     missions: Missions,
@@ -118,6 +118,7 @@ fn places(missions: &Missions, train: u32) -> usize
     requires { train < length missions.now }
     ensures { result ≡ places missions.now train }
 {
+    // This read gives the proof that a train has at most 127 places.
     let _trains = missions.len();
     let mission = missions.mission(train);
     if mission.exits() {

@@ -1,4 +1,4 @@
--- What trains are told in a legal state, as a test computes it.
+-- The answers to trains in a legal state, as a test computes them.
 use Rattle.std.proofs.Common.{◌≡◌, ◌≢◌, ℕ, suc, ◌<◌, ◌≤◌, ◌==◌, true, false, true≢false, not, List, [], length, refl, arith, ap, ◌∙◌, inl, inr, subst, sym}
 use Rattle.std.specs.Prelude.{slice_index_or, pos, ◌≤ℤ◌}
 use Rattle.std.proofs.lemmas.Int.{ints}

@@ -52,7 +52,7 @@ has_no_share (zero, low, some) = grind (arith, ints)
 has_no_share (suc zero, low, some) = grind (arith, ints)
 has_no_share (suc (suc k), low, some) = omega (arith, low)
 
--- T0 stands elsewhere
+-- T0 is elsewhere
 stand_alike : StandAlike of_two 0 (1 ∷ 0 ∷ 0 ∷ []) (0 ∷ 0 ∷ 0 ∷ [])
 stand_alike zero lt share = absurd (has_no_share share)
 stand_alike (suc zero) lt share = refl
@@ -69,7 +69,7 @@ not_closed closed = let in_it = closed 0 1 (lit< tt) refl refl in cc
 exact : IsExact head_on (Done mended certificate 1)
 exact = is_exact head_on 7 1 (Done mended certificate 1) done
 
--- without a section both trains may stand at their starts, from which they can't arrive
+-- without a section both trains may be at their starts, from which they can't arrive
 not_exact : IsExact head_on (Done (unmarked head_on) certificate 1) → ⊥
 not_exact exact =
     let apart : IsApart head_on (0 ∷ 0 ∷ []) = two_apart head_on 0 0 refl (lit≤ tt) (lit≤ tt) refl in

@@ -39,7 +39,7 @@ AreSound M S = (b : List Stay) → Among S b → IsSound M b
 
 -- ---- the first member of a core to move
 
--- The other state stands as the first one at all members of the set.
+-- The other state has the positions of the first one for all members of the set.
 abbrev Agree : List ℕ → List ℕ → List ℕ → Type 0
 Agree p r c = (i : ℕ) → Among c i → place r i ≡ place p i
 

@@ -10,7 +10,7 @@ use Rattle.section_repair.specs.declared.repaired.Repair.TheVariants.{Done, Spen
 use Rattle.section_repair.specs.Repairs.{treated, Treats, Repairs}
 use Rattle.section_repair.specs.Claims.{RepairIsUnique}
 
--- With these sections, after so many rounds, the repair ends with this answer.
+-- With these sections, after this number of rounds, the repair ends with this answer.
 abbrev Stops : List Mission → ℕ → ℕ → ℕ → List (List Stay) → Repair → Type 0
 Stops M budget rounds used S (Done T c n) = (T ≡ marked M S) × (n ≡ used) × (used ≤ rounds) × Makes (marked M S) budget (cert c)
 Stops M budget rounds used S (Spent T n) = (T ≡ marked M S) × (used ≤ rounds) × Makes (marked M S) budget (spent n)

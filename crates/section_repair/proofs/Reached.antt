@@ -46,34 +46,25 @@ pub record IsRound (M : List Mission) (budget : ℕ) (states : List (List ℕ)) 
   pub stuck : Makes T budget (found p)
   pub treated_is : next ≡ treated T.missions S p
 
-pub round_of : (M : List Mission) (budget : ℕ) (states : List (List ℕ)) (S : List (List Stay)) (T : Table) (made : Made) (p : List ℕ) (next : List (List Stay)) →
-    IsReached M budget states S T → Makes T budget made → made ≡ found p → next ≡ treated T.missions S p → IsRound M budget states S T p next
-round_of M budget states S T made p next reached makes stuck is = record { reached = reached; stuck = subst (Makes T budget) stuck makes; treated_is = is }
+module _ (M : List Mission) (budget : ℕ) (states : List (List ℕ)) (S : List (List Stay)) (T : Table) (p : List ℕ) (next : List (List Stay)) where
+  pub round_of : (made : Made) → IsReached M budget states S T → Makes T budget made → made ≡ found p → next ≡ treated T.missions S p → IsRound M budget states S T p next
+  round_of made reached makes stuck is = record { reached = reached; stuck = subst (Makes T budget) stuck makes; treated_is = is }
 
-own-missions : (M : List Mission) (S : List (List Stay)) (T : Table) → T ≡ marked M S → T.missions ≡ M
-own-missions M S T e = ap (λ (v : Table). v.missions) e
+module _ {M : List Mission} {budget : ℕ} {states : List (List ℕ)} {S : List (List Stay)} {T : Table} {p : List ℕ} {next : List (List Stay)} (r : IsRound M budget states S T p next) where
+  own-missions : T.missions ≡ M
+  own-missions = ap (λ (v : Table). v.missions) r.reached.table
 
-pub round-makes : (M : List Mission) (budget : ℕ) (states : List (List ℕ)) (S : List (List Stay)) (T : Table) (p : List ℕ) (next : List (List Stay)) →
-    IsRound M budget states S T p next → next ≡ treated M S p
-round-makes M budget states S T p next r = r.treated_is ∙ ap (λ m. treated m S p) (own-missions M S T r.reached.table)
+  pub round-makes : next ≡ treated M S p
+  round-makes = r.treated_is ∙ ap (λ m. treated m S p) own-missions
 
-next-treats : (M : List Mission) (budget : ℕ) (states : List (List ℕ)) (S : List (List Stay)) (T : Table) (p : List ℕ) (next : List (List Stay)) →
-    IsRound M budget states S T p next → Treats M budget [] (states ++ p ∷ []) next
-next-treats M budget states S T p next r =
-    treats-next M budget states [] S next p r.reached.treats r.reached.few (subst (λ v. Makes v budget (found p)) r.reached.table r.stuck)
-    (round-makes M budget states S T p next r)
+  next-treats : Treats M budget [] (states ++ p ∷ []) next
+  next-treats = treats-next M budget states [] S next p r.reached.treats r.reached.few (subst (λ v. Makes v budget (found p)) r.reached.table r.stuck) round-makes
 
--- the sections of a further round are of stays
-pub next-stays : (M : List Mission) (budget : ℕ) (states : List (List ℕ)) (S : List (List Stay)) (T : Table) (p : List ℕ) (next : List (List Stay)) →
-    IsRound M budget states S T p next → All (AreStays (length T.missions)) next
-next-stays M budget states S T p next r k d l =
-    let x : AreSound M next = reached_sound M budget (states ++ p ∷ []) next (next-treats M budget states S T p next r) in
-    subst (λ v. AreStays (length v) (slice_index_or next k d)) (sym (own-missions M S T r.reached.table)) (x (slice_index_or next k d) (among-at next k d l)).stays
+  -- the sections of a further round are of stays
+  pub next-stays : All (AreStays (length T.missions)) next
+  next-stays k d l =
+      let x : AreSound M next = reached_sound M budget (states ++ p ∷ []) next next-treats in
+      subst (λ v. AreStays (length v) (slice_index_or next k d)) (sym own-missions) (x (slice_index_or next k d) (among-at next k d l)).stays
 
-pub went_on : (M : List Mission) (budget : ℕ) (states : List (List ℕ)) (S : List (List Stay)) (T : Table) (p : List ℕ) (next : List (List Stay)) (N : Table) →
-    IsRound M budget states S T p next → length next ≤ 64 → N ≡ marked T.missions next → IsReached M budget (states ++ p ∷ []) next N
-went_on M budget states S T p next N r few e = record {
-  treats = next-treats M budget states S T p next r;
-  few = few;
-  table = e ∙ ap (λ m. marked m next) (own-missions M S T r.reached.table);
-}
+  pub went_on : (N : Table) → length next ≤ 64 → N ≡ marked T.missions next → IsReached M budget (states ++ p ∷ []) next N
+  went_on N few e = record { treats = next-treats; few = few; table = e ∙ ap (λ m. marked m next) own-missions }

@@ -14,7 +14,7 @@ use Rattle.section_repair.specs.Claims.{Completable, IsApart}
 use Rattle.section_repair.specs.Repairs.{Treats, IsReached, Repairs}
 use Rattle.section_repair.proofs.Samples.{stay, head_on}
 
--- two trains stand at two points
+-- two trains at two points
 pub two_apart : (M : List Mission) (a b : ℕ) → length M ≡ 2 → a ≤ last (unmarked M) 0 → b ≤ last (unmarked M) 1
     → same_point (point (unmarked M) 0 a) (point (unmarked M) 1 b) ≡ false → IsApart M (a ∷ b ∷ [])
 two_apart M a b size low high differ = record { one_each = sym size; in_range = in_range; apart = apart; within = λ s lt. absurd (omega (arith, lt)) }

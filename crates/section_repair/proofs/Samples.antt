@@ -14,6 +14,6 @@ long = (record { points = 0 ∷ 1 ∷ 2 ∷ 3 ∷ 4 ∷ []; exits = false }) ∷
 abbrev pub head_on : List Mission
 head_on = (record { points = 0 ∷ 1 ∷ []; exits = false }) ∷ (record { points = 1 ∷ 0 ∷ []; exits = false }) ∷ []
 
--- T0 wants the start of T1, which stands head-on with T2
+-- T0 wants the start of T1, which is head-on with T2
 abbrev pub follower : List Mission
 follower = (record { points = 2 ∷ 0 ∷ []; exits = false }) ∷ (record { points = 0 ∷ 1 ∷ []; exits = false }) ∷ (record { points = 1 ∷ 0 ∷ []; exits = false }) ∷ []

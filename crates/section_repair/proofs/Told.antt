@@ -1,4 +1,4 @@
--- What an unfinished train of a stuck state is told, and for whom it then waits.
+-- The answer to an unfinished train of a stuck state, and for whom it then waits.
 use Rattle.std.proofs.Common.{◌≡◌, ◌≢◌, ℕ, ◌+◌, ◌<◌, ◌==◌, Bool, true, false, true≢false, not, ◌&&◌, List, map, length, Option, Some, None, refl, ap, ◌∙◌, subst, sym}
 use Rattle.std.specs.Prelude.{find, pos, ◌<ℤ◌, int_lt, nat_abs}
 use Rattle.std.specs.List.{position_from}
@@ -17,7 +17,7 @@ use Rattle.forbidden_states.specs.Forbid.{Stay, unmarked, forbidding, marked}
 use Rattle.forbidden_states.proofs.Members.{among-below}
 use Rattle.section_repair.specs.Core.{waits_for}
 
--- what a train is told, from the three things that decide it
+-- the answer to a train, from the three things that decide it
 abbrev ask_by : Table → List ℕ → ℕ → Bool → Option ℕ → Option ℕ → Ask
 ask_by T p i ended blocked over =
     elim ended [
@@ -31,7 +31,7 @@ ask_by T p i ended blocked over =
       ]
     ]
 
--- whom it waits for, from what it is told
+-- whom it waits for, from the answer
 abbrev pub waits_by : Table → List ℕ → ℕ → ℕ → Ask → Bool
 waits_by T p i j a = elim a [
   | Occupied by ↦ j == by

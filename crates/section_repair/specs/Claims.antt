@@ -65,7 +65,7 @@ EachRoundLosesNothing =
 abbrev pub RepairIsUnique : Type 0
 RepairIsUnique = (M : List Mission) (budget rounds : ℕ) (x y : Repair) → Repairs M budget rounds x → Repairs M budget rounds y → x ≡ y
 
--- Train i waits for train j, by what it is told.
+-- Train i waits for train j, by the answer to its request.
 abbrev pub WaitsFor : Table → List ℕ → ℕ → ℕ → Type 0
 WaitsFor T p i j =
     Answers T p i (Occupied j)

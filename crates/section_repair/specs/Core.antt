@@ -23,7 +23,7 @@ has group i = list_any (λ j. j == i) group
 abbrev pub is_waited_for : Table → List ℕ → List ℕ → ℕ → Bool
 is_waited_for T p group j = list_any (λ i. waits_for T p i j) group
 
--- what each train is told
+-- the answer to each train's request
 abbrev pub asks : Table → List ℕ → List Ask
 asks T p = map (ask T p) (below (trains T))
 

@@ -16,7 +16,7 @@ is_same_train a b = a.train == b.train
 abbrev pub is_same_range : Stay → Stay → Bool
 is_same_range a b = (a.range.lo == b.range.lo) && (a.range.hi == b.range.hi)
 
--- whether one range begins just behind the other
+-- whether one range begins directly after the other
 abbrev pub adjoins : Stay → Stay → Bool
 adjoins a b = (a.range.hi + 1 == b.range.lo) || (b.range.hi + 1 == a.range.lo)
 

@@ -10,7 +10,7 @@ use legal_state::can_move;
 use rail_model::{Ask, State, Table, last_of, share_at, trains_of};
 use std::alloc::{AllocError, Global};
 
-// What each train is told.
+// The answer to each train's request.
 fn asks(alloc: Global, table: &Table, state: &State) -> Result<Vec<Ask>, AllocError>
     requires { Legal table.now state.now }
     ensures { IfOk result (λ asks. asks.items ≡ asks_of table.now state.now) }
@@ -22,7 +22,7 @@ fn asks(alloc: Global, table: &Table, state: &State) -> Result<Vec<Ask>, AllocEr
     Ok(asks)
 }
 
-// Whether a train that was told this waits for another one.
+// Whether a train that gets this answer waits for another one.
 fn waits_for(table: &Table, state: &State, train: u32, told: Ask, other: u32) -> bool
     requires formed { IsTable table.now }
     requires legal { Legal table.now state.now }

@@ -36,7 +36,7 @@ fn is_same_range(a: Stay, b: Stay) -> bool
     a.span().lo() == b.span().lo() && a.span().hi() == b.span().hi()
 }
 
-// Whether the places of one stay begin just behind those of the other.
+// Whether the places of one stay begin directly after those of the other.
 fn adjoins(a: Stay, b: Stay) -> bool
     ensures { result ≡ adjoins_on a b }
 {

@@ -1,7 +1,7 @@
 // What holds of every repair: laws of the definitions, with no code.
 ghost use Rattle.section_repair.specs.Claims.{ClosuresAreLeast, EachRoundLosesNothing, RepairIsUnique, WaitsAgree};
 
-/// In a legal state a train waits for another exactly where what it is told says so; and the closure of a train is the
+/// In a legal state a train waits for another exactly where the answer to its request says so; and the closure of a train is the
 /// least group that holds it and all that its members wait for.
 pub fn closures_are_least()
     ensures waits { WaitsAgree }

@@ -5,7 +5,7 @@ use rail_model::{State, Table};
 /// How a repair ends, with the table of the sections that it made so far.
 #[derive(Drop)]
 pub enum Repair {
-    /// The table with its certificate, after so many rounds.
+    /// The table with its certificate, and the number of rounds.
     Done {
         table: Table,
         cert: Cert,

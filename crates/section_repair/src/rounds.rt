@@ -13,10 +13,10 @@ use forbidden_states::{Stays, marked};
 use rail_model::{Layout, Missions, State, Table, copy_missions};
 use std::alloc::{AllocError, Global};
 
-// A table has at most so many sections.
+// The most sections that a table has.
 const MOST_SECTIONS: usize = 64;
 
-// The sections with one more, that forbids the core of a stuck state, joined where it joins on.
+// The sections with one more that forbids the core of a stuck state, joined where it joins on.
 fn treated(
     alloc: Global,
     table: &Table,
@@ -73,8 +73,8 @@ fn answer(alloc: Global, missions: Missions, budget: u32, rounds: u32) -> Result
 /// nodes. Without a certificate it ends where the budget is spent, where `rounds` states were treated and another is
 /// stuck, or where there is no room for a section.
 ///
-/// The answer is a function of the missions, the budget and the rounds. The only error is want of memory; the missions
-/// are let go then.
+/// The answer is a function of the missions, the budget and the rounds. The only error is that there is no memory; the
+/// missions are dropped then.
 pub fn repair(
     alloc: Global,
     _layout: &Layout,

@@ -1,4 +1,4 @@
--- What a table that is due is answered.
+-- The answer to the control where a table is due.
 use Rattle.std.specs.Prelude.{Result, Ok, Err, List, ℕ}
 use Rattle.rail_model.specs.declared.types.Tried.{Tried}
 use Rattle.rail_model.specs.declared.types.Tried.TheVariants.{Exchanged, Differs, Over}
@@ -12,7 +12,7 @@ use Rattle.table_exchange.specs.declared.exchange.NotNow.TheVariants.{Differs as
 abbrev pub IsDifference : Table → Table → List ℕ → ℕ → ℕ → Type 0
 IsDifference T new p i k = IsFirst (λ j. (l : ℕ) × DiffersAt T new p j l) i × IsFirst (DiffersAt T new p i) k
 
--- what the control is told
+-- the answer to the control
 abbrev pub told : Result (Unit {0}) NotNow → Tried
 told (Ok u) = Exchanged
 told (Err (DiffersNow i k)) = Differs i k

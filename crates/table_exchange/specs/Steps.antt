@@ -6,7 +6,7 @@ use Rattle.rail_model.specs.declared.types.Tried.{Tried}
 use Rattle.rail_model.specs.declared.types.Tried.TheVariants.{Exchanged, Differs, Over}
 use Rattle.rail_model.specs.Yard.{Yard, moved, exchanged, kept_out}
 
--- the state after a train's question: a train that was told Yes has moved
+-- the state after a train's question: a train that is answered Yes has moved
 abbrev pub after_ask : Yard → ℕ → Ask → Yard
 after_ask y i Yes = moved y i
 after_ask y i _ = y

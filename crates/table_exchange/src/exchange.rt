@@ -3,7 +3,7 @@ ghost use Rattle.std.specs.Prelude.{◌≡◌, ◌≤◌, ◌⊎◌, ◌↔◌, 
 ghost use Rattle.rail_model.specs.Table.{IsTable, trains, last, place, count as count_in};
 ghost use Rattle.rail_model.specs.State.{Legal, Arrived};
 ghost use Rattle.rail_model.specs.Move.{IsOver, IsFirst, IsFirstOrNone};
-ghost use Rattle.rail_model.specs.Exchange.{DiffersAt, Agrees, Admits};
+ghost use Rattle.rail_model.specs.Exchange.{DiffersAt, Agrees, Admits, IsDue};
 ghost use Rattle.table_exchange.specs.Admitted.{told, IsDifference};
 ghost use Rattle.table_exchange.specs.Arrivals.{IsUnfinished};
 
@@ -26,6 +26,15 @@ pub fn due(moves: u32, after: u32, all_arrived: bool) -> bool
     after <= moves || all_arrived
 }
 
+/// Whether a table that is offered after `after` moves is due at a state of the table in force. The trains are looked at only where too
+/// few moves were made.
+pub fn is_due(table: &Table, state: &State, moves: u32, after: u32) -> bool
+    requires { length state.now ≡ trains table.now }
+    ensures { IsTrue result ↔ IsDue table.now state.now moves after }
+{
+    due(moves, after, false) || all_arrived(table, state)
+}
+
 /// The first train that hasn't arrived.
 pub fn first_unfinished(table: &Table, state: &State) -> Option<u32>
     requires { length state.now ≡ trains table.now }
@@ -39,7 +48,7 @@ pub fn first_unfinished(table: &Table, state: &State) -> Option<u32>
     None
 }
 
-/// Whether every train stands at its last place.
+/// Whether every train is at its last place.
 pub fn all_arrived(table: &Table, state: &State) -> bool
     requires { length state.now ≡ trains table.now }
     ensures { IsTrue result ↔ Arrived table.now state.now }
@@ -64,6 +73,7 @@ fn first_other(old: &Table, new: &Table, state: &State, train: u32) -> Option<u3
     requires train { train < trains old.now }
     ensures { IsFirstOrNone (DiffersAt old.now new.now state.now train) result }
 {
+    // Read for the proof: the trains and their places are few.
     let _trains = trains_of(old);
     let _last = last_of(old, train);
     for place in 0..state.place(train) + 1 {

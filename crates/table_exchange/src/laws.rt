@@ -16,12 +16,12 @@ pub fn admitted_stays_legal()
     ensures { (T new : Table) (p : List ℕ) → trains new ≡ trains T → Legal T p → Admits T new p Exchanged → Legal new p }
 {}
 
-/// A table that is due is told just what the test of [`admit`](crate::admit)'s definition computes.
+/// A table that is due is admitted exactly where the test of [`admit`](crate::admit)'s definition says so, for the same cause.
 pub fn each_admission_is_computed()
     ensures { AdmittedAgrees }
 {}
 
-/// Right lines lead from a state that stands to one that stands, and so does a history.
+/// Right lines lead from a legal state of the yard to a legal one, and so does a history.
 pub fn histories_keep_standing()
     ensures lines { (tables : List Offer) (y : Yard) (lines : List LineValue)
         → AreTables tables → Stands tables y → IsRight tables y lines → Stands tables (after_lines y lines) }

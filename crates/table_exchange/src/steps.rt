@@ -8,7 +8,7 @@ ghost use Rattle.table_exchange.specs.Admitted.{told};
 ghost use Rattle.table_exchange.specs.Steps.{after_ask, after_tried};
 ghost use Rattle.table_exchange.specs.Tables.{AreTables, Stands};
 
-use crate::{NotNow, admit, all_arrived, due};
+use crate::{NotNow, admit, is_due};
 use legal_state::can_move;
 use rail_model::{Ask, HasTable, Standing, Table, Tried, last_of};
 
@@ -30,6 +30,7 @@ pub fn ask<A: HasTable>(tables: &[A], yard: &mut Standing, train: u32) -> Ask
     ensures stands { Stands (map A.offer tables.now) yard.new }
 {
     let table = in_force(tables, yard);
+    // Read for the proof: a train's places are few.
     let _last = last_of(table, train);
     match can_move(table, yard.positions(), train) {
         Ask::Yes => {
@@ -49,14 +50,18 @@ fn next_table<'a, A: HasTable>(tables: &'a [A], yard: &Standing) -> Option<&'a A
 }
 
 // Whether the next table is due.
-fn is_due<A: HasTable>(tables: &[A], yard: &Standing, next: &A) -> bool
+fn is_next_due<A: HasTable>(tables: &[A], yard: &Standing, next: &A) -> bool
     requires stands { Stands (map A.offer tables.now) yard.now }
     requires has_next { IsOpen (map A.offer tables.now) yard.now }
     requires next { A.offer next.now ≡ next_offer (map A.offer tables.now) yard.now }
     ensures { IsTrue result ↔ IsNextDue (map A.offer tables.now) yard.now }
 {
-    let arrived = all_arrived(in_force(tables, yard), yard.positions());
-    due(yard.moves(), next.after(), arrived)
+    is_due(
+        in_force(tables, yard),
+        yard.positions(),
+        yard.moves(),
+        next.after(),
+    )
 }
 
 // Whether the next table may take over from the one in force.
@@ -81,7 +86,7 @@ pub fn try_table<A: HasTable>(tables: &[A], yard: &mut Standing) -> Tried
     let Some(next) = next_table(tables, yard) else {
         return Tried::NoMore;
     };
-    if !is_due(tables, yard, next) {
+    if !is_next_due(tables, yard, next) {
         return Tried::Early {
             moves: yard.moves(),
         };

@@ -6,7 +6,7 @@ use Rattle.std.proofs.lemmas.List.Quantifiers.{position-Some}
 use Rattle.std.proofs.lemmas.Option.{slice_get-get_or, slice_get_within, get_or_from_slice_get}
 use Rattle.rail_model.proofs.Places.{position-none}
 
--- the name stands at the place that is found
+-- the name is at the place that is found
 pub called_there : (names : List (List ℕ)) (name : List ℕ) (q : ℕ) → Some q ≡ position (bytes_eq name) names → slice_get names q ≡ Some name
 called_there names name q h =
     let there = position-Some (bytes_eq name) names q [] (sym h) in

@@ -1,4 +1,4 @@
--- Names that are numbered one by one: whether the next stands among those before it.
+-- Names that are numbered one by one: whether the next is among those before it.
 use Rattle.std.proofs.Common.{◌≡◌, ℕ, Option, Ok, Err, ◌+◌, ◌<◌, List, [], ◌∷◌, ◌++◌, length, map, take, get_or, true, false, Some, None, option_map, String, Global, string_bytes, string_eq, bytes_eq, refl, sym, ap, subst, ◌∙◌, arith, position, length-append}
 use Rattle.std.specs.List.{list_any, position_or_len}
 use Rattle.std.proofs.lemmas.List.{length-map}

@@ -27,7 +27,7 @@ before_differs names second k d formed within short =
     let one : k ≡ second = formed.apart k second (omega arith) within (sym there ∙ sym equal) in
     absurd (omega arith))
 
--- none of them stands twice
+-- none of them comes twice
 pub no_double : (names : List (List ℕ)) → AreNames names → first_double names ≡ None
 no_double names formed =
     first_below-all (length names) (double_at names)

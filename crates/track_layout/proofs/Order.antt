@@ -24,7 +24,7 @@ count_rows points links zones =
 abbrev pub zone_rows : List ℕ → ℕ → List (Option LayoutRefused)
 zone_rows in_zones zones = zone_range in_zones zones ∷ zone_empty in_zones zones ∷ []
 
--- what is left to look for behind the links' points, behind the zones, and so on up to all of it
+-- what is left to look for after the links' points, after the zones, and so on up to all of it
 abbrev pub behind_links : List (List ℕ × ℕ) → List (List ℕ × List ℕ) → ℕ → List (Option LayoutRefused)
 behind_links points links zones = self_link links ∷ []
 

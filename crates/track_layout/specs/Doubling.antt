@@ -1,4 +1,4 @@
--- A name that stands twice, as a refusal of points.
+-- A name that comes twice, as a refusal of points.
 use Rattle.track_layout.specs.declared.numbers.NotNumbered.{NotNumbered}
 use Rattle.track_layout.specs.declared.numbers.NotNumbered.TheVariants as numbering
 use Rattle.track_layout.specs.declared.refused.LayoutRefused.{LayoutRefused}

@@ -38,7 +38,7 @@ no_zone zones = then_some (zones == 0) NoZone
 abbrev pub bad_name : List (List ℕ) → Option LayoutRefused
 bad_name names = option_map Name (position (λ name. not (is_name name)) names)
 
--- the first name that stands twice
+-- the first name that comes twice
 abbrev pub double_name : List (List ℕ) → Option LayoutRefused
 double_name names = option_map (λ pair. DoubleName pair.0 pair.1) (first_double names)
 
@@ -58,7 +58,7 @@ unknown_point names links = option_map UnknownPoint (position (λ l. not (is_kno
 abbrev pub self_link : List (List ℕ × List ℕ) → Option LayoutRefused
 self_link links = option_map SelfLink (position (λ l. bytes_eq l.0 l.1) links)
 
--- what is wrong with the lists, in the order in which it is told
+-- what is wrong with the lists, in the order in which it is reported
 abbrev pub layout_refusal : List (List ℕ × ℕ) → List (List ℕ × List ℕ) → ℕ → Option LayoutRefused
 layout_refusal points links zones =
     first_of (

@@ -1,4 +1,4 @@
--- Names with numbers, or the first name that stands twice.
+-- Names with numbers, or the first name that comes twice.
 use Rattle.std.specs.Prelude.{ℕ, List, option_map, Result}
 use Rattle.rail_model.specs.Naming.{first_double}
 use Rattle.rail_model.specs.Turns.{unless}

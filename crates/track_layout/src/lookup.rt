@@ -10,6 +10,7 @@ pub fn number_of(layout: &Layout, name: &str) -> Option<u32>
     ensures found { IfSome result (λ q. slice_get (point_names layout.now) q ≡ Some name.now) }
     ensures none { IsNone result ↔ (Contains (point_names layout.now) name.now → ⊥) }
 {
+    // This read gives the proof that a layout has at most 512 points.
     let _count = points_of(layout);
     let point = place_of(layout.points(), name)?;
     Some(point as u32)

@@ -11,18 +11,18 @@ use crate::{LayoutRefused, Numbers, What};
 use rail_model::{Layout, Link, Point, first_bad_name};
 use std::alloc::{AllocError, Global};
 
-// A layout has at most so many points, links and zones.
+// The most points, links and zones of a layout.
 const MOST_POINTS: usize = 512;
 
 const MOST_LINKS: usize = 2048;
 
 const MOST_ZONES: usize = 16;
 
-/// The layout of these points, each with its zone, these links, and so many zones.
+/// The layout of these points, each with its zone, these links, and `zones` zones.
 ///
 /// # Errors
 ///
-/// The first thing wrong with them, in the order of `LayoutRefused`; want of memory.
+/// The first thing wrong with them, in the order of `LayoutRefused`; out of memory.
 pub fn layout(
     alloc: Global,
     points: Vec<(String, u32)>,

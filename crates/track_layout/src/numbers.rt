@@ -47,7 +47,7 @@ impl Numbers {
     ///
     /// # Errors
     ///
-    /// `Double` exactly where a name stands twice; want of memory.
+    /// `Double` exactly where a name comes twice; out of memory.
     pub fn new(alloc: Global, names: Vec<String>) -> Result<Self, NotNumbered>
         requires { vec_len names ≤ 512 }
         ensures { Answers NotNumbered.Memory (λ numbers. numbers) result (numbered (map string_bytes names.items)) }

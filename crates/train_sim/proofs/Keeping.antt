@@ -7,7 +7,6 @@ use Rattle.std.proofs.Math.ListN.{length-append, length-set}
 use Rattle.rail_model.specs.declared.types.Ask.{Ask}
 use Rattle.rail_model.specs.declared.types.Ask.TheVariants.{Yes}
 use Rattle.rail_model.specs.declared.types.Line.{Line}
-use Rattle.rail_model.specs.Lines.{move_line}
 use Rattle.rail_model.specs.Journal.{IsDone}
 use Rattle.rail_model.specs.Move.{Move, Answers, Live, advance}
 use Rattle.rail_model.specs.State.{Legal}
@@ -15,9 +14,8 @@ use Rattle.rail_model.specs.Table.{IsTable, trains}
 use Rattle.rail_model.specs.Yard.{Offer, Yard, IsNextDue, in_force, moved}
 use Rattle.rail_model.proofs.Asks.{told_once}
 use Rattle.rail_model.proofs.Live.{arrived_or_moves}
-use Rattle.table_exchange.specs.Steps.{after_ask}
 use Rattle.table_exchange.specs.Tables.{AreTables, Stands}
-use Rattle.plain_yard.specs.Lines.{asked_lines, most_lines}
+use Rattle.plain_yard.specs.Lines.{most_lines}
 use Rattle.plain_yard.proofs.Keeping.{few_moves}
 use Rattle.plain_yard.proofs.Turns.{falls, left}
 use Rattle.train_sim.specs.Steps.{Watched, Grants, IsKept, not_before}
@@ -32,12 +30,9 @@ pub low_due : (tables : List Offer) (y : Yard) (w : Watched) (lines : List Line)
 low_due tables y w lines i are stands formed kept i_in =
     omega (arith, kept.low i (omega (arith, same_trains tables y w lines are stands kept)), few_moves tables y stands formed)
 
--- a train that may move and asks has moved, with its line
-pub has_moved : (tables : List Offer) (y z : Yard) (lines longer : List Line) (i : ℕ) (a : Ask) → Move (in_force tables y) y.positions i (advance y.positions i) → Answers (in_force tables y) y.positions i a
-    → z ≡ after_ask y i a → longer ≡ lines ++ asked_lines tables y i a → (z ≡ moved y i) × (longer ≡ lines ++ move_line tables y i ∷ [])
-has_moved tables y z lines longer i a move answer after adds =
-    let yes : a ≡ Yes = told_once (in_force tables y) y.positions i a Yes move.before answer move in
-    (after ∙ ap (after_ask y i) yes, adds ∙ ap (λ (b : Ask). lines ++ asked_lines tables y i b) yes)
+-- the answer to a train that may move
+pub may_ask : (tables : List Offer) (y : Yard) (i : ℕ) (a : Ask) → Move (in_force tables y) y.positions i (advance y.positions i) → Answers (in_force tables y) y.positions i a → a ≡ Yes
+may_ask tables y i a move answer = told_once (in_force tables y) y.positions i a Yes move.before answer move
 
 pub room_granted : (tables : List Offer) (y : Yard) (w : Watched) (lines longer : List Line) (l : Line) → IsKept tables y w lines → longer ≡ lines ++ l ∷ [] → length longer ≤ most_lines → length w.ticks < most_lines
 room_granted tables y w lines longer l kept adds few =

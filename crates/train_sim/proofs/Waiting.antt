@@ -45,7 +45,7 @@ no_line tables c i (Occupied by) later ne = refl
 no_line tables c i (Full s n) later ne = refl
 no_line tables c i (Held k) later ne = refl
 
--- a train below i asks at train i's tick before it, another one behind it
+-- a train below i asks at train i's tick before it, another one after it
 pub put_cases : (i t j : ℕ) → ((j < i) × (not_before i t j ≡ t + 1)) ⊎ ((i ≤ j) × (not_before i t j ≡ t))
 put_cases i t j = elim (leb_tells (suc j) i) [
   | inl below ↦ inl (omega (arith, below.1), ap (λ b. if b then t + 1 else t) below.0)
@@ -96,75 +96,76 @@ none_put_off c n i j later one_each i_in puts asks same =
       | inr behind ↦ omega (arith, behind.1)
     ])
 
--- a train that will be put off isn't the one that moves next, and may not move
-put_off_in_vain : (tables : List Offer) (c : Clock) (i j : ℕ) (later : List ℕ) → Before tables c i later → j < trains (in_force tables c.yard) → slice_index later j ≢ due_of c j
-    → (j ≢ i) × (Move (in_force tables c.yard) c.yard.positions j (advance c.yard.positions j) → ⊥) × (slice_index later j ≡ not_before i (due_of c i) j) × (due_of c j < not_before i (due_of c i) j)
-put_off_in_vain tables c i j later b j_in more =
-    let j_put : slice_index later j ≡ max (due_of c j) (not_before i (due_of c i) j) = b.puts_off.1 j (omega (arith, b.one_each)) in
-    let ahead : due_of c j < not_before i (due_of c i) j = omega arith in
-    let other : j ≢ i = λ same.
-    let tick : due_of c j ≡ due_of c i = ap (due_of c) same in
-    elim (put_cases i (due_of c i) j) [ inl below ↦ omega (arith, below.0) | inr behind ↦ omega (arith, behind.1) ] in (
-      other,
-      λ move. elim (b.next.first j move) [
-        | inl less ↦ elim (put_cases i (due_of c i) j) [ inl below ↦ omega (arith, below.1) | inr behind ↦ omega (arith, behind.1) ]
-        | inr equal ↦ elim (put_cases i (due_of c i) j) [ inl below ↦ omega (arith, below.0, equal.1) | inr behind ↦ omega (arith, behind.1, equal.0) ]
-      ],
-      omega arith,
-      ahead,
-    )
-
 -- what is still to wait
 abbrev left : Clock → List ℕ → ℕ → ℕ
 left c later n = sum_below (λ j. slice_index later j - due_of c j) n
 
-still_before : (tables : List Offer) (c : Clock) (i j : ℕ) (later : List ℕ) → Before tables c i later → j < trains (in_force tables c.yard) → slice_index later j ≢ due_of c j
-    → Before tables (waited c j) i later
-still_before tables c i j later b j_in more =
-    let facts = put_off_in_vain tables c i j later b j_in more in
-    let j_len : j < length c.due = omega (arith, b.one_each) in
-    let own : due_of (waited c j) j ≡ due_of c j + 1 = get_or-set_same c.due j (due_of c j + 1) 0 j_len in
-    let rest : (k : ℕ) → k ≢ j → due_of (waited c j) k ≡ due_of c k = λ k ne. get_or-set_other c.due j k (due_of c j + 1) 0 ne in
-    let i_rest : due_of (waited c j) i ≡ due_of c i = rest i (λ same. facts.0 (sym same)) in
-    record {
-      formed = b.formed;
-      undue = b.undue;
-      one_each = length-set c.due j (due_of c j + 1) ∙ b.one_each;
-      next = record {
-        move = b.next.move;
-        first = λ k move.
-            let k_rest : due_of (waited c j) k ≡ due_of c k = rest k (λ same. facts.1 (subst (λ x. Move (in_force tables c.yard) c.yard.positions x (advance c.yard.positions x)) same move)) in
-            elim (b.next.first k move) [
-              | inl less ↦ inl (omega arith)
-              | inr equal ↦ inr (omega (arith, equal.0), equal.1)
-            ];
-      };
-      puts_off = (
-        b.puts_off.0 ∙ sym (length-set c.due j (due_of c j + 1)),
-        λ k lt.
-            let k_len : k < length c.due = omega (arith, length-set c.due j (due_of c j + 1)) in
-            let k_put : slice_index later k ≡ max (due_of c k) (not_before i (due_of c i) k) = b.puts_off.1 k k_len in
-            let tick : not_before i (due_of (waited c j) i) k ≡ not_before i (due_of c i) k = ap (λ t. not_before i t k) i_rest in
-            elim (cases_eq k j) [
-              | inl same ↦
-                  let k_own : due_of (waited c j) k ≡ due_of c j + 1 = ap (due_of (waited c j)) same ∙ own in
-                  let k_later : slice_index later k ≡ slice_index later j = ap (slice_index later) same in
-                  let k_not : not_before i (due_of c i) k ≡ not_before i (due_of c i) j = ap (not_before i (due_of c i)) same in
-                  omega (arith, facts.2, facts.3)
-              | inr ne ↦ let k_rest : due_of (waited c j) k ≡ due_of c k = rest k ne in omega arith
-            ],
-      );
-    }
+-- Train j asks next, and will be put off.
+module _ (tables : List Offer) (c : Clock) (i j : ℕ) (later : List ℕ) (b : Before tables c i later) (j_in : j < trains (in_force tables c.yard))
+    (more : slice_index later j ≢ due_of c j) where
+  -- a train that will be put off isn't the one that moves next, and may not move
+  put_off_in_vain : (j ≢ i) × (Move (in_force tables c.yard) c.yard.positions j (advance c.yard.positions j) → ⊥)
+      × (slice_index later j ≡ not_before i (due_of c i) j) × (due_of c j < not_before i (due_of c i) j)
+  put_off_in_vain =
+      let j_put : slice_index later j ≡ max (due_of c j) (not_before i (due_of c i) j) = b.puts_off.1 j (omega (arith, b.one_each)) in
+      let ahead : due_of c j < not_before i (due_of c i) j = omega arith in
+      let other : j ≢ i = λ same.
+      let tick : due_of c j ≡ due_of c i = ap (due_of c) same in
+      elim (put_cases i (due_of c i) j) [ inl below ↦ omega (arith, below.0) | inr behind ↦ omega (arith, behind.1) ] in (
+        other,
+        λ move. elim (b.next.first j move) [
+          | inl less ↦ elim (put_cases i (due_of c i) j) [ inl below ↦ omega (arith, below.1) | inr behind ↦ omega (arith, behind.1) ]
+          | inr equal ↦ elim (put_cases i (due_of c i) j) [ inl below ↦ omega (arith, below.0, equal.1) | inr behind ↦ omega (arith, behind.1, equal.0) ]
+        ],
+        omega arith,
+        ahead,
+      )
 
-less_left : (tables : List Offer) (c : Clock) (i j : ℕ) (later : List ℕ) → Before tables c i later → j < trains (in_force tables c.yard) → slice_index later j ≢ due_of c j
-    → left c later (trains (in_force tables c.yard)) ≡ left (waited c j) later (trains (in_force tables c.yard)) + 1
-less_left tables c i j later b j_in more =
-    let facts = put_off_in_vain tables c i j later b j_in more in
-    let j_len : j < length c.due = omega (arith, b.one_each) in
-    let own : due_of (waited c j) j ≡ due_of c j + 1 = get_or-set_same c.due j (due_of c j + 1) 0 j_len in
-    sum_step (λ k. slice_index later k - due_of c k) (λ k. slice_index later k - due_of (waited c j) k) (trains (in_force tables c.yard)) j j_in
-    (omega (arith, facts.2, facts.3))
-    (λ k lt ne. ap (λ (t : ℕ). slice_index later k - t) (sym (get_or-set_other c.due j k (due_of c j + 1) 0 ne)))
+  still_before : Before tables (waited c j) i later
+  still_before =
+      let facts = put_off_in_vain in
+      let j_len : j < length c.due = omega (arith, b.one_each) in
+      let own : due_of (waited c j) j ≡ due_of c j + 1 = get_or-set_same c.due j (due_of c j + 1) 0 j_len in
+      let rest : (k : ℕ) → k ≢ j → due_of (waited c j) k ≡ due_of c k = λ k ne. get_or-set_other c.due j k (due_of c j + 1) 0 ne in
+      let i_rest : due_of (waited c j) i ≡ due_of c i = rest i (λ same. facts.0 (sym same)) in
+      record {
+        formed = b.formed;
+        undue = b.undue;
+        one_each = length-set c.due j (due_of c j + 1) ∙ b.one_each;
+        next = record {
+          move = b.next.move;
+          first = λ k move.
+              let k_rest : due_of (waited c j) k ≡ due_of c k = rest k (λ same. facts.1 (subst (λ x. Move (in_force tables c.yard) c.yard.positions x (advance c.yard.positions x)) same move)) in
+              elim (b.next.first k move) [
+                | inl less ↦ inl (omega arith)
+                | inr equal ↦ inr (omega (arith, equal.0), equal.1)
+              ];
+        };
+        puts_off = (
+          b.puts_off.0 ∙ sym (length-set c.due j (due_of c j + 1)),
+          λ k lt.
+              let k_len : k < length c.due = omega (arith, length-set c.due j (due_of c j + 1)) in
+              let k_put : slice_index later k ≡ max (due_of c k) (not_before i (due_of c i) k) = b.puts_off.1 k k_len in
+              let tick : not_before i (due_of (waited c j) i) k ≡ not_before i (due_of c i) k = ap (λ t. not_before i t k) i_rest in
+              elim (cases_eq k j) [
+                | inl same ↦
+                    let k_own : due_of (waited c j) k ≡ due_of c j + 1 = ap (due_of (waited c j)) same ∙ own in
+                    let k_later : slice_index later k ≡ slice_index later j = ap (slice_index later) same in
+                    let k_not : not_before i (due_of c i) k ≡ not_before i (due_of c i) j = ap (not_before i (due_of c i)) same in
+                    omega (arith, facts.2, facts.3)
+                | inr ne ↦ let k_rest : due_of (waited c j) k ≡ due_of c k = rest k ne in omega arith
+              ],
+        );
+      }
+
+  less_left : left c later (trains (in_force tables c.yard)) ≡ left (waited c j) later (trains (in_force tables c.yard)) + 1
+  less_left =
+      let facts = put_off_in_vain in
+      let j_len : j < length c.due = omega (arith, b.one_each) in
+      let own : due_of (waited c j) j ≡ due_of c j + 1 = get_or-set_same c.due j (due_of c j + 1) 0 j_len in
+      sum_step (λ k. slice_index later k - due_of c k) (λ k. slice_index later k - due_of (waited c j) k) (trains (in_force tables c.yard)) j j_in
+      (omega (arith, facts.2, facts.3))
+      (λ k lt ne. ap (λ (t : ℕ). slice_index later k - t) (sym (get_or-set_other c.due j k (due_of c j + 1) 0 ne)))
 
 -- where a train may move, not all have arrived
 not_arrived : (T : Table) (p : List ℕ) (i : ℕ) → Move T p i (advance p i) → Arrived T p → ⊥
@@ -204,7 +205,7 @@ next_waits tables times steps c i later b is rest =
           (rest asker.0 (omega (arith, less_left tables c i asker.0 later b asker.2.train more)) (still_before tables c i asker.0 later b asker.2.train more))
     ]
 
--- as long as a train before train i isn't due behind its tick, it asks in vain
+-- as long as a train before train i isn't due after its tick, it asks in vain
 waits : (tables : List Offer) (times : List (List (List ℕ))) (steps : ℕ) (c : Clock) (i : ℕ) (later : List ℕ) → Before tables c i later
     → left c later (trains (in_force tables c.yard)) ≡ steps → Waits tables times c later
 waits tables times zero c i later b is = next_waits tables times zero c i later b is (λ j fewer. absurd (omega arith))

@@ -17,8 +17,8 @@ abbrev pub TakeAtMost : List Offer → List (List (List ℕ)) → ℕ → Type 0
 TakeAtMost tables times w =
     (t i k : ℕ) → t < length tables → i < trains (offer tables t).table → k < last (offer tables t).table i → time times t i k ≤ w
 
--- What is reported of a yard with some lines: the timed journal's lines and ticks behind them, the tick of its last
--- move, or 0, and the yard at its end. Lines that stood before have tick 0.
+-- What is reported of a yard with some lines: the timed journal's lines and ticks after them, the tick of its last
+-- move, or 0, and the yard at its end. Lines from before have tick 0.
 pub record Simulates (tables : List Offer) (times : List (List (List ℕ))) (y : Yard) (earlier lines : List Line) (ticks : List ℕ) (last_tick : ℕ) (end : Yard) : Type 0 where
   pub entries : List Stamped
   pub timed : IsTimed tables times (starting y (trains (in_force tables y))) entries

@@ -13,7 +13,7 @@ pub record Watched : Type 0 where
   pub last : ℕ
   pub ticks : List ℕ
 
--- at the beginning, with so many lines that stood before
+-- at the beginning, with a number of lines from before
 abbrev pub begun : ℕ → ℕ → Watched
 begun n lines = record { due = replicate n 0; last = 0; ticks = replicate lines 0 }
 
@@ -42,7 +42,7 @@ MovesFirst T p due k (Some i) =
 abbrev pub not_before : ℕ → ℕ → ℕ → ℕ
 not_before i tick j = if nat_lt j i then tick + 1 else tick
 
--- The trains that asked in vain until train i asks at its due tick are due at that tick, or behind it where their number is less.
+-- The trains that asked in vain until train i asks at its due tick are due at that tick, or one tick later where their number is less.
 abbrev pub PutsOff : List ℕ → ℕ → List ℕ → Type 0
 PutsOff due i later =
     (length later ≡ length due)
@@ -56,7 +56,7 @@ pub record Grants (w : Watched) (i takes : ℕ) (v : Watched) : Type 0 where
   pub last : v.last ≡ slice_index w.due i
   pub ticks : v.ticks ≡ w.ticks ++ slice_index w.due i ∷ []
 
--- One due tick per train, low enough after so many moves, and one tick per line.
+-- One due tick per train, low enough after the moves made, and one tick per line.
 pub record IsKept (tables : List Offer) (y : Yard) (w : Watched) (lines : List Line) : Type 0 where
   pub one_each : length w.due ≡ trains (offer tables 0).table
   pub low : (i : ℕ) → i < length w.due → slice_index w.due i ≤ 1000 * y.moves

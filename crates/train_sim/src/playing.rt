@@ -2,7 +2,7 @@
 ghost use Rattle.std.specs.Prelude.{◌≡◌, ◌⊎◌, ◌≤◌, ◌↔◌, ℕ, ◌+◌, ◌<◌, ◌∷◌, ◌++◌, [], length, List, IsTrue, MatchOption, if◌then◌else◌, false};
 ghost use Rattle.rail_model.specs.Journal.{IsDone};
 ghost use Rattle.rail_model.specs.Lines.{move_line};
-ghost use Rattle.rail_model.specs.Move.{Move, advance};
+ghost use Rattle.rail_model.specs.Move.{Live, Move, advance};
 ghost use Rattle.rail_model.specs.Table.{IsTable, place};
 ghost use Rattle.rail_model.specs.Times.{time};
 ghost use Rattle.rail_model.specs.Yard.{in_force, moved, IsNextDue};
@@ -14,7 +14,7 @@ ghost use Rattle.train_sim.specs.Steps.{IsKept, Leads, MovesNext};
 use crate::mover::first_mover;
 use crate::watch::Watch;
 use plain_yard::{CheckedTable, PlainYard, has_answer};
-use rail_model::Times;
+use rail_model::{Ask, Times};
 
 // Tries the next table, and says whether it was due.
 fn try_next<A: CheckedTable>(run: &mut PlainYard<'_, A>, watch: &mut Watch) -> bool
@@ -27,6 +27,7 @@ fn try_next<A: CheckedTable>(run: &mut PlainYard<'_, A>, watch: &mut Watch) -> b
     ensures tables { run.new.tables ≡ run.old.tables }
 {
     let tried = run.try_table();
+    // Read for the proof: few lines were written, so that there is room for a tick.
     let _table = run.live_in_force();
     if !has_answer(tried) {
         return false;
@@ -47,26 +48,30 @@ fn try_due<A: CheckedTable>(run: &mut PlainYard<'_, A>, watch: &mut Watch)
     ensures tables { run.new.tables ≡ run.old.tables }
 {
     while try_next(run, watch) {}
+    // Read for the proof: the table in force is well formed.
     let _table = run.live_in_force();
 }
 
 // The train that moves next; none where no train may move.
 fn next_mover<A: CheckedTable>(run: &PlainYard<'_, A>, watch: &Watch) -> Option<u32>
     requires { IsKept run.now.tables run.now.yard watch.now run.now.lines }
-    ensures { MatchOption result ((i : ℕ) → Move (in_force run.now.tables run.now.yard) run.now.yard.positions i (advance run.now.yard.positions i) → ⊥)
+    ensures next { MatchOption result ((i : ℕ) → Move (in_force run.now.tables run.now.yard) run.now.yard.positions i (advance run.now.yard.positions i) → ⊥)
         (λ train. MovesNext (in_force run.now.tables run.now.yard) run.now.yard.positions watch.now.due train) }
+    ensures live { Live (in_force run.now.tables run.now.yard) }
+    ensures stands { Stands run.now.tables run.now.yard }
 {
     first_mover(run.live_in_force(), run.yard().positions(), watch.due())
 }
 
 // How long the step of a train that moves takes.
 fn step_time<A: CheckedTable>(run: &PlainYard<'_, A>, times: &Times, train: u32) -> u32
+    requires formed { IsTable (in_force run.now.tables run.now.yard) }
+    requires stands { Stands run.now.tables run.now.yard }
     requires times { HaveTimes run.now.tables times.now }
     requires may_move { Move (in_force run.now.tables run.now.yard) run.now.yard.positions train (advance run.now.yard.positions train) }
     ensures takes { result ≡ time times.now run.now.yard.table train (place run.now.yard.positions train) }
     ensures short { result ≤ 1000 }
 {
-    let _table = run.live_in_force();
     let yard = run.yard();
     times.time(yard.table(), train, yard.positions().place(train))
 }
@@ -79,7 +84,11 @@ fn move_train<A: CheckedTable>(run: &mut PlainYard<'_, A>, train: u32)
     ensures few { length run.new.lines ≤ most_lines }
     ensures tables { run.new.tables ≡ run.old.tables }
 {
-    let _yes = run.ask(train);
+    match run.ask(train) {
+        Ask::Yes => {}
+        _ => unreachable!(),
+    }
+    // Read for the proof: few lines were written.
     let _table = run.live_in_force();
 }
 
@@ -99,6 +108,7 @@ fn move_next<A: CheckedTable>(
     ensures kept { IsKept run.new.tables run.new.yard watch.new run.new.lines }
     ensures tables { run.new.tables ≡ run.old.tables }
 {
+    // Read for the proof: few moves were made, so that its due tick is low.
     let _table = run.live_in_force();
     let takes = step_time(run, times, train);
     move_train(run, train);
@@ -118,5 +128,4 @@ pub(crate) fn play<A: CheckedTable>(run: &mut PlainYard<'_, A>, watch: &mut Watc
         move_next(run, watch, times, train);
         try_due(run, watch);
     }
-    let _table = run.live_in_force();
 }

@@ -20,12 +20,12 @@ pub struct SimReport {
 
 /// Runs a yard to its end in ticks. At tick 0 all trains are due; at each tick the trains that are due ask, train 0
 /// first. One that moves asks again after the time of its step in the table in force, any other at the next tick.
-/// Tables are tried as soon as they are due. Lines that stood before have tick 0, a table's line the tick of the ask
+/// Tables are tried as soon as they are due. Lines from before have tick 0, a table's line the tick of the ask
 /// before it. With m moves and no step longer than w ticks, the last move comes at tick (m - 1) * w at most.
 ///
 /// # Errors
 ///
-/// Want of memory alone; the run comes back as it was.
+/// Out of memory, and nothing else; the run comes back as it was.
 pub fn simulate<'a, A: CheckedTable>(
     alloc: Global,
     mut run: PlainYard<'a, A>,

@@ -28,7 +28,7 @@ impl Model for Watch {
     ghost invariant = { λ w. most_lines ≤ vec_capacity w.ticks };
 }
 
-// The trains that asked in vain until one asks at its due tick, and now again, are due behind that.
+// The trains that asked in vain until one asks at its due tick, and now again, are due after that.
 fn put_off(due: &mut [u32], train: u32, tick: u32)
     requires { tick < 2 ^ 31 }
     ensures { (j : ℕ) → j < length due.old → slice_index due.new j ≡ max (slice_index due.old j) (not_before train tick j) }
@@ -44,7 +44,7 @@ fn put_off(due: &mut [u32], train: u32, tick: u32)
 }
 
 impl Watch {
-    /// Tick 0, at which all trains are due; lines that stand already have it too.
+    /// Tick 0, at which all trains are due; lines from before have it too.
     pub(crate) fn begin(alloc: Global, trains: usize, lines: usize) -> Result<Watch, AllocError>
         ensures { IfOk result (λ watch. watch ≡ begun trains lines) }
     {
@@ -70,10 +70,7 @@ impl Watch {
         requires { length self.old.ticks < most_lines }
         ensures { self.new ≡ record self.old { ticks = self.old.ticks ++ tick ∷ [] } }
     {
-        match self.ticks.push(tick) {
-            Ok(()) => {}
-            Err(_) => unreachable!(),
-        }
+        self.ticks.push_reserved(tick);
     }
 
     /// A table has its answer, at the tick of the move that made it due.

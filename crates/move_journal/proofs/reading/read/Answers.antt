@@ -5,4 +5,4 @@ pub returns-clause-exact : goal.returns-clause-exact
 returns-clause-exact c = c.whole.ensures c.args.names.now c.args.bytes.now c.read_prefix.ensures.exact
 
 pub returns-clause-again : goal.returns-clause-again
-returns-clause-again c = λ K p. gives c.args.names.now c.args.bytes.now K c.whole.result c.trains-trains.ensures.formed p (returns-clause-exact c)
+returns-clause-again c = λ K p. gives c.args.names.now c.args.bytes.now K c.whole.result c.read_prefix.ensures.formed p (returns-clause-exact c)

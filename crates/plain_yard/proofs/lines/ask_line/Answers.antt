@@ -1,4 +1,4 @@
-use Rattle.std.proofs.Common.{◌≡◌, ◌+◌, map, subst, arith, sym, ap, ◌∙◌}
+use Rattle.std.proofs.Common.{◌≡◌, ◌+◌, map, subst, arith, sym, ap}
 use Rattle.rail_model.specs.Table.{IsTable}
 use Rattle.rail_model.specs.Yard.{in_force, Yard}
 use Rattle.plain_yard.proofs.Keeping.{few_moves}
@@ -8,7 +8,7 @@ pub push_line-requires : goal.push_line-requires
 push_line-requires g c =
     let tables = map g.A.HasTable.offer c.args.tables.now in
     let after = c.in-Yes.ensures.after in
-    let table = subst IsTable (c.in_force-table.ensures.given ∙ sym (ap (in_force tables) after)) c.in_force-table.ensures.formed in
+    let table = subst IsTable (sym (ap (in_force tables) after)) c.next_line.ensures.formed in
     let few = few_moves tables c.ask.new.yard c.ask.ensures.stands table in
     let moves : c.ask.new.yard.moves ≡ c.args.yard.now.moves + 1 = ap (λ (y : Yard). y.moves) after in
     omega (arith, few, moves, c.requires.ready.counted, c.requires.ready.are.few, c.requires.ready.room, c.requires.ready.stands.tried)

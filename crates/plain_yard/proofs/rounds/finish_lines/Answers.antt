@@ -28,6 +28,7 @@ loop-asked-preserved-then-go g c =
     record {
       ready = c.try_due-then-go.ensures.ready;
       room = c.try_due-then-go.ensures.room ∙ c.go.ensures.room ∙ c.loop-asked.invariant.room;
+      live = c.try_due-then-go.ensures.live;
       size = new_size;
       turn = goes tables c.args.yard.now y c.go.new.yard w _ c.loop-asked.before c.loop-asked.asked i _ _ _ _ more (ap (λ (m : ℕ). (c.loop-asked.before + 1 + c.loop-asked.asked) % m) size) within
           c.if-go.ensures.went (c.try_due-then-go.ensures.reaches i) c.try_due-then-go.ensures.formed c.try_due-then-go.ensures.none c.loop-asked.invariant.turn;
@@ -45,6 +46,7 @@ loop-asked-preserved g c =
     record {
       ready = c.go.ensures.ready;
       room = c.go.ensures.room ∙ c.loop-asked.invariant.room;
+      live = subst (λ (z : Yard). Live (in_force tables z)) (sym went.0) c.loop-asked.invariant.live;
       size = size ∙ sym (ap (λ (z : Yard). trains (in_force tables z)) went.0);
       turn = subst (λ (z : Yard). Turn tables c.args.yard.now (trains (offer tables 0).table - 1) c.args.lines.now.items z c.loop-asked.before (c.loop-asked.asked + 1) c.go.new.lines.items) (sym went.0)
           (subst (λ (ls : List Line). Turn tables c.args.yard.now (trains (offer tables 0).table - 1) c.args.lines.now.items y c.loop-asked.before (c.loop-asked.asked + 1) ls) (sym went.1) turn);
@@ -54,7 +56,7 @@ pub returns-clause-done : goal.returns-clause-done
 returns-clause-done g c =
     let tables = map g.A.HasTable.offer c.args.tables.now in
     let all : trains (in_force tables c.loop-asked.yard) ≤ c.loop-asked.asked = omega (arith, c.loop-asked.invariant.size, c.loop-asked-test.false) in
-    done tables c.args.yard.now c.loop-asked.yard _ c.loop-asked.before c.loop-asked.asked _ _ c.loop-asked.invariant.ready.stands.legal (subst Live c.live_in_force-table.ensures.given c.live_in_force-table.ensures.live) all c.loop-asked.invariant.turn
+    done tables c.args.yard.now c.loop-asked.yard _ c.loop-asked.before c.loop-asked.asked _ _ c.loop-asked.invariant.ready.stands.legal c.loop-asked.invariant.live all c.loop-asked.invariant.turn
 
 pub returns-clause-round : goal.returns-clause-round
 returns-clause-round g c =

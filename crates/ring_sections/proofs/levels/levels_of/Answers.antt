@@ -7,7 +7,7 @@ use Rattle.ring_sections.proofs.StepLists.{steps-below, settled-levels}
 use Rattle.ring_sections.proofs.levels.levels_of.Goals as goal
 use Rattle.ring_sections.proofs.levels.levels_of.Goals.{in-Some, in_default}
 
--- 0 is read where it was written, and behind the end
+-- 0 is read where it was written, and after the end
 set_zero : (xs : List ℕ) (i q : ℕ) → i ≡ q → slice_index (slice_set xs i 0) q ≡ 0
 set_zero [] i q e = refl
 set_zero (x ∷ xs) zero zero e = refl

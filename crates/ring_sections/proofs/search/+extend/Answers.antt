@@ -23,7 +23,7 @@ wanted_here : (M : List Mission) (r : List Pair) (wanted : ℕ) (all : List (Lis
     next_point M (pair_at r (length r - 1)) ≡ Some wanted → here ≡ slice_index_or all wanted [] → here ≡ standing_at M wanted
 wanted_here M r wanted all high here chart wants at = looked_up M (length high) wanted all here (wanted_below M r wanted all high chart wants) chart.places at
 
--- each of them is a pair that stands there
+-- each of them is a pair there
 pair_here : (M : List Mission) (r : List Pair) (wanted k : ℕ) (all : List (List Pair)) (high : List ℕ) (here : List Pair) → IsChart M all high (pair_at r 0) →
     next_point M (pair_at r (length r - 1)) ≡ Some wanted → here ≡ slice_index_or all wanted [] → k < length here →
     IsPair M (pair_at here k) × (point_at M (pair_at here k) ≡ Some wanted)

@@ -8,9 +8,9 @@ use Rattle.section_repair.proofs.rounds.answer.Goals as goal
 pub returns-then-len-gt-MOST_SECTIONS : goal.returns-then-len-gt-MOST_SECTIONS
 returns-then-len-gt-MOST_SECTIONS c =
     let reached = c.rounds.invariant.reached in
-    let round = round_of c.args.missions c.args.budget reached.0 c.rounds.sections.items c.rounds.table _ c.in-Stuck.at _ reached.1 c.in_ok-cert.ensures.made c.in-Stuck.is
+    let round = round_of c.args.missions c.args.budget reached.0 c.rounds.sections.items c.rounds.table c.in-Stuck.at _ _ reached.1 c.in_ok-cert.ensures.made c.in-Stuck.is
     c.in_ok-sections.ensures.treated in
-    let count = ap (λ (l : List (List Stay)). length l) (round-makes _ _ _ _ _ _ _ round) in (
+    let count = ap (λ (l : List (List Stay)). length l) (round-makes round) in (
       reached.0,
       c.rounds.sections.items,
       reached.1,
@@ -22,9 +22,9 @@ pub marked-requires-in-rounds-clause-stays : goal.marked-requires-in-rounds-clau
 marked-requires-in-rounds-clause-stays c =
     let reached = c.rounds.invariant.reached in
     let next = c.in_ok-sections.sections.items in
-    let round = round_of c.args.missions c.args.budget reached.0 c.rounds.sections.items c.rounds.table _ c.in-Stuck.at _ reached.1 c.in_ok-cert.ensures.made c.in-Stuck.is
+    let round = round_of c.args.missions c.args.budget reached.0 c.rounds.sections.items c.rounds.table c.in-Stuck.at _ _ reached.1 c.in_ok-cert.ensures.made c.in-Stuck.is
     c.in_ok-sections.ensures.treated in
-    let own = subst (λ (m : List Mission). All (AreStays (length m)) next) (sym c.in_ok-missions.ensures) (next-stays _ _ _ _ _ _ _ round) in
+    let own = subst (λ (m : List Mission). All (AreStays (length m)) next) (sym c.in_ok-missions.ensures) (next-stays round) in
     subst (λ (l : List (List Stay)). All (AreStays (length c.in_ok-missions.missions)) l) (sym c.deref-in-rounds.ensures.value) own
 
 pub rounds-preserved : goal.rounds-preserved
@@ -32,14 +32,14 @@ rounds-preserved c =
     let reached = c.rounds.invariant.reached in
     let at = c.in-Stuck.at in
     let next = c.in_ok-sections.sections.items in
-    let round = round_of c.args.missions c.args.budget reached.0 c.rounds.sections.items c.rounds.table _ at _ reached.1 c.in_ok-cert.ensures.made c.in-Stuck.is
+    let round = round_of c.args.missions c.args.budget reached.0 c.rounds.sections.items c.rounds.table at _ _ reached.1 c.in_ok-cert.ensures.made c.in-Stuck.is
     c.in_ok-sections.ensures.treated in
     let made : c.in_ok-table-2.table ≡ marked c.rounds.table.missions next =
     c.in_ok-table-2.ensures ∙ ap (marked c.in_ok-missions.missions) c.deref-in-rounds.ensures.value ∙ ap (λ m. marked m next) c.in_ok-missions.ensures in
     record {
       reached = (
         reached.0 ++ at ∷ [],
-        went_on _ _ _ _ _ _ _ c.in_ok-table-2.table round (omega (arith, c.len.ensures, c.if-len-gt-MOST_SECTIONS.false)) made,
+        went_on round c.in_ok-table-2.table (omega (arith, c.len.ensures, c.if-len-gt-MOST_SECTIONS.false)) made,
         omega (arith, reached.2, length-append reached.0 (at ∷ [])),
       );
       within = omega (arith, c.rounds.invariant.within, c.if-used-rounds.false);

@@ -72,7 +72,7 @@ told points links zones result e is why =
     ] in
     Answers-err Memory (λ made. made) result (layout_from (points_seen points) (links_seen links) zones) e is answer
 
--- ---- the answers, each by what is left to look for behind the checks before it
+-- ---- the answers, each by what is left to look for after the checks before it
 
 pub returns-in_err-check_counts : goal.returns-in_err-check_counts
 returns-in_err-check_counts c =

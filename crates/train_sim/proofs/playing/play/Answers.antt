@@ -1,5 +1,4 @@
-use Rattle.std.proofs.Common.{subst, ◌∙◌}
-use Rattle.rail_model.specs.Move.{Live}
+use Rattle.std.proofs.Common.{◌∙◌}
 use Rattle.train_sim.proofs.Keeping.{all_done, less_left}
 use Rattle.train_sim.proofs.Leading.{leads_on}
 use Rattle.train_sim.proofs.playing.play.Goals as goal
@@ -8,7 +7,7 @@ pub loop-train-smaller : goal.loop-train-smaller
 loop-train-smaller g c =
     let tried = c.try_due-in-Some.ensures in
     less_left c.loop-train.run.tables c.move_next.new.run.tables c.try_due-in-Some.new.run.tables c.loop-train.run.yard c.move_next.new.run.yard c.try_due-in-Some.new.run.yard c.in-Some.train
-    c.move_next.ensures.tables tried.tables c.in-Some.ensures.move c.move_next.ensures.moved tried.moved tried.stands c.loop-train.invariant.formed tried.formed
+    c.move_next.ensures.tables tried.tables c.in-Some.ensures.next.move c.move_next.ensures.moved tried.moved tried.stands c.loop-train.invariant.formed tried.formed
 
 pub loop-train-preserved : goal.loop-train-preserved
 loop-train-preserved g c =
@@ -25,5 +24,5 @@ loop-train-preserved g c =
 
 pub returns-clause-done : goal.returns-clause-done
 returns-clause-done g c =
-    let force = c.live_in_force-table.ensures in
-    all_done c.loop-train.run.tables c.loop-train.run.yard force.stands.legal (subst Live force.given force.live) c.in_default.ensures c.loop-train.invariant.undue
+    let next = c.next_mover.ensures in
+    all_done c.loop-train.run.tables c.loop-train.run.yard next.stands.legal next.live c.in_default.ensures.next c.loop-train.invariant.undue
