@@ -14,8 +14,9 @@ pub(crate) mod documents;
 use crate::devices::first_path_journal;
 use documents::document_called;
 
-// A call in each line: its words; its document, and where it has one its journal; and its exit code and what it writes, if that is 0, or
-// tells. `/` ends a line of a journal or an answer, `+` names a document, and `or` stands between the answers of a call that may have either.
+// A call in each line: its words; its document, and where it has one its journal; its exit code; and what it writes, or, where the code
+// isn't 0, its line on the error sink. `/` ends a line of a journal or an answer, `+` names a document, and `or` is between the answers of a
+// call that may have either.
 const CALLS: &str = "\
 run: first-path => 0 1 move T0 A B/2 move T0 B C/end moves=2 tables=0/
 run --rounds 5: first-path => 0 1 move T0 A B/2 move T0 B C/end moves=2 tables=0/
@@ -94,7 +95,7 @@ pub(crate) fn line(alloc: Global, words: &str) -> Result<Vec<String>, AllocError
     Ok(line)
 }
 
-// Whether this was told, and nothing else.
+// Whether this line was written to the error sink, and nothing else.
 pub(crate) fn is_told(played: &Played, told: &[u8]) -> bool {
     matches!(&played.told, Some(bytes) if bytes.as_slice() == told)
 }
@@ -171,7 +172,7 @@ fn row_of(text: &str) -> Option<Row<'_>> {
     })
 }
 
-// Whether a call ended with this code, and wrote this, if that is 0, or told it, and nothing else.
+// Whether a call ended with this code, and wrote this, if that is 0, or this line to the error sink, and nothing else.
 fn is_ended(played: &Played, exit_code: &str, answer: &[u8]) -> bool {
     let (written, told) = if exit_code == "0" {
         (answer, b"".as_slice())

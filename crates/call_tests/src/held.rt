@@ -13,7 +13,7 @@ use std::thread::{Threads, yield_now};
 const APART: &str =
     r#"{"version":1,"points":[["A",0],["B",0],["C",1],["D",1]],"links":[["A","B"],["C","D"]],"zones":2,"trains":["T0","T1"],"start":[0,0],"tables":[{"missions":[["A","B"],["C","D"]],"certificate":[[0,0,0],[4,0],[0,1,0],[4,1],[3]]}]}"#;
 
-// Pass 1 was served while pass 0 held its zones, so its move stands first.
+// Pass 1 was served while pass 0 held its zones, so its move comes first.
 const JOURNAL: &str = "\
 1 move T1 C D
 2 move T0 A B
@@ -43,7 +43,7 @@ impl Hold {
     }
 }
 
-// Waits for a flag, and then raises another. Where the flag doesn't come in so many turns, the other one stays down.
+// Waits for a flag, and then raises another. Where the flag doesn't come within the turns, the other one stays down.
 fn follow(flag: &AtomicBool, raised: &AtomicBool) {
     for _turn in 0..MOST_TURNS {
         if flag.load(Ordering::SeqCst) {

@@ -82,7 +82,7 @@ end moves=0 tables=0// => 74 After
 const TWO_TABLES: &str =
     r#""tables":[{"missions":[["A","B","C"]],"certificate":[[0,0,1],[4,0],[3]]},{"missions":[["A","B","C"]],"certificate":[[0,0,1],[4,0],[3]],"after":1}]}"#;
 
-// A text without its last so many bytes.
+// A text without some of its last bytes.
 fn without(text: &str, bytes: usize) -> &str {
     text.get(..text.len().saturating_sub(bytes)).unwrap_or("")
 }
@@ -96,7 +96,7 @@ fn joined(alloc: Global, parts: &[&str]) -> Result<Vec<u8>, AllocError> {
     Ok(bytes)
 }
 
-// Whether a call on these parts of an input writes nothing and tells these words.
+// Whether a call on these parts of an input writes nothing but a line with these words.
 fn is_refused(
     rt: &(impl Threads + Wait + Sync),
     alloc: Global,
@@ -159,7 +159,7 @@ fn journals_are_refused(rt: HostRuntime) -> Result<(), Fail> {
     Ok(())
 }
 
-// No worked example has so many sections.
+// No worked example has as many sections.
 #[test]
 fn too_many_sections_have_their_words(rt: HostRuntime) -> Result<(), Fail> {
     let mut words = String::new(rt.alloc());

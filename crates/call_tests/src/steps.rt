@@ -82,7 +82,7 @@ fn cell_called(text: &str) -> Option<Cell> {
     }
 }
 
-// A step of this kind on a zone, or of so many steps.
+// A step of this kind on a zone, or of a number of steps.
 fn numbered_step(kind: &str, number: u32) -> Option<Step> {
     match kind {
         "Take" => Some(Step::Take { zone: number }),

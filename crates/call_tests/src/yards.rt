@@ -26,7 +26,7 @@ fn opened<'a>(
     }
 }
 
-// What a train is told, if there is one of this number.
+// The answer to a train, if there is one of this number.
 fn told(yard: &mut PlainYard<'_, Accepted>, train: u32) -> Option<Ask> {
     if train < trains_of(yard.live_in_force()) {
         Some(yard.ask(train))
@@ -35,12 +35,12 @@ fn told(yard: &mut PlainYard<'_, Accepted>, train: u32) -> Option<Ask> {
     }
 }
 
-// What the control is told.
+// The answer to the control.
 fn tried(yard: &mut PlainYard<'_, Accepted>) -> Tried {
     yard.try_table()
 }
 
-// How many lines the journal has once all trains have arrived, and what train 0 is told then.
+// How many lines the journal has once all trains have arrived, and the answer to train 0 then.
 fn finished(mut yard: PlainYard<'_, Accepted>) -> (Option<Ask>, usize) {
     yard.finish();
     (told(&mut yard, 0), yard.into_state().lines().len())
