@@ -1,0 +1,13 @@
+//! Documents of plans: what a plan says of its trains and sections becomes the text of a document.
+#![tactic(auto)]
+
+mod laws;
+mod members;
+mod plan;
+mod shares;
+mod writing;
+
+pub use laws::changes_add_up_to_shares;
+pub use plan::{Holding, Plan, SectionPlan, TablePlan, Wait};
+pub use shares::{is_among, share_at};
+pub use writing::written;

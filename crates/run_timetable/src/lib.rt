@@ -1,0 +1,10 @@
+//! Timed runs: their steps with their ticks, and the timetable that they make.
+#![tactic(auto)]
+
+mod rows;
+mod run;
+mod table;
+
+pub use rows::{Row, rows_of};
+pub use run::{Run, Step, Takeover, point_name, train_name};
+pub use table::{Form, written};

@@ -1,0 +1,4 @@
+pub mod Asking
+pub mod Verdicts
+pub mod Walks
+pub mod Joined

@@ -1,0 +1,4 @@
+pub mod Named
+pub mod Circle
+pub mod Explanation
+pub mod Tells

@@ -1,0 +1,29 @@
+-- What a text on a state tells.
+use Rattle.std.specs.Prelude.{◌≡◌, ℕ, List}
+use Rattle.rail_model.specs.Names.{Names}
+use Rattle.rail_model.specs.Table.{Table}
+use Rattle.rail_model.specs.State as state
+use Rattle.rail_model.specs.Move.{Move}
+use Rattle.rail_model.specs.Move as stuck
+use Rattle.state_sentences.specs.declared.closing.Verdict.{Verdict}
+use Rattle.state_sentences.specs.declared.closing.Verdict.TheVariants.{Arrived, Going, Stuck}
+use Rattle.state_sentences.specs.Circle.{IsCircleOrNone}
+use Rattle.state_sentences.specs.Explanation.{explanation}
+
+-- Some train has a move.
+abbrev pub HasMove : Table → List ℕ → Type 0
+HasMove T p = (i : ℕ) × (q : List ℕ) × Move T p i q
+
+-- All trains have arrived, some train has a move, or the state is stuck.
+abbrev pub IsVerdict : Table → List ℕ → Verdict → Type 0
+IsVerdict T p Arrived = state.Arrived T p
+IsVerdict T p Going = HasMove T p
+IsVerdict T p Stuck = stuck.Stuck T p
+
+-- The text tells for each train of the state what it is told, a circle exactly if there is one, and whether the state is stuck.
+pub record Tells (N : Names) (T : Table) (p : List ℕ) (t : ℕ) (text : List ℕ) : Type 0 where
+  pub circle : List ℕ
+  pub verdict : Verdict
+  pub is_circle : IsCircleOrNone T p circle
+  pub is_verdict : IsVerdict T p verdict
+  pub is_text : text ≡ explanation N T p t circle verdict

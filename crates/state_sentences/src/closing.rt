@@ -1,0 +1,91 @@
+// The last sentences: whether the state is stuck, and what keeps it out.
+ghost use Rattle.std.specs.Prelude.{◌≡◌, ◌++◌, ◌↔◌, IsTrue, OnOk, length, string_bytes};
+ghost use Rattle.rail_model.specs.State.{Arrived};
+ghost use Rattle.state_sentences.specs.Explanation.{cure_words, verdict_words};
+ghost use Rattle.state_sentences.specs.Tells.{HasMove, IsVerdict};
+
+use crate::Scene;
+use rail_model::{Ask, Table, connections_of, last_of};
+use std::alloc::AllocError;
+
+/// Whether trains can go on from a state.
+#[derive(Clone, Copy)]
+pub(crate) enum Verdict {
+    Arrived,
+    Going,
+    Stuck,
+}
+
+// Whether all trains have arrived.
+fn have_arrived(scene: &Scene) -> bool
+    ensures { IsTrue result ↔ Arrived scene.now.table.now scene.now.state.now }
+{
+    for train in 0..scene.trains() {
+        if scene.place(train) != last_of(scene.table, train) {
+            return false;
+        }
+    }
+    true
+}
+
+// Whether some train has a move.
+fn may_go(scene: &Scene) -> bool
+    ensures { IsTrue result ↔ HasMove scene.now.table.now scene.now.state.now }
+{
+    for train in 0..scene.trains() {
+        if let Ask::Yes = scene.told(train) {
+            return true;
+        }
+    }
+    false
+}
+
+/// Whether all trains have arrived, some train may move, or the state is stuck.
+pub(crate) fn verdict_of(scene: &Scene) -> Verdict
+    ensures { IsVerdict scene.now.table.now scene.now.state.now result }
+{
+    if have_arrived(scene) {
+        Verdict::Arrived
+    } else if may_go(scene) {
+        Verdict::Going
+    } else {
+        Verdict::Stuck
+    }
+}
+
+// Adds what keeps a stuck state out.
+fn write_cure(out: &mut String, table: &Table) -> Result<(), AllocError>
+    ensures { OnOk result (string_bytes out.new ≡ string_bytes out.old ++ cure_words table.now) }
+{
+    if connections_of(table) == 0 {
+        out.push_str(
+            "A section keeps it out: write one that these places overfill, or let ats repair make one.\n",
+        )
+    } else {
+        out.push_str(
+            "A section keeps it out: write one that these places overfill. ats repair refuses a table with connections.\n",
+        )
+    }
+}
+
+/// Adds whether the state is stuck, and what keeps it out.
+pub(crate) fn write_verdict(
+    out: &mut String,
+    scene: &Scene,
+    table: u32,
+    verdict: Verdict,
+) -> Result<(), AllocError>
+    ensures { OnOk result (string_bytes out.new ≡ string_bytes out.old ++ verdict_words scene.now.table.now table verdict) }
+{
+    match verdict {
+        Verdict::Arrived => out.push_str("All trains have arrived.\n"),
+        Verdict::Going => out.push_str("The state isn't stuck: a train may move.\n"),
+        Verdict::Stuck => {
+            write!(
+                out,
+                "No train can move, so the state is stuck. The sections of table {table} allow it, whether or not trains can come to it from the start.\n"
+            )?;
+            write_cure(out, scene.table)
+        }
+    }
+}

@@ -1,0 +1,36 @@
+// The whole text on a state.
+ghost use Rattle.std.specs.Prelude.{◌≡◌, ◌++◌, ◌<◌, ℕ, IfOk, OnOk, length, string_bytes};
+ghost use Rattle.rail_model.specs.Table.{trains};
+ghost use Rattle.state_sentences.specs.Explanation.{trains_words};
+ghost use Rattle.state_sentences.specs.Tells.{Tells};
+
+use crate::Scene;
+use crate::circles::{first_circle, write_circle};
+use crate::closing::{verdict_of, write_verdict};
+use crate::sentences::write_train;
+use std::alloc::{AllocError, Global};
+
+// Adds the sentence on each train.
+fn write_trains(out: &mut String, scene: &Scene) -> Result<(), AllocError>
+    ensures { OnOk result (string_bytes out.new
+        ≡ string_bytes out.old ++ trains_words scene.now.names.now scene.now.table.now scene.now.state.now) }
+{
+    for train in 0..scene.trains() {
+        write_train(out, scene, train)?;
+    }
+    Ok(())
+}
+
+/// What is told of a state of the table with this number: a sentence for each train, then the circle of trains that
+/// wait for one another, if there is one, and whether the state is stuck. Each ends with a newline.
+pub fn text_of(alloc: Global, scene: &Scene, table: u32) -> Result<String, AllocError>
+    ensures { IfOk result (λ text. Tells scene.now.names.now scene.now.table.now scene.now.state.now table (string_bytes text)) }
+{
+    let circle = first_circle(alloc, scene)?;
+    let verdict = verdict_of(scene);
+    let mut text = String::new(alloc);
+    write_trains(&mut text, scene)?;
+    write_circle(&mut text, scene, &circle)?;
+    write_verdict(&mut text, scene, table, verdict)?;
+    Ok(text)
+}

@@ -1,0 +1,17 @@
+-- Shapes at places.
+use Rattle.std.specs.Prelude.{ℕ, List, [], ◌∷◌, codes, decimal}
+use Rattle.svg_text.specs.Tree.{Attribute, Shape}
+use Rattle.svg_text.specs.declared.shapes.Spot.{Spot}
+
+-- a line between two places
+abbrev pub line_of : Spot → Spot → Shape
+line_of from to = record {
+  name = codes "line";
+  attributes =
+      record { name = codes "x1"; value = decimal from.x }
+      ∷ record { name = codes "y1"; value = decimal from.y }
+      ∷ record { name = codes "x2"; value = decimal to.x }
+      ∷ record { name = codes "y2"; value = decimal to.y }
+      ∷ [];
+  words = [];
+}
