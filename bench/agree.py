@@ -116,24 +116,24 @@ def answer(program, words, text):
     return ran.returncode, ran.stdout, ran.stderr
 
 
-def case(number, other):
+def case(number, other, program=PROGRAM):
     """One case: the command on a drawn document, and another on what it writes. Gives the words and the text that differ, if any."""
     draw = random.Random(number)
     words, text = first_words(draw), json.dumps(document(draw)).encode()
-    mine = answer(PROGRAM, words, text)
+    mine = answer(program, words, text)
     if mine != answer(other, words, text):
         return words[0], mine[0], (words, text)
     if mine[0] or words[0] not in ("make", "repair", "derive"):
         return words[0], mine[0], None
     words, text = later_words(draw), mine[1]
-    mine = answer(PROGRAM, words, text)
+    mine = answer(program, words, text)
     if mine != answer(other, words, text):
         return words[0], mine[0], (words, text)
     if words[0] != "run":
         return words[0], mine[0], None
     lines = mine[1].splitlines(keepends=True)
     words, text = draw.choice([["verify"], ["resume"]]), text + b"journal\n" + b"".join(lines[: draw.randrange(len(lines) + 1)])
-    mine = answer(PROGRAM, words, text)
+    mine = answer(program, words, text)
     return words[0], mine[0], None if mine == answer(other, words, text) else (words, text)
 
 

@@ -4,6 +4,7 @@ It shares no code with the program and is made to be read, not to be fast. It ta
 look at certificates.
 """
 
+import copy
 import itertools
 import re
 
@@ -50,6 +51,11 @@ class Yard:
         self.points = {None} | {name for name, _ in document["points"]}
         self.state = list(document["start"])
         self.table, self.tried, self.moves, self.exchanges = self.tables[0], 0, 0, 0
+
+    def copied(self):
+        other = copy.copy(self)
+        other.state = list(self.state)
+        return other
 
     def arrived(self, train):
         return self.state[train] == self.table.last(train)
@@ -132,31 +138,34 @@ def line_of(text, yard):
     return None
 
 
-def read(text, yard):
-    """The lines of a journal, or the refusal."""
+def parsed(line, number, yard):
+    """The form and the words of the line that has a number in its journal, or the refusal."""
+    found = line_of(line.decode("latin-1"), yard)
+    if found is None:
+        return f"71 Line line={number}"
+    if found[1].pop("n", number) != number:
+        return f"72 Number line={number}"
+    return found
+
+
+def read(text, yard, first=1):
+    """The lines of a journal from a number on, or the refusal."""
     lines = []
-    for number in itertools.count(1):
+    for number in itertools.count(first):
         if not text:
             return "73 NoEnd"
         line, newline, text = text.partition(b"\n")
-        found = line_of(line.decode("latin-1"), yard) if newline else None
-        if found is None:
-            return f"71 Line line={number}"
-        form, words = found
-        if words.pop("n", number) != number:
-            return f"72 Number line={number}"
-        lines.append((form, words))
-        if form == "end":
+        found = parsed(line, number, yard) if newline else f"71 Line line={number}"
+        if isinstance(found, str):
+            return found
+        lines.append(found)
+        if found[0] == "end":
             return "74 After" if text else lines
 
 
-def verdict(document, text):
-    """What `verify` writes of a journal of a document that it accepts: the line `ok ..`, or the refusal."""
-    yard = Yard(document)
-    lines = read(text, yard)
-    if isinstance(lines, str):
-        return lines
-    for number, (form, words) in enumerate(lines[:-1], 1):
+def ended(yard, lines, first=1):
+    """What `verify` writes of the lines from a number on, in the state of the yard before them."""
+    for number, (form, words) in enumerate(lines[:-1], first):
         fault = yard.fault(number, form, words)
         if fault:
             return fault
@@ -167,3 +176,39 @@ def verdict(document, text):
     if lines[-1][1] != {"moves": yard.moves, "tables": yard.exchanges}:
         return "78 Counts"
     return f"ok moves={yard.moves} tables={yard.exchanges}"
+
+
+def verdict(document, text):
+    """What `verify` writes of a journal of a document that it accepts: the line `ok ..`, or the refusal."""
+    yard = Yard(document)
+    lines = read(text, yard)
+    return lines if isinstance(lines, str) else ended(yard, lines)
+
+
+class Journal:
+    """A right journal, and what `verify` writes where a byte of it is another one; nothing before that byte is looked at again."""
+
+    def __init__(self, document, text):
+        yard = Yard(document)
+        self.text, self.lines, self.yards = text, read(text, yard), []
+        for number, (form, words) in enumerate(self.lines, 1):
+            self.yards.append(yard.copied())
+            if form != "end" and yard.fault(number, form, words):
+                raise ValueError("a journal that isn't right")
+
+    def cut(self, end):
+        """What `verify` writes of its first bytes."""
+        number, begin = self.text.count(b"\n", 0, end) + 1, self.text.rfind(b"\n", 0, end) + 1
+        return read(self.text[begin:end], self.yards[number - 1], number)
+
+    def changed(self, at, byte):
+        """What `verify` writes of it with another byte at a place."""
+        number, begin = self.text.count(b"\n", 0, at) + 1, self.text.rfind(b"\n", 0, at) + 1
+        yard, rest = self.yards[number - 1].copied(), bytearray(self.text[begin:])
+        is_new_line = b"\n" in (rest[at - begin : at - begin + 1], bytes([byte]))
+        rest[at - begin] = byte
+        if is_new_line:
+            lines = read(bytes(rest), yard, number)
+            return lines if isinstance(lines, str) else ended(yard, lines, number)
+        found = parsed(bytes(rest.partition(b"\n")[0]), number, yard)
+        return found if isinstance(found, str) else ended(yard, [found] + self.lines[number:], number)
