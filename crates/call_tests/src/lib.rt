@@ -8,6 +8,8 @@ mod examples;
 #[cfg(test)]
 mod held;
 #[cfg(test)]
+mod large;
+#[cfg(test)]
 mod orders;
 #[cfg(test)]
 mod refusals;
