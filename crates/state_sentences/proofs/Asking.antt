@@ -1,4 +1,4 @@
--- What trains are told in a legal state, as a test computes it.
+-- The answers to trains in a legal state, as a test computes it.
 use Rattle.std.proofs.Common.{◌≡◌, ℕ, suc, ◌<◌, ◌≤◌, List, [], length, arith, ap, inl, inr}
 use Rattle.std.specs.Prelude.{slice_index_or, pos, ◌≤ℤ◌}
 use Rattle.std.proofs.lemmas.Int.{ints}
@@ -23,6 +23,6 @@ counts_low T p table legal s = elim (cases_lt s (length T.sections)) [
   | inr past ↦ total_not_below _ (trains T) (λ i lt. total_not_below (change T i s) (suc (place p i)) (λ k low. omega (arith, ints, no-change T i s k past)))
 ]
 
--- what a train is told is what the test computes
+-- the answer to a train is what the test computes
 pub told_is_ask : (T : Table) (p : List ℕ) (i : ℕ) (a : Ask) → IsTable T → Legal T p → i < trains T → Answers T p i a → a ≡ ask T p i
 told_is_ask T p i a table legal lt told = (ask-agrees T p i a legal lt (counts_low T p table legal)).0 told

@@ -16,7 +16,7 @@ pub joined_more : (before now after : List ℕ) (f : ℕ → List ℕ) (n : ℕ)
 joined_more before now after f n h k =
     k ∙ ap (λ text. text ++ f n) h ∙ append_assoc before (joined_below f n) (f n) ∙ ap (λ text. before ++ text) (sym (joined_next f n))
 
--- a circle is one, and none is told only where there is none
+-- a circle is one, and none is reported only where there is none
 pub told_circle : (T : Table) (p c : List ℕ) → IsCircle T p c → IsCircleOrNone T p c
 told_circle T p [] circle = absurd (omega (arith, circle.some))
 told_circle T p (i ∷ later) circle = circle
@@ -32,7 +32,7 @@ pub words_of_some : (N : Names) (T : Table) (p c : List ℕ) → 0 < length c
 words_of_some N T p [] some = absurd (omega arith)
 words_of_some N T p (i ∷ later) some = refl
 
--- four texts after another one, two of which are told in other words
+-- four texts after another one, two of which are said in other words
 pub four_joined : (before a b c d one two three b' c' : List ℕ) → one ≡ before ++ a → two ≡ one ++ b → three ≡ two ++ c → b ≡ b' → c ≡ c'
     → three ++ d ≡ before ++ (a ++ (b' ++ (c' ++ d)))
 four_joined before a b c d one two three b' c' h k l same_b same_c =

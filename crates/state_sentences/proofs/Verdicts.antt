@@ -9,7 +9,7 @@ use Rattle.rail_model.specs.Move.{Answers, Move}
 use Rattle.rail_model.proofs.Asks.{told_once}
 use Rattle.state_sentences.specs.Explanation.{next_words, reason_words, told_words}
 
--- a train that is told anything but yes has no move
+-- a train whose answer is not yes has no move
 pub stays : (T : Table) (p : List ℕ) (i : ℕ) (a : Ask) → Legal T p → Answers T p i a → (a ≡ Yes → ⊥) → (q : List ℕ) → Move T p i q → ⊥
 stays T p i a legal told other q move = other (told_once T p i a Yes legal told (subst (Move T p i) move.step move))
 

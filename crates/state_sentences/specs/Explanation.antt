@@ -1,4 +1,4 @@
--- What is told of a legal state: a sentence for each train, the circle, and whether the state is stuck.
+-- The text on a legal state: a sentence for each train, the circle, and whether the state is stuck.
 use Rattle.std.specs.Prelude.{◌+◌, ◌==◌, ◌++◌, ◌∷◌, ℕ, zero, suc, pos, int_lt, List, [], length, codes, decimal, flat_map, Option, Some, None, slice_get, if◌then◌else◌}
 use Rattle.std.specs.Fmt.{signed_decimal}
 use Rattle.rail_model.specs.declared.types.Ask.{Ask}
