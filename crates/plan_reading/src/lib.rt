@@ -1,0 +1,16 @@
+//! Plans in TOML: a text becomes the plan of a document, or a list of all that is wrong with it, with lines and names.
+#![tactic(auto)]
+
+mod agreement;
+mod connections;
+mod ground;
+mod names;
+mod reading;
+mod routes;
+mod sections;
+mod tables;
+mod times;
+mod trains;
+
+pub use plan_entries::Fault;
+pub use reading::{PlanRead, read_plan};

@@ -1,0 +1,119 @@
+// A plan from its text.
+ghost use Rattle.std.specs.Prelude.{◌<◌, IfOk, vec_len};
+ghost use Rattle.toml.specs.View.{table_view};
+ghost use Rattle.plan_reading.specs.Said.{IsRead, IsReading};
+
+use crate::agreement::agrees;
+use crate::tables::plan_of;
+use plan_document::Plan;
+use plan_entries::{Fault, Faults, read_entries};
+use std::alloc::{AllocError, Global};
+use toml::Table;
+use toml::de::Error;
+
+/// What a text is as a plan.
+#[derive(Drop)]
+pub enum PlanRead {
+    Plan(Plan),
+    /// All that is wrong with it, in the order of lines.
+    Faults(Vec<Fault>),
+}
+
+// The number of the line in which a text goes on after some bytes, counted from 1.
+fn line_after(bytes: &[u8]) -> u32 {
+    let mut line = 1u32;
+    for byte in bytes {
+        if *byte == b'\n' {
+            line = line.saturating_add(1);
+        }
+    }
+    line
+}
+
+// One fault, behind the first bytes of a text.
+fn one_fault(
+    alloc: Global,
+    text: &[u8],
+    at: usize,
+    what: &str,
+    why: &str,
+) -> Result<PlanRead, AllocError>
+    ensures { IfOk result (λ read. IsRead text.now read) }
+{
+    let mut words = String::from_str(alloc, what)?;
+    words.push_str(why)?;
+    let line = line_after(text.get(..at).unwrap_or(&[]));
+    let mut faults = Vec::new(alloc);
+    faults.push(Fault { line, words })?;
+    Ok(PlanRead::Faults(faults))
+}
+
+// What a text that isn't TOML is as a plan.
+fn not_toml(alloc: Global, text: &[u8], error: &Error) -> Result<PlanRead, AllocError>
+    ensures { IfOk result (λ read. IsRead text.now read) }
+{
+    match error.span() {
+        Some(span) => one_fault(alloc, text, span.start, "no TOML: ", error.message()),
+        None => Err(AllocError),
+    }
+}
+
+// The faults that were found; one at least, where a plan isn't what its text says.
+fn all_faults(alloc: Global, faults: Faults) -> Result<Vec<Fault>, AllocError>
+    ensures { IfOk result (λ list. 0 < vec_len list) }
+{
+    let mut list = faults.into_list()?;
+    if list.is_empty() {
+        let words = String::from_str(alloc, "the plan isn't what its text says")?;
+        list.push(Fault { line: 1, words })?;
+    }
+    Ok(list)
+}
+
+// What a table of keys is as a plan.
+fn read_table(alloc: Global, text: &str, table: &Table) -> Result<PlanRead, AllocError>
+    ensures { IfOk result (IsReading (table_view table.now)) }
+{
+    let mut faults = Faults::new(alloc, text)?;
+    let entries = read_entries(alloc, &mut faults, table)?;
+    let plan = plan_of(alloc, &mut faults, &entries)?;
+    if faults.is_empty() && agrees(table, &plan) {
+        return Ok(PlanRead::Plan(plan));
+    }
+    Ok(PlanRead::Faults(all_faults(alloc, faults)?))
+}
+
+/// Reads a plan in TOML. All that is wrong with it is told, with lines and names.
+///
+/// The keys at the top are `lines` (lists of points, each linked to the next), `zones` (a table: the number of a zone, and
+/// its points; those in none are in zone 0), and the lists of tables `train`, `section`, `connection` and `table`. Points and
+/// links are those of `lines` and then those of the routes, in the order in which they are first named. The second time that
+/// a point comes on a route is called `"M#2"` where a place is meant.
+///
+/// - A train has a `name`, a `route`, and may have a `start` (else its first place), `exit` (else false) and `times`: a number
+///   for each step, or a table of them by steps, as `"A B" = 3`, with a `default` for the others (else 1).
+/// - A section has a `limit` and `points`; a train takes its weight of it while it is at one of them. `weight` is a number for
+///   all trains, or a table of them by trains (else 1); `only` names the trains that the section concerns (else all). `name`
+///   serves messages. A train with `from` takes its weight from its place at that point, and with `to` until before its place
+///   at that point: one that doesn't come to `from` takes nothing, and one that doesn't come to `to`, or comes to it before,
+///   takes it to the end of its route, or nothing. Each is a point for all trains, or a table of points by trains. With either
+///   of them, `points` may be left out, and means all. From leaving P to reaching Q: `from` is the point after P, and `to` is Q.
+/// - A connection has `train`, `leaves`, `after` and `reached`: the train may not leave the first point before the train
+///   `after` has reached the other.
+/// - A table is a further one, in force after `after` moves at the earliest. Its `train` lists trains with what differs from
+///   the first table: `route`, `exit`, `times`. Its `section` and `connection`, if there are any, replace those of the first
+///   table, which else hold by the names of their points.
+pub fn read_plan(alloc: Global, text: &[u8]) -> Result<PlanRead, AllocError>
+    ensures { IfOk result (IsRead text.now) }
+{
+    let words = match std::str::from_utf8(text) {
+        Ok(words) => words,
+        Err(fault) => {
+            return one_fault(alloc, text, fault.valid_up_to(), "the text isn't UTF-8", "");
+        }
+    };
+    match toml::table_from_str(alloc, words) {
+        Ok(table) => read_table(alloc, words, &table),
+        Err(error) => not_toml(alloc, text, &error),
+    }
+}
