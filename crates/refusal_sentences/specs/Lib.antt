@@ -1,0 +1,4 @@
+pub mod Places
+pub mod Explains
+pub mod StateLines
+pub mod ExplainedLines

@@ -1,0 +1,39 @@
+// What is told of a line of `ats`.
+ghost use Rattle.std.specs.Prelude.{IfOk};
+ghost use Rattle.refusal_sentences.specs.ExplainedLines.{ExplainsLine};
+ghost use Rattle.refusal_sentences.specs.StateLines.{IsLineOf};
+
+use crate::meanings::meaning_of;
+use crate::state_lines::state_of;
+use crate::{Explained, explain_state};
+use std::alloc::{AllocError, Global};
+
+// The words of a line, without the name of the program.
+fn words_of(line: &str) -> &str
+    ensures { IsLineOf line.now result.now }
+{
+    match line.strip_prefix("ats: ") {
+        Some(words) => words,
+        None => line,
+    }
+}
+
+/// What a line of `ats` says of a document. The line may begin with `ats: ` or with its number. One that names a state
+/// is explained as [`explain_state`] does it; of any other it is told what it means, where, and what to do about it.
+pub fn explain_line(alloc: Global, bytes: &[u8], line: &str) -> Result<Explained, AllocError>
+    ensures { IfOk result (ExplainsLine bytes.now line.now) }
+{
+    let words = words_of(line);
+    if let Some(at) = state_of(alloc, words)? {
+        return explain_state(alloc, bytes, at.table, &at.places);
+    }
+    match meaning_of(alloc, bytes, words)? {
+        Some(text) => Ok(Explained::Refusal(text)),
+        None => {
+            let text = format!(in alloc;
+                "This is no line of ats: {line:?}. A line of ats is like 206 Stuck table=0 at=1,1.\n"
+            )?;
+            Ok(Explained::NoLine(text))
+        }
+    }
+}

@@ -1,0 +1,21 @@
+//! Explains by names what `ats` answers: what holds each train in a state, and what each refusal means and what to do about it.
+#![tactic(auto)]
+
+mod called;
+mod explained;
+mod explaining;
+mod faults;
+mod fields;
+mod lines;
+mod meanings;
+mod places;
+mod refusals;
+mod section_points;
+mod shapes;
+mod state_lines;
+mod states;
+
+pub use explained::Explained;
+pub use explaining::explain_line;
+pub use places::places_of;
+pub use states::explain_state;

@@ -1,0 +1,84 @@
+// What is told of a state of a document.
+ghost use Rattle.std.specs.Prelude.{◌≡◌, ◌<◌, IfOk, IfErr, Err, OnOk, length, string_bytes};
+ghost use Rattle.rail_model.specs.State.{Legal};
+ghost use Rattle.legal_state.specs.Illegal.{IsIllegal};
+ghost use Rattle.layout_json.specs.Doc.{IsDoc, names_of, table_at};
+ghost use Rattle.layout_json.specs.Reading.{doc_of};
+ghost use Rattle.state_sentences.specs.Tells.{Tells};
+ghost use Rattle.refusal_sentences.specs.Explains.{ExplainsState, ExplainsIn};
+
+use crate::Explained;
+use crate::called::Called;
+use crate::faults::{no_document_text, no_table_text, not_legal_text};
+use layout_json::{Doc, DocRefused, document, names_of, table_of, tables_of};
+use legal_state::judge;
+use rail_model::State;
+use state_sentences::{Scene, text_of};
+use std::alloc::{AllocError, Global};
+
+// What is told of positions under a table that the document has.
+fn explain_positions(
+    alloc: Global,
+    bytes: &[u8],
+    doc: &Doc,
+    table: u32,
+    places: &[u32],
+) -> Result<Explained, AllocError>
+    requires { table < length doc.now.tables }
+    ensures { IfOk result (ExplainsIn doc.now table places.now) }
+{
+    let rows = table_of(doc, table);
+    let state = State::from(Vec::from_slice(alloc, places)?);
+    match judge(rows, &state) {
+        Ok(()) => {
+            let scene = Scene {
+                names: names_of(doc),
+                table: rows,
+                state: &state,
+            };
+            Ok(Explained::State(text_of(alloc, &scene, table)?))
+        }
+        Err(cause) => {
+            let called = Called::read(alloc, bytes)?;
+            let text = not_legal_text(alloc, &called, table, places, cause)?;
+            Ok(Explained::NotLegal { cause, text })
+        }
+    }
+}
+
+// What is told of positions under a table.
+fn explain_table(
+    alloc: Global,
+    bytes: &[u8],
+    doc: &Doc,
+    table: u32,
+    places: &[u32],
+) -> Result<Explained, AllocError>
+    ensures { IfOk result (ExplainsIn doc.now table places.now) }
+{
+    let tables = tables_of(doc);
+    if table < tables {
+        return explain_positions(alloc, bytes, doc, table, places);
+    }
+    let text = no_table_text(alloc, table, tables)?;
+    Ok(Explained::NoTable { tables, text })
+}
+
+/// What holds each train at these places, under a table of the document.
+pub fn explain_state(
+    alloc: Global,
+    bytes: &[u8],
+    table: u32,
+    places: &[u32],
+) -> Result<Explained, AllocError>
+    ensures { IfOk result (ExplainsState bytes.now table places.now) }
+{
+    match document(alloc, bytes) {
+        Ok(doc) => explain_table(alloc, bytes, &doc, table, places),
+        Err(DocRefused::Memory) => Err(AllocError),
+        Err(refused) => {
+            let text = no_document_text(alloc, bytes, refused)?;
+            Ok(Explained::NoDocument { refused, text })
+        }
+    }
+}
