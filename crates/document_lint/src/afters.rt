@@ -1,0 +1,43 @@
+// Tables that are due after more moves than are ever made.
+ghost use Rattle.std.specs.Prelude.{◌<◌, length};
+
+use crate::remark::Remarks;
+use layout_json::{Doc, after_of, start_of, table_of, tables_of};
+use legal_state::remaining;
+use std::alloc::AllocError;
+
+// The most moves that are made before all trains have arrived under a table before this one.
+fn most_moves(doc: &Doc, table: u32) -> u64
+    requires { table < length doc.now.tables }
+{
+    let mut most: u64 = 0;
+    for earlier in 0..table {
+        most = most.max(remaining(table_of(doc, earlier), start_of(doc)));
+    }
+    most
+}
+
+// Adds that a table is due only once all trains have arrived, if it is.
+fn add_after(remarks: &mut Remarks, doc: &Doc, table: u32) -> Result<(), AllocError>
+    requires { table < length doc.now.tables }
+{
+    let after = after_of(doc, table);
+    let moves = most_moves(doc, table);
+    if u64::from(after) <= moves {
+        return Ok(());
+    }
+    let alloc = remarks.alloc();
+    let place = format!(in alloc; "tables[{table}].after")?;
+    let words = format!(in alloc;
+        "{after} moves are never made: all trains have arrived after {moves} at most, and this table comes only then"
+    )?;
+    remarks.add(place, words)
+}
+
+/// Adds which tables are due only once all trains have arrived.
+pub(crate) fn add_afters(remarks: &mut Remarks, doc: &Doc) -> Result<(), AllocError> {
+    for table in 1..tables_of(doc) {
+        add_after(remarks, doc, table)?;
+    }
+    Ok(())
+}

@@ -1,0 +1,92 @@
+// Sections of a former document that are gone.
+ghost use Rattle.std.specs.Prelude.{◌<◌, ◌≤◌, length};
+ghost use Rattle.rail_model.specs.Table.{trains, last};
+
+use crate::exact::most;
+use crate::remark::Remarks;
+use crate::same::has_section;
+use crate::subject::{Subject, subject_of};
+use layout_json::{Doc, table_of, tables_of};
+use rail_model::{last_of, limit_of, sections_of, share_at, trains_of};
+use std::alloc::AllocError;
+
+// Adds where a train has a share of a section, with the share if it isn't 1.
+fn write_share(
+    text: &mut String,
+    subject: &Subject,
+    section: u32,
+    train: u32,
+    place: u32,
+) -> Result<(), AllocError>
+    requires section { section < length subject.now.table.now.sections }
+    requires train { train < trains subject.now.table.now }
+    requires place { place ≤ last subject.now.table.now train }
+{
+    let share = share_at(subject.table, train, section, place);
+    let point = subject.point(train, place);
+    if share == 0 {
+        Ok(())
+    } else if share == 1 {
+        write!(text, " {point}")
+    } else {
+        write!(text, " {point} ({share})")
+    }
+}
+
+// Adds where a train has shares of a section, if it has any.
+fn write_train(
+    text: &mut String,
+    subject: &Subject,
+    section: u32,
+    train: u32,
+) -> Result<(), AllocError>
+    requires section { section < length subject.now.table.now.sections }
+    requires train { train < trains subject.now.table.now }
+{
+    if most(subject.table, section, train) == 0 {
+        return Ok(());
+    }
+    let name = subject.train(train);
+    write!(text, ", {name} at")?;
+    for place in 0..=last_of(subject.table, train) {
+        write_share(text, subject, section, train, place)?;
+    }
+    Ok(())
+}
+
+// Adds that a section of the former document is gone.
+fn add_gone(remarks: &mut Remarks, former: &Subject, section: u32) -> Result<(), AllocError>
+    requires { section < length former.now.table.now.sections }
+{
+    let alloc = remarks.alloc();
+    let table = former.number;
+    let limit = limit_of(former.table, section);
+    let mut words = format!(in alloc; "gone: limit {limit}")?;
+    for train in 0..trains_of(former.table) {
+        write_train(&mut words, former, section, train)?;
+    }
+    let place = format!(in alloc; "tables[{table}].sections[{section}] of the former document")?;
+    remarks.add(place, words)
+}
+
+// Whether a table of a document, if it is there, has a section of a table of the former one.
+fn is_kept(doc: &Doc, former: &Subject, section: u32) -> bool
+    requires { section < length former.now.table.now.sections }
+{
+    let table = former.number;
+    let sections = former.table.sections();
+    table < tables_of(doc) && has_section(table_of(doc, table), &sections[section as usize])
+}
+
+/// Adds which sections of the former document are in no table of the same number.
+pub(crate) fn add_former(remarks: &mut Remarks, doc: &Doc, former: &Doc) -> Result<(), AllocError> {
+    for table in 0..tables_of(former) {
+        let subject = subject_of(former, table);
+        for section in 0..sections_of(subject.table) {
+            if !is_kept(doc, &subject, section) {
+                add_gone(remarks, &subject, section)?;
+            }
+        }
+    }
+    Ok(())
+}

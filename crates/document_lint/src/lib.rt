@@ -1,0 +1,25 @@
+//! What a document says that has no effect or is likely a mistake, each remark with the place of the member that it is about.
+#![tactic(auto)]
+
+mod afters;
+mod exact;
+mod former;
+mod laws;
+mod linting;
+mod members;
+mod remark;
+mod same;
+mod sections;
+mod shares;
+mod subject;
+mod trains;
+mod unused;
+
+pub use exact::{end_together, is_overfull_at_end, is_unused, never_binds, overfills_alone};
+pub use laws::{
+    never_binding_sections_keep_nothing_out, overfilling_trains_never_come_there,
+    trains_that_end_together_never_both_arrive, trains_that_overfill_at_the_end_never_all_arrive,
+};
+pub use linting::{lint, lint_after};
+pub use remark::Remark;
+pub use same::{has_section, is_same_section};

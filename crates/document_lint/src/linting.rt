@@ -1,0 +1,134 @@
+// All remarks on a document.
+use crate::afters::add_afters;
+use crate::former::add_former;
+use crate::members::add_members;
+use crate::remark::{Remark, Remarks};
+use crate::sections::add_sections;
+use crate::shares::{add_shares, look_like_shares};
+use crate::subject::subject_of;
+use crate::trains::{add_connections, add_trains};
+use crate::unused::add_layout;
+use document_shapes::{SectionMembers, ShapeRefused, read_document};
+use layout_json::{Doc, DocRefused, document, start_of, tables_of, version};
+use refusal_lines::push_document;
+use std::alloc::{AllocError, Global};
+
+// More tables, sections or trains than this are refused.
+const MAX_TABLES: usize = 16;
+
+const MAX_SECTIONS: usize = 64;
+
+const MAX_TRAINS: usize = 32;
+
+// The greatest share in a version.
+fn most_share(version: u32) -> i32 {
+    if version == 1 { 1 } else { 4 }
+}
+
+// Adds the remarks on a document that `ats` takes.
+fn add_taken(remarks: &mut Remarks, doc: &Doc) -> Result<(), AllocError> {
+    let start = start_of(doc).as_slice();
+    add_layout(remarks, doc)?;
+    for table in 0..tables_of(doc) {
+        let subject = subject_of(doc, table);
+        add_trains(remarks, &subject)?;
+        add_sections(remarks, &subject, most_share(version(doc)))?;
+        add_connections(remarks, &subject, start)?;
+    }
+    add_afters(remarks, doc)
+}
+
+// Adds that a document is refused, and why.
+fn add_refused(remarks: &mut Remarks, place: &str, refused: &DocRefused) -> Result<(), AllocError> {
+    let alloc = remarks.alloc();
+    let mut words = String::from_str(alloc, "ats refuses it: ")?;
+    push_document(&mut words, refused)?;
+    let place = String::from_str(alloc, place)?;
+    remarks.add(place, words)
+}
+
+// Adds which trains' changes of a table's sections look like shares.
+fn add_suspects(
+    remarks: &mut Remarks,
+    table: usize,
+    sections: &[SectionMembers],
+    most: i32,
+) -> Result<(), AllocError> {
+    let alloc = remarks.alloc();
+    for (section, members) in sections.iter().enumerate().take(MAX_SECTIONS) {
+        let place = format!(in alloc; "tables[{table}].sections[{section}]")?;
+        for (train, numbers) in members.changes.iter().enumerate().take(MAX_TRAINS) {
+            if look_like_shares(numbers, most) {
+                add_shares(remarks, &place, train, numbers)?;
+            }
+        }
+    }
+    Ok(())
+}
+
+// Adds which changes of a document that is refused for its sections look like shares.
+fn add_all_suspects(remarks: &mut Remarks, bytes: &[u8]) -> Result<(), AllocError> {
+    let members = match read_document(remarks.alloc(), bytes) {
+        Ok(members) => members,
+        Err(ShapeRefused::Memory) => return Err(AllocError),
+        Err(_) => return Ok(()),
+    };
+    let most = most_share(members.version);
+    for (table, found) in members.tables.iter().enumerate().take(MAX_TABLES) {
+        if let Some(sections) = &found.sections {
+            add_suspects(remarks, table, sections, most)?;
+        }
+    }
+    Ok(())
+}
+
+// Adds that a document is refused, why, and which of its changes may be the cause.
+fn add_refusal(
+    remarks: &mut Remarks,
+    bytes: &[u8],
+    refused: &DocRefused,
+) -> Result<(), AllocError> {
+    add_refused(remarks, "document", refused)?;
+    add_members(remarks, bytes)?;
+    match refused {
+        DocRefused::Marks { .. } => add_all_suspects(remarks, bytes),
+        _ => Ok(()),
+    }
+}
+
+// Adds all remarks on a document, and gives it where `ats` takes it.
+fn add_all(remarks: &mut Remarks, bytes: &[u8]) -> Result<Option<Doc>, AllocError> {
+    match document(remarks.alloc(), bytes) {
+        Ok(doc) => {
+            add_members(remarks, bytes)?;
+            add_taken(remarks, &doc)?;
+            Ok(Some(doc))
+        }
+        Err(DocRefused::Memory) => Err(AllocError),
+        Err(refused) => {
+            add_refusal(remarks, bytes, &refused)?;
+            Ok(None)
+        }
+    }
+}
+
+/// What a document says that has no effect or is likely a mistake; and if `ats` refuses it, why.
+pub fn lint(alloc: Global, bytes: &[u8]) -> Result<Vec<Remark>, AllocError> {
+    let mut remarks = Remarks::new(alloc);
+    let _doc = add_all(&mut remarks, bytes)?;
+    Ok(remarks.into_vec())
+}
+
+/// What [`lint`] says of a document, and then which sections of a former document are gone.
+pub fn lint_after(alloc: Global, bytes: &[u8], former: &[u8]) -> Result<Vec<Remark>, AllocError> {
+    let mut remarks = Remarks::new(alloc);
+    let doc = add_all(&mut remarks, bytes)?;
+    match document(alloc, former) {
+        Ok(former) => if let Some(doc) = doc {
+            add_former(&mut remarks, &doc, &former)?;
+        },
+        Err(DocRefused::Memory) => return Err(AllocError),
+        Err(refused) => add_refused(&mut remarks, "former document", &refused)?,
+    }
+    Ok(remarks.into_vec())
+}

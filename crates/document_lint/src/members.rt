@@ -1,0 +1,262 @@
+// Members that are ignored: of unknown names, of later versions, and given again.
+use crate::remark::Remarks;
+use json::{Error, Scratch, Value};
+use rail_model::is_name;
+use std::alloc::{AllocError, Global};
+use strsim::osa_distance;
+
+const DOCUMENT_MEMBERS: [&str; 7] = [
+    "version", "points", "links", "zones", "trains", "start", "tables",
+];
+
+const TABLE_MEMBERS: [&str; 7] = [
+    "missions",
+    "exits",
+    "sections",
+    "connections",
+    "certificate",
+    "times",
+    "after",
+];
+
+const SECTION_MEMBERS: [&str; 2] = ["limit", "changes"];
+
+// So many unknown members of one object are named, and so many characters of a name are shown.
+const NAMED: usize = 8;
+
+const SHOWN: usize = 40;
+
+// More tables or sections than this are refused.
+const MAX_TABLES: usize = 16;
+
+const MAX_SECTIONS: usize = 64;
+
+// The members of an object in the order of the text, with those that are given again; none of another value.
+fn members_of<'v, 'a>(value: &'v Value<'a>) -> &'v [(&'a str, Value<'a>)] {
+    match value {
+        Value::Object(members) => members.as_slice(),
+        _ => &[],
+    }
+}
+
+// The items of an array; none of another value.
+fn items_of<'v, 'a>(value: &'v Value<'a>) -> &'v [Value<'a>] {
+    match value {
+        Value::Array(items) => items.as_slice(),
+        _ => &[],
+    }
+}
+
+// Whether a name is among these.
+fn is_known(known: &[&str], name: &str) -> bool {
+    for candidate in known {
+        if *candidate == name {
+            return true;
+        }
+    }
+    false
+}
+
+// The known name that a name is like: at most one edit away for every three letters.
+fn nearest<'k>(
+    alloc: Global,
+    name: &str,
+    known: &[&'k str],
+) -> Result<Option<&'k str>, AllocError> {
+    let mut found = None;
+    let mut most = name.len() / 3;
+    if SHOWN < name.len() {
+        return Ok(None);
+    }
+    for candidate in known {
+        let edits = osa_distance(alloc, name, candidate)?;
+        if edits <= most {
+            most = edits.saturating_sub(1);
+            found = Some(*candidate);
+        }
+    }
+    Ok(found)
+}
+
+// The place of a member of an object: the object's place and the member's name, in quotes where it isn't a plain word.
+fn member_place(alloc: Global, object: &str, name: &str) -> Result<String, AllocError> {
+    if is_name(name) {
+        return format!(in alloc; "{object}{name}");
+    }
+    let shown: String = name.chars().take(SHOWN).collect(alloc)?;
+    format!(in alloc; "{object}{shown:?}")
+}
+
+// Adds that an object has a member of an unknown name.
+fn add_unknown(
+    remarks: &mut Remarks,
+    object: &str,
+    name: &str,
+    known: &[&str],
+) -> Result<(), AllocError> {
+    let alloc = remarks.alloc();
+    let place = member_place(alloc, object, name)?;
+    let words = match nearest(alloc, name, known)? {
+        Some(meant) => {
+            format!(in alloc; "unknown, so it is ignored; did you mean \"{meant}\"?")?
+        }
+        None => String::from_str(alloc, "unknown, so it is ignored")?,
+    };
+    remarks.add(place, words)
+}
+
+// Adds which members of an object have unknown names.
+fn add_unknowns(
+    remarks: &mut Remarks,
+    object: &str,
+    members: &[(&str, Value)],
+    known: &[&str],
+) -> Result<(), AllocError> {
+    let mut count: usize = 0;
+    for member in members {
+        if !is_known(known, member.0) {
+            count = count.saturating_add(1);
+            if count <= NAMED {
+                add_unknown(remarks, object, member.0, known)?;
+            }
+        }
+    }
+    if count <= NAMED {
+        return Ok(());
+    }
+    let alloc = remarks.alloc();
+    let more = count - NAMED;
+    let place = format!(in alloc; "{object}*")?;
+    let words = format!(in alloc; "{more} more unknown members, which are ignored too")?;
+    remarks.add(place, words)
+}
+
+// How often an object has a member.
+fn times_given(members: &[(&str, Value)], name: &str) -> usize {
+    let mut count: usize = 0;
+    for member in members {
+        if member.0 == name {
+            count = count.saturating_add(1);
+        }
+    }
+    count
+}
+
+// Adds which known members an object has more than once.
+fn add_repeated(
+    remarks: &mut Remarks,
+    object: &str,
+    members: &[(&str, Value)],
+    known: &[&str],
+) -> Result<(), AllocError> {
+    let alloc = remarks.alloc();
+    for name in known {
+        let count = times_given(members, name);
+        if 1 < count {
+            let place = format!(in alloc; "{object}{name}")?;
+            let words = format!(in alloc; "given {count} times; the last one counts")?;
+            remarks.add(place, words)?;
+        }
+    }
+    Ok(())
+}
+
+// Adds which members of an object are unknown or repeated.
+fn add_of_object(
+    remarks: &mut Remarks,
+    object: &str,
+    value: &Value,
+    known: &[&str],
+) -> Result<(), AllocError> {
+    let members = members_of(value);
+    add_unknowns(remarks, object, members, known)?;
+    add_repeated(remarks, object, members, known)
+}
+
+// Adds that a table has a member that only later versions have.
+fn add_later(
+    remarks: &mut Remarks,
+    object: &str,
+    table: &Value,
+    member: &str,
+    version: u64,
+    since: u64,
+) -> Result<(), AllocError> {
+    if since <= version || table.get(member).is_none() {
+        return Ok(());
+    }
+    let alloc = remarks.alloc();
+    let place = format!(in alloc; "{object}{member}")?;
+    let words = format!(in alloc;
+        "ignored in version {version}; it counts from version {since} on"
+    )?;
+    remarks.add(place, words)
+}
+
+// Adds what is said of the members of a table's sections.
+fn add_of_sections(
+    remarks: &mut Remarks,
+    object: &str,
+    sections: &Value,
+) -> Result<(), AllocError> {
+    let alloc = remarks.alloc();
+    for (number, section) in items_of(sections).iter().enumerate().take(MAX_SECTIONS) {
+        let place = format!(in alloc; "{object}sections[{number}].")?;
+        add_of_object(remarks, &place, section, &SECTION_MEMBERS)?;
+    }
+    Ok(())
+}
+
+// Adds what is said of the members of a table and of its sections.
+fn add_of_table(
+    remarks: &mut Remarks,
+    number: usize,
+    table: &Value,
+    version: u64,
+) -> Result<(), AllocError> {
+    let alloc = remarks.alloc();
+    let object = format!(in alloc; "tables[{number}].")?;
+    add_of_object(remarks, &object, table, &TABLE_MEMBERS)?;
+    add_later(remarks, &object, table, "exits", version, 2)?;
+    add_later(remarks, &object, table, "connections", version, 3)?;
+    match table.get("sections") {
+        Some(sections) => add_of_sections(remarks, &object, sections),
+        None => Ok(()),
+    }
+}
+
+// Adds what is said of the members of the tables.
+fn add_of_tables(remarks: &mut Remarks, tables: &Value, version: u64) -> Result<(), AllocError> {
+    for (number, table) in items_of(tables).iter().enumerate().take(MAX_TABLES) {
+        add_of_table(remarks, number, table, version)?;
+    }
+    Ok(())
+}
+
+// The version that a document says it has; 3, the last one, if it says none.
+fn version_of(document: &Value) -> u64 {
+    match document.get("version") {
+        Some(version) => version.as_u64().unwrap_or(3),
+        None => 3,
+    }
+}
+
+// Adds what is said of the members of a document, of its tables and of their sections.
+fn add_of_document(remarks: &mut Remarks, document: &Value) -> Result<(), AllocError> {
+    add_of_object(remarks, "", document, &DOCUMENT_MEMBERS)?;
+    match document.get("tables") {
+        Some(tables) => add_of_tables(remarks, tables, version_of(document)),
+        None => Ok(()),
+    }
+}
+
+/// Adds which members of a document are ignored; nothing, if the bytes are no JSON.
+pub(crate) fn add_members(remarks: &mut Remarks, bytes: &[u8]) -> Result<(), AllocError> {
+    let alloc = remarks.alloc();
+    let mut scratch = Scratch::new(alloc);
+    match Value::from_slice(alloc, bytes, &mut scratch) {
+        Ok(value) => add_of_document(remarks, &value),
+        Err(Error::OutOfMemory) => Err(AllocError),
+        Err(_) => Ok(()),
+    }
+}

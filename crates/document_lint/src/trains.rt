@@ -1,0 +1,94 @@
+// Trains that can't both arrive, and connections that hold nobody.
+ghost use Rattle.std.specs.Prelude.{◌<◌};
+ghost use Rattle.rail_model.specs.Table.{trains};
+
+use crate::exact::end_together;
+use crate::remark::Remarks;
+use crate::subject::Subject;
+use rail_model::{Connection, Table, last_of, trains_of};
+use std::alloc::AllocError;
+
+// The first train before another one that ends where it ends.
+fn first_partner(table: &Table, train: u32) -> Option<u32>
+    requires { train < trains table.now }
+{
+    for first in 0..train {
+        if end_together(table, first, train) {
+            return Some(first);
+        }
+    }
+    None
+}
+
+// Adds that a train ends where an earlier one ends, if it does.
+fn add_train(remarks: &mut Remarks, subject: &Subject, train: u32) -> Result<(), AllocError>
+    requires { train < trains subject.now.table.now }
+{
+    let Some(first) = first_partner(subject.table, train) else {
+        return Ok(());
+    };
+    let alloc = remarks.alloc();
+    let point = subject.point(train, last_of(subject.table, train));
+    let name = subject.train(train);
+    let other = subject.train(first);
+    let place = subject.mission_place(alloc, train)?;
+    let words = format!(in alloc;
+        "{name} ends at {point}, as {other} does, and neither leaves the layout: they can never both arrive"
+    )?;
+    remarks.add(place, words)
+}
+
+/// Adds which trains of a table can't both arrive.
+pub(crate) fn add_trains(remarks: &mut Remarks, subject: &Subject) -> Result<(), AllocError> {
+    for train in 0..trains_of(subject.table) {
+        add_train(remarks, subject, train)?;
+    }
+    Ok(())
+}
+
+// Whether a train is at a place or behind it from the start on.
+fn starts_from(start: &[u32], train: u32, place: u32) -> bool {
+    match start.get(train as usize) {
+        Some(position) => place <= *position,
+        None => false,
+    }
+}
+
+// Adds that a connection holds nobody, if it is met or passed at the start.
+fn add_connection(
+    remarks: &mut Remarks,
+    subject: &Subject,
+    start: &[u32],
+    number: usize,
+    connection: &Connection,
+) -> Result<(), AllocError> {
+    let alloc = remarks.alloc();
+    let train = subject.train(connection.train());
+    let other = subject.train(connection.other());
+    let reached = connection.reached();
+    let left = connection.place();
+    let words = if starts_from(start, connection.other(), reached) {
+        format!(in alloc;
+            "never holds {train}: {other} has already reached place {reached} of its mission at the start"
+        )?
+    } else if starts_from(start, connection.train(), left.saturating_add(1)) {
+        format!(in alloc; "never holds {train}, which starts past place {left} of its mission")?
+    } else {
+        return Ok(());
+    };
+    let table = subject.number;
+    let place = format!(in alloc; "tables[{table}].connections[{number}]")?;
+    remarks.add(place, words)
+}
+
+/// Adds which connections of a table hold nobody.
+pub(crate) fn add_connections(
+    remarks: &mut Remarks,
+    subject: &Subject,
+    start: &[u32],
+) -> Result<(), AllocError> {
+    for (number, connection) in subject.table.connections().iter().enumerate() {
+        add_connection(remarks, subject, start, number, connection)?;
+    }
+    Ok(())
+}

@@ -1,0 +1,138 @@
+// Points, links and zones that no train ever uses.
+use crate::remark::Remarks;
+use crate::subject::point_name;
+use layout_json::{Doc, layout_of, table_of, tables_of};
+use rail_model::{Layout, Link, points_of, zone_of, zones_of};
+use std::alloc::AllocError;
+
+// So many unused links are named.
+const NAMED: usize = 8;
+
+// Whether some mission comes to a point.
+fn is_visited(doc: &Doc, point: u32) -> bool {
+    for table in 0..tables_of(doc) {
+        for mission in table_of(doc, table).missions().as_slice() {
+            if mission.as_slice().contains(&point) {
+                return true;
+            }
+        }
+    }
+    false
+}
+
+// Whether a link leads to a point.
+fn leads_to(link: Link, point: u32) -> bool {
+    link.first() == point || link.second() == point
+}
+
+// Whether some link leads to a point.
+fn is_joined(layout: &Layout, point: u32) -> bool {
+    for link in layout.links() {
+        if leads_to(*link, point) {
+            return true;
+        }
+    }
+    false
+}
+
+// Whether points in a row are those of a link, in either direction.
+fn goes_along(points: &[u32], link: Link) -> bool {
+    for step in points.windows(2) {
+        if let [from, to] = step {
+            if from != to && leads_to(link, *from) && leads_to(link, *to) {
+                return true;
+            }
+        }
+    }
+    false
+}
+
+// Whether some mission goes along a link.
+fn is_used(doc: &Doc, link: Link) -> bool {
+    for table in 0..tables_of(doc) {
+        for mission in table_of(doc, table).missions().as_slice() {
+            if goes_along(mission.as_slice(), link) {
+                return true;
+            }
+        }
+    }
+    false
+}
+
+// Adds the points to which neither a mission nor a link leads.
+fn add_points(remarks: &mut Remarks, doc: &Doc) -> Result<(), AllocError> {
+    let alloc = remarks.alloc();
+    let layout = layout_of(doc);
+    for point in 0..points_of(layout) {
+        if !is_joined(layout, point) && !is_visited(doc, point) {
+            let name = point_name(layout, point);
+            let place = format!(in alloc; "points[{point}]")?;
+            let words = format!(in alloc; "no mission comes to {name}, and no link leads there")?;
+            remarks.add(place, words)?;
+        }
+    }
+    Ok(())
+}
+
+// Adds that no mission goes along a link.
+fn add_unused(
+    remarks: &mut Remarks,
+    layout: &Layout,
+    number: usize,
+    link: Link,
+) -> Result<(), AllocError> {
+    let alloc = remarks.alloc();
+    let first = point_name(layout, link.first());
+    let second = point_name(layout, link.second());
+    let place = format!(in alloc; "links[{number}]")?;
+    let words = format!(in alloc; "no mission goes from {first} to {second} or back")?;
+    remarks.add(place, words)
+}
+
+// Adds the links along which no mission goes: the first of them by name, and how many more there are.
+fn add_links(remarks: &mut Remarks, doc: &Doc) -> Result<(), AllocError> {
+    let layout = layout_of(doc);
+    let mut count: usize = 0;
+    for (number, link) in layout.links().iter().enumerate() {
+        if !is_used(doc, *link) {
+            count = count.saturating_add(1);
+            if count <= NAMED {
+                add_unused(remarks, layout, number, *link)?;
+            }
+        }
+    }
+    if count <= NAMED {
+        return Ok(());
+    }
+    let alloc = remarks.alloc();
+    let more = count - NAMED;
+    let place = String::from_str(alloc, "links")?;
+    let words = format!(in alloc; "{more} more along which no mission goes")?;
+    remarks.add(place, words)
+}
+
+// Whether a mission comes to some point of a zone.
+fn is_entered(doc: &Doc, zone: u32) -> bool {
+    let layout = layout_of(doc);
+    for point in 0..points_of(layout) {
+        if zone_of(layout, point) == zone && is_visited(doc, point) {
+            return true;
+        }
+    }
+    false
+}
+
+/// Adds the points, links and zones of a document that no mission uses.
+pub(crate) fn add_layout(remarks: &mut Remarks, doc: &Doc) -> Result<(), AllocError> {
+    add_points(remarks, doc)?;
+    add_links(remarks, doc)?;
+    let alloc = remarks.alloc();
+    for zone in 0..zones_of(layout_of(doc)) {
+        if !is_entered(doc, zone) {
+            let place = String::from_str(alloc, "zones")?;
+            let words = format!(in alloc; "no mission comes to a point of zone {zone}")?;
+            remarks.add(place, words)?;
+        }
+    }
+    Ok(())
+}
