@@ -1,0 +1,16 @@
+//! Train graphs: a timed run drawn with ticks to the right and points down. Each move is exactly one line, between the
+//! ticks and the points at which it begins and ends.
+#![tactic(auto)]
+
+mod colours;
+mod drawing;
+mod grid;
+mod labels;
+mod legend;
+mod levels;
+mod marks;
+mod order;
+mod scale;
+
+pub use drawing::train_graph;
+pub use scale::Axes;

@@ -1,0 +1,57 @@
+// The marks of moves.
+ghost use Rattle.std.specs.Prelude.{◌≡◌, ◌++◌, ◌∷◌, [], IfOk, codes, decimal, map, string_bytes};
+ghost use Rattle.svg_text.specs.Shapes.{line_of};
+ghost use Rattle.train_graph.specs.Marks.{mark_of, of_train};
+
+use crate::Axes;
+use run_timetable::Step;
+use std::alloc::{AllocError, Global};
+use svg_text::{Shape, Spot, line};
+
+/// The class of all that belongs to a train.
+pub(crate) fn train_class(alloc: Global, train: u32) -> Result<String, AllocError>
+    ensures { IfOk result (λ class. string_bytes class ≡ codes "t" ++ decimal train) }
+{
+    format!(in alloc; "t{train}")
+}
+
+/// A line of a train.
+pub(crate) fn train_line(
+    alloc: Global,
+    train: u32,
+    from: Spot,
+    to: Spot,
+) -> Result<Shape, AllocError>
+    ensures { IfOk result (λ shape. shape ≡ of_train train (line_of from to)) }
+{
+    let class = train_class(alloc, train)?;
+    let mut shape = line(alloc, from, to)?;
+    shape.set(alloc, "class", class.as_str())?;
+    Ok(shape)
+}
+
+// The mark of a step.
+fn mark(alloc: Global, axes: &Axes, step: &Step) -> Result<Shape, AllocError>
+    ensures { IfOk result (λ shape. shape ≡ mark_of axes.now step.now) }
+{
+    let from = Spot {
+        x: axes.x(u64::from(step.tick)),
+        y: axes.y(step.from),
+    };
+    let to = Spot {
+        x: axes.x(step.arrival()),
+        y: axes.target(step.from, step.to),
+    };
+    train_line(alloc, step.train, from, to)
+}
+
+/// The marks of all steps, in order.
+pub(crate) fn marks(alloc: Global, axes: &Axes, steps: &[Step]) -> Result<Vec<Shape>, AllocError>
+    ensures { IfOk result (λ shapes. shapes.items ≡ map (mark_of axes.now) steps.now) }
+{
+    let mut shapes = Vec::new(alloc);
+    for step in steps {
+        shapes.push(mark(alloc, axes, step)?)?;
+    }
+    Ok(shapes)
+}
