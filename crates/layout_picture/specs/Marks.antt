@@ -1,0 +1,60 @@
+-- Dots and lines.
+use Rattle.std.specs.Prelude.{ℕ, List, [], ◌∷◌, ◌++◌, codes, decimal, Option, Some, None, slice_index_or}
+use Rattle.svg_text.specs.Tree.{Shape}
+use Rattle.svg_text.specs.Shapes.{line_of}
+use Rattle.svg_text.specs.declared.shapes.Spot.{Spot}
+use Rattle.rail_model.specs.Layout.{Link}
+use Rattle.layout_picture.specs.declared.tracks.Way.{Way}
+
+-- a dot at a spot
+abbrev pub dot_at : Spot → Shape
+dot_at at = record {
+  name = codes "circle";
+  attributes =
+      record { name = codes "cx"; value = decimal at.x }
+      ∷ record { name = codes "cy"; value = decimal at.y }
+      ∷ record { name = codes "r"; value = decimal 5 }
+      ∷ [];
+  words = [];
+}
+
+-- x and y of a spot, as a path has them
+abbrev pub pair_of : Spot → List ℕ
+pair_of at = decimal at.x ++ codes "," ++ decimal at.y
+
+-- a line from one spot to another, in a bow toward a third one
+abbrev pub bow_of : Spot → Spot → Spot → Shape
+bow_of from toward to = record {
+  name = codes "path";
+  attributes =
+      record { name = codes "d"; value = codes "M" ++ pair_of from ++ codes " Q" ++ pair_of toward ++ codes " " ++ pair_of to } ∷ [];
+  words = [];
+}
+
+-- the line of a way
+abbrev pub line_along : Spot → Option Spot → Spot → Shape
+line_along from None to = line_of from to
+line_along from (Some toward) to = bow_of from toward to
+
+abbrev pub stroke_of : Way → Shape
+stroke_of w = line_along w.from w.toward w.to
+
+-- Where a way begins and ends.
+pub record Ends : Type 0 where
+  pub from : Spot
+  pub to : Spot
+
+abbrev pub ends_of : Way → Ends
+ends_of w = record { from = w.from; to = w.to }
+
+-- the spot of a point
+abbrev pub spot_at : List Spot → ℕ → Spot
+spot_at spots point = slice_index_or spots point (record { x = 0; y = 0 })
+
+-- the spots of two points
+abbrev pub ends_at : List Spot → ℕ → ℕ → Ends
+ends_at spots first second = record { from = spot_at spots first; to = spot_at spots second }
+
+-- the spots of the points of a link
+abbrev pub link_ends : List Spot → Link → Ends
+link_ends spots k = ends_at spots k.first k.second

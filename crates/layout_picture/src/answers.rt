@@ -1,0 +1,122 @@
+// The picture of a document, or why there is none.
+ghost use Rattle.std.specs.Prelude.{◌≡◌, IfOk};
+ghost use Rattle.layout_picture.specs.Answer.{IsAnswer};
+
+use crate::picture::drawing;
+use layout_json::{Doc, layout_of, names_of, start_of, table_of, tables_of};
+use legal_state::{Illegal, judge};
+use rail_model::{Names, State, Table, last_of, trains_of};
+use state_sentences::Scene;
+use std::alloc::{AllocError, Global};
+use svg_text::Picture;
+
+/// A picture, or in words why there is none.
+#[derive(Drop)]
+pub enum Drawn {
+    Picture { picture: Picture },
+    Refused { words: String },
+}
+
+fn train_name(names: &Names, train: u32) -> &str {
+    if (train as usize) < names.trains() {
+        names.train(train)
+    } else {
+        ""
+    }
+}
+
+// Why a state isn't legal.
+fn cause(
+    alloc: Global,
+    doc: &Doc,
+    table: &Table,
+    state: &State,
+    illegal: Illegal,
+) -> Result<String, AllocError> {
+    let names = names_of(doc);
+    match illegal {
+        Illegal::Length { count } => {
+            let trains = names.trains();
+            format!(in alloc; "there are {trains} trains, and places for {count}")
+        }
+        Illegal::Range { train } => {
+            let name = train_name(names, train);
+            let place = state.as_slice().get(train as usize).copied().unwrap_or(0);
+            let last = if train < trains_of(table) {
+                last_of(table, train)
+            } else {
+                0
+            };
+            format!(in alloc; "{name} has no place {place}: its last one is {last}")
+        }
+        Illegal::Clash {
+            first,
+            second,
+            point,
+        } => {
+            let first = train_name(names, first);
+            let second = train_name(names, second);
+            let point = match layout_of(doc).points().get(point as usize) {
+                Some(point) => point.name(),
+                None => "",
+            };
+            format!(in alloc; "{first} and {second} are both at {point}")
+        }
+        Illegal::Over {
+            section,
+            count,
+            limit,
+        } => { format!(in alloc; "section {section} has {count}, above its limit {limit}") }
+    }
+}
+
+// The title of a picture.
+fn title_of(alloc: Global, table: u32, state: &State, start: &State) -> Result<String, AllocError> {
+    let mut title = format!(in alloc; "Layout, table {table}: trains at ")?;
+    if state.as_slice() == start.as_slice() {
+        title.push_str("their start")?;
+        return Ok(title);
+    }
+    title.push_str("places ")?;
+    let mut comma = "";
+    for place in state.as_slice() {
+        write!(title, "{comma}{place}")?;
+        comma = ",";
+    }
+    Ok(title)
+}
+
+/// The layout of a document with the sections of a table, and the trains at their places in a state; or why there is no
+/// such picture: there is no such table, or the state isn't legal.
+pub fn layout_picture(
+    alloc: Global,
+    doc: &Doc,
+    table: u32,
+    state: &State,
+) -> Result<Drawn, AllocError>
+    ensures { IfOk result (λ drawn. IsAnswer doc.now table state.now drawn) }
+{
+    let tables = tables_of(doc);
+    if tables <= table {
+        let words = format!(in alloc; "there is no table {table}: the document has {tables}")?;
+        return Ok(Drawn::Refused { words });
+    }
+    let title = title_of(alloc, table, state, start_of(doc))?;
+    let names = names_of(doc);
+    let table = table_of(doc, table);
+    match judge(table, state) {
+        Ok(()) => {
+            let scene = Scene {
+                names,
+                table,
+                state,
+            };
+            let picture = drawing(alloc, layout_of(doc), &scene, title.as_str())?;
+            Ok(Drawn::Picture { picture })
+        }
+        Err(illegal) => {
+            let words = cause(alloc, doc, table, state, illegal)?;
+            Ok(Drawn::Refused { words })
+        }
+    }
+}

@@ -1,0 +1,143 @@
+// The base line of a picture: the stretch of the longest route between the two of its points that are farthest apart.
+
+use crate::cells::Cells;
+use crate::placing::place_route;
+use rail_model::{Layout, Mission, are_linked, points_of};
+use std::alloc::{AllocError, Global};
+
+/// Farther than any point.
+const FAR: u32 = 100_000;
+
+// The number of different points of a route.
+fn size_of(route: &[u32]) -> u32 {
+    let mut size: u32 = 0;
+    for point in 0..512 {
+        if route.contains(&point) {
+            size = size.saturating_add(1);
+        }
+    }
+    size
+}
+
+// The route with the most points.
+fn longest(missions: &[Mission]) -> &[u32] {
+    let mut best: &[u32] = &[];
+    for mission in missions {
+        if size_of(best) < size_of(mission.as_slice()) {
+            best = mission.as_slice();
+        }
+    }
+    best
+}
+
+fn distance_of(distances: &[u32], point: u32) -> u32 {
+    distances.get(point as usize).copied().unwrap_or(FAR)
+}
+
+// Brings a point's distance down to that of a neighbour and one more; says whether it was farther.
+fn bring_down(distances: &mut Vec<u32>, near: u32, far: u32) -> bool {
+    let through = distance_of(distances, near).saturating_add(1);
+    let farther = through < distance_of(distances, far);
+    if farther {
+        if let Some(distance) = distances.get_mut(far as usize) {
+            *distance = through;
+        }
+    }
+    farther
+}
+
+// Brings down the distances of the points of a route; says whether one was farther.
+fn bring_all_down(distances: &mut Vec<u32>, layout: &Layout, route: &[u32]) -> bool {
+    let mut farther = false;
+    for link in layout.links() {
+        let first = link.first();
+        let second = link.second();
+        if route.contains(&first) && route.contains(&second) {
+            farther = bring_down(distances, first, second) || farther;
+            farther = bring_down(distances, second, first) || farther;
+        }
+    }
+    farther
+}
+
+// How many links each point of a route is away from one of them.
+fn distances_from(
+    alloc: Global,
+    layout: &Layout,
+    route: &[u32],
+    from: u32,
+) -> Result<Vec<u32>, AllocError> {
+    let mut distances = Vec::new(alloc);
+    for point in 0..points_of(layout) {
+        distances.push(if point == from { 0 } else { FAR })?;
+    }
+    for _ in 0..points_of(layout) {
+        if !bring_all_down(&mut distances, layout, route) {
+            break;
+        }
+    }
+    Ok(distances)
+}
+
+// The point of a route that is farthest from one of its points.
+fn farthest(alloc: Global, layout: &Layout, route: &[u32], from: u32) -> Result<u32, AllocError> {
+    let distances = distances_from(alloc, layout, route, from)?;
+    let mut best = from;
+    for point in route {
+        let distance = distance_of(&distances, *point);
+        if distance_of(&distances, best) < distance && distance < FAR {
+            best = *point;
+        }
+    }
+    Ok(best)
+}
+
+// A route, twice if its last point leads on to its first.
+fn rounds(alloc: Global, layout: &Layout, route: &[u32]) -> Result<Vec<u32>, AllocError> {
+    let mut rounds = Vec::from_slice(alloc, route)?;
+    if let (Some(first), Some(last)) = (route.first(), route.last()) {
+        if first == last || are_linked(layout, *first, *last) {
+            rounds.extend_from_slice(route)?;
+        }
+    }
+    Ok(rounds)
+}
+
+// The first stretch of a route from one of two points to the other.
+fn stretch_of(alloc: Global, route: &[u32], ends: [u32; 2]) -> Result<Vec<u32>, AllocError> {
+    let mut stretch: Vec<u32> = Vec::new(alloc);
+    for point in route {
+        if ends.contains(point) {
+            let begin = stretch.first().copied().unwrap_or(*point);
+            if begin == *point {
+                stretch.clear();
+            } else {
+                stretch.push(*point)?;
+                return Ok(stretch);
+            }
+        }
+        if ends.contains(point) || !stretch.is_empty() {
+            stretch.push(*point)?;
+        }
+    }
+    Ok(stretch)
+}
+
+/// Places the base line, and then all other points of the route that it is a stretch of.
+pub(crate) fn place_spine(
+    alloc: Global,
+    cells: &mut Cells,
+    layout: &Layout,
+    missions: &[Mission],
+) -> Result<(), AllocError> {
+    let route = longest(missions);
+    if let Some(begin) = route.first() {
+        let first = farthest(alloc, layout, route, *begin)?;
+        let second = farthest(alloc, layout, route, first)?;
+        let rounds = rounds(alloc, layout, route)?;
+        let stretch = stretch_of(alloc, &rounds, [first, second])?;
+        place_route(alloc, cells, &stretch)?;
+        place_route(alloc, cells, &rounds)?;
+    }
+    Ok(())
+}
