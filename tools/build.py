@@ -1,5 +1,5 @@
 #!/usr/bin/env python3
-"""Proves every crate below the program, several side by side and lowest first, and builds the program.
+"""Proves every crate below the two programs, several side by side and lowest first, and builds the programs.
 
     ./build
 
@@ -24,6 +24,8 @@ LOG = f"{ROOT}/out/build.log"
 # What matters of the log of a crate that isn't proved.
 TELLING = re.compile(r"error|not proved|no proof|could not tell|killed|^rt: ")
 MOST_TELLING = 9
+# The programs, each with words that it answers on an example: the toolchain ends a build with a run.
+PROGRAMS = {"ats": ["check"], "planner": ["lint"]}
 
 
 def toolchain():
@@ -48,8 +50,8 @@ def measured():
 class Build:
     def __init__(self, rt):
         self.rt, self.began, self.printing = rt, time.time(), threading.Lock()
-        every = rt.rtlib.crates_below(f"{ROOT}/crates/ats")
-        self.crates = [it for it in every if it.makes_rlib()]
+        every = {it.name: it for program in PROGRAMS for it in rt.rtlib.crates_below(f"{ROOT}/crates/{program}")}
+        self.crates = [it for it in every.values() if it.makes_rlib()]
         known = measured()
         rate = sum(known.values()) / max(1, sum(self.lines(it) for it in self.crates if it.name in known))
         self.seconds = {it.name: known.get(it.name, rate * self.lines(it)) for it in self.crates}
@@ -73,7 +75,7 @@ class Build:
     def report(self, crate, seconds):
         self.done.append(crate.name)
         names = ", ".join(self.running) or "nothing"
-        count = f"{len(self.done)} of {len(self.crates) + 1}"
+        count = f"{len(self.done)} of {len(self.crates) + len(PROGRAMS)}"
         times = f"{clock(time.time() - self.began)} gone" + ("" if self.failed else f", about {clock(self.left())} left")
         print(f"{count:>8}  {times}: {crate.name} is proved ({clock(seconds)}); now {names}", flush=True)
 
@@ -86,7 +88,7 @@ class Build:
             print(f"{crate} isn't proved either.", flush=True)
             return
         lines = [it for it in said.splitlines() if TELLING.search(it)] or said.splitlines()[-MOST_TELLING:]
-        print(f"{crate} ISN'T PROVED, so there is no program. The whole log is {LOG}; what matters of it:", flush=True)
+        print(f"{crate} ISN'T PROVED, so its program isn't built. The whole log is {LOG}; what matters of it:", flush=True)
         for line in lines[:MOST_TELLING]:
             print("   ", line[:300], flush=True)
 
@@ -124,15 +126,14 @@ class Build:
             os.close(it)
         return all(given.values())
 
-    def compile(self):
-        """Builds the program. The toolchain ends a build with a run, which gets an example."""
+    def compile(self, program):
         with open(f"{ROOT}/examples/first-path.json") as example:
-            words = ["rt", "run", "--", "check"]
-            ran = subprocess.run(words, cwd=f"{ROOT}/crates/ats", stdin=example, capture_output=True, text=True, errors="replace")
+            words = ["rt", "run", "--", *PROGRAMS[program]]
+            ran = subprocess.run(words, cwd=f"{ROOT}/crates/{program}", stdin=example, capture_output=True, text=True, errors="replace")
         with open(LOG, "a") as log:
-            log.write(f"== ats\n{ran.stderr}{ran.stdout}")
+            log.write(f"== {program}\n{ran.stderr}{ran.stdout}")
         if ran.returncode:
-            self.fail("ats", ran.stderr, ran.returncode)
+            self.fail(program, ran.stderr, ran.returncode)
         return ran.returncode == 0
 
 
@@ -142,12 +143,12 @@ def main():
     os.makedirs(f"{ROOT}/out", exist_ok=True)
     open(LOG, "w").close()
     build = Build(rt)
-    print(f"{len(build.crates)} crates are proved on {build.lanes} processors, and the program is built of them, in some {round(build.left() / 60)} minutes.", flush=True)
+    print(f"{len(build.crates)} crates are proved on {build.lanes} processors, and the programs are built of them, in some {round(build.left() / 60)} minutes.", flush=True)
     print("The toolchain's log: out/build.log", flush=True)
-    if not build.prove_all() or not build.compile():
-        print(f"The program isn't built: {', '.join(build.failed)}, as is said above.", flush=True)
+    if not build.prove_all() or not all(build.compile(program) for program in PROGRAMS):
+        print(f"The programs aren't built: {', '.join(build.failed)}, as is said above.", flush=True)
         return 1
-    print(f"The program is built, in {clock(time.time() - build.began)}. Next: ./ats run < examples/first-path.json", flush=True)
+    print(f"The programs are built, in {clock(time.time() - build.began)}. Next: ./ats run < examples/first-path.json", flush=True)
     print("The tests, the must-fail edits and every proof from nothing: .ci/run", flush=True)
     return 0
 

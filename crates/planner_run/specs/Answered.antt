@@ -1,0 +1,110 @@
+-- What the answers to orders are.
+use Rattle.std.specs.Prelude.{◌≡◌, ℕ, List, Ok, Some, string_bytes}
+use Rattle.decimal_number.specs.Decimal.{number_of}
+use Rattle.document_shapes.specs.Written.{text_of}
+use Rattle.rail_model.specs.State.{Legal}
+use Rattle.refusal_lines.specs.Makers.{places_words}
+use Rattle.layout_json.specs.Reading.{doc_of}
+use Rattle.layout_json.specs.Doc.{Doc, table_at}
+use Rattle.plan_document.specs.Written.{document_of}
+use Rattle.plan_document.specs.declared.plan.Plan.{Plan}
+use Rattle.plan_reading.specs.Said.{IsRead}
+use Rattle.plan_reading.specs.declared.reading.PlanRead.TheVariants.{Plan as AsPlan}
+use Rattle.refusal_sentences.specs.Explains.{ExplainsState}
+use Rattle.refusal_sentences.specs.ExplainedLines.{ExplainsLine}
+use Rattle.refusal_sentences.specs.declared.explained.Explained.{Explained}
+use Rattle.refusal_sentences.specs.declared.explained.Explained.TheVariants.{State, Refusal, NotLegal, NoTable, NoDocument, NoLine}
+use Rattle.run_timetable.specs.declared.run.Run.{Run}
+use Rattle.timed_reading.specs.Runs.{IsRunOf}
+use Rattle.train_graph.specs.Marks.{IsGraph}
+use Rattle.layout_picture.specs.Drawn.{IsDrawn}
+use Rattle.svg_text.specs.Tree.{Picture}
+use Rattle.svg_text.specs.Text.{svg_text}
+use Rattle.planner_words.specs.declared.orders.Order.{Order}
+use Rattle.planner_words.specs.declared.orders.Order.TheVariants.{Plan as OfPlan, ExplainState, ExplainLine, Lint, Timetable, Graph, Layout}
+use Rattle.planner_run.specs.declared.answer.Answer.{Answer}
+use Rattle.planner_run.specs.declared.answer.Answer.TheVariants.{Text, Remarks, Wrong}
+use Rattle.planner_run.specs.declared.top.Status.{Status}
+use Rattle.planner_run.specs.declared.top.Status.TheVariants.{Done, Faulty, Failed}
+
+-- The text reads as a document.
+abbrev pub IsDocument : List ℕ → Type 0
+IsDocument text = (document : Doc) × (doc_of text ≡ Ok document)
+
+-- The input is a plan, whose document the text is, and it reads as one.
+pub record IsPlanned (input text : List ℕ) : Type 0 where
+  pub plan : Plan
+  pub is_plan : IsRead input (AsPlan plan)
+  pub is_text : text ≡ text_of (document_of plan)
+  pub is_document : IsDocument text
+
+-- the text of what explains something
+abbrev pub Tells : Explained → List ℕ → Type 0
+Tells (State words) text = text ≡ string_bytes words
+Tells (Refusal words) text = text ≡ string_bytes words
+Tells (NotLegal cause words) text = text ≡ string_bytes words
+Tells (NoTable tables words) text = ⊥
+Tells (NoDocument refused words) text = ⊥
+Tells (NoLine words) text = ⊥
+
+-- The text explains the positions that the words name, under the table that they name.
+pub record ExplainsPlaces (input table_words place_words text : List ℕ) : Type 0 where
+  pub table : ℕ
+  pub places : List ℕ
+  pub told : Explained
+  pub is_table : number_of table_words ≡ Some table
+  pub are_places : place_words ≡ places_words places
+  pub explains : ExplainsState input table places told
+  pub tells : Tells told text
+
+-- The text explains a line of ats.
+pub record ExplainsWords (input line text : List ℕ) : Type 0 where
+  pub told : Explained
+  pub explains : ExplainsLine input line told
+  pub tells : Tells told text
+
+-- The text is the graph of a timed run of a document: a picture with one mark for each step.
+pub record IsGraphText (text : List ℕ) : Type 0 where
+  pub document : Doc
+  pub run : Run
+  pub picture : Picture
+  pub is_run : IsRunOf document run
+  pub is_graph : IsGraph run picture
+  pub is_text : text ≡ svg_text picture
+
+-- The text is a picture of a document's layout, and of its trains in a legal state of a table.
+pub record IsLayoutOf (D : Doc) (text : List ℕ) : Type 0 where
+  pub table : ℕ
+  pub places : List ℕ
+  pub picture : Picture
+  pub legal : Legal (table_at D table) places
+  pub is_drawn : IsDrawn D.layout (table_at D table) places picture.groups
+  pub is_text : text ≡ svg_text picture
+
+-- The input is a document, and the text is a picture of its layout.
+pub record IsLayoutText (input text : List ℕ) : Type 0 where
+  pub document : Doc
+  pub is_read : doc_of input ≡ Ok document
+  pub is_layout : IsLayoutOf document text
+
+-- The text is what an order comes to on an input.
+abbrev pub IsTextFor : Order → List ℕ → List ℕ → Type 0
+IsTextFor OfPlan input text = IsPlanned input text
+IsTextFor (ExplainState table at) input text = ExplainsPlaces input table.now at.now text
+IsTextFor (ExplainLine line) input text = ExplainsWords input line.now text
+IsTextFor (Lint before) input text = Unit {0}
+IsTextFor (Timetable csv) input text = Unit {0}
+IsTextFor (Graph train) input text = IsGraphText text
+IsTextFor (Layout table at) input text = IsLayoutText input text
+
+-- Where the answer is a text, this holds of it.
+abbrev pub IfText : (List ℕ → Type 0) → Answer → Type 0
+IfText Holds (Text text) = Holds text.items
+IfText Holds (Remarks lines) = Unit {0}
+IfText Holds (Wrong lines) = Unit {0}
+
+-- the exit code of a status
+abbrev pub code_of : Status → ℕ
+code_of Done = 0
+code_of Faulty = 1
+code_of Failed = 2

@@ -1,0 +1,42 @@
+// What an order comes to.
+ghost use Rattle.std.specs.Prelude.{◌≡◌, IfOk};
+ghost use Rattle.planner_run.specs.Answered.{IfText, IsTextFor};
+
+use crate::drawing::layout;
+use crate::explaining::{line as explain_line, state as explain_state};
+use crate::linting::remarks;
+use crate::planning::plan;
+use crate::timing::{graph, timetable};
+use planner_words::Order;
+use std::alloc::{AllocError, Global};
+
+/// The answer to an order.
+#[derive(Drop)]
+pub enum Answer {
+    /// The text that was asked for.
+    Text(Vec<u8>),
+    /// Remarks on the input, in lines.
+    Remarks(String),
+    /// What is wrong with the input, in lines, each of which ends with a newline.
+    Wrong(String),
+}
+
+/// What an order comes to on this input. `former` is the former document, where the order names one.
+pub fn answer_to(
+    alloc: Global,
+    order: &Order<'_>,
+    input: &[u8],
+    former: Option<&[u8]>,
+) -> Result<Answer, AllocError>
+    ensures { IfOk result (IfText (IsTextFor order.now input.now)) }
+{
+    match order {
+        Order::Plan => plan(alloc, input),
+        Order::ExplainState { table, at } => explain_state(alloc, input, table, at),
+        Order::ExplainLine { line } => explain_line(alloc, input, line),
+        Order::Lint { .. } => remarks(alloc, input, former),
+        Order::Timetable { csv } => timetable(alloc, input, *csv),
+        Order::Graph { train } => graph(alloc, input, *train),
+        Order::Layout { table, at } => layout(alloc, input, table, *at),
+    }
+}

@@ -1,0 +1,70 @@
+// Pictures of layouts.
+ghost use Rattle.std.specs.Prelude.{◌≡◌, IfOk};
+ghost use Rattle.planner_run.specs.Answered.{IfText, IsLayoutText, IsLayoutOf};
+
+use crate::Answer;
+use crate::explaining::{NO_PLACES, NO_TABLE, wrong};
+use decimal_number::number_of;
+use layout_json::{Doc, DocRefused, document, start_of};
+use layout_picture::{Drawn, layout_picture};
+use rail_model::State;
+use refusal_lines::push_document;
+use refusal_sentences::places_of;
+use std::alloc::{AllocError, Global};
+use svg_text::text;
+
+/// The layout of a document, with the sections of a table, and the trains at these places or at the start.
+pub(crate) fn layout(
+    alloc: Global,
+    input: &[u8],
+    table: &str,
+    at: Option<&str>,
+) -> Result<Answer, AllocError>
+    ensures { IfOk result (IfText (IsLayoutText input.now)) }
+{
+    let Some(table) = number_of(table.as_bytes()) else {
+        return wrong(alloc, NO_TABLE);
+    };
+    match document(alloc, input) {
+        Ok(doc) => layout_at(alloc, &doc, table, at),
+        Err(DocRefused::Memory) => Err(AllocError),
+        Err(refused) => refusal(alloc, &refused),
+    }
+}
+
+// The layout with the trains at these places or at the start.
+fn layout_at(alloc: Global, doc: &Doc, table: u32, at: Option<&str>) -> Result<Answer, AllocError>
+    ensures { IfOk result (IfText (IsLayoutOf doc.now)) }
+{
+    let Some(words) = at else {
+        return picture_of(alloc, doc, table, start_of(doc));
+    };
+    match places_of(alloc, words)? {
+        Some(places) => picture_of(alloc, doc, table, &State::from(places)),
+        None => wrong(alloc, NO_PLACES),
+    }
+}
+
+// The layout with the trains in a state.
+fn picture_of(alloc: Global, doc: &Doc, table: u32, state: &State) -> Result<Answer, AllocError>
+    ensures { IfOk result (IfText (IsLayoutOf doc.now)) }
+{
+    match layout_picture(alloc, doc, table, state)? {
+        Drawn::Picture { picture } => Ok(Answer::Text(text(alloc, &picture)?)),
+        Drawn::Refused { words } => {
+            let mut line = words;
+            line.push_str("\n")?;
+            Ok(Answer::Wrong(line))
+        }
+    }
+}
+
+// That the input is no document.
+fn refusal(alloc: Global, refused: &DocRefused) -> Result<Answer, AllocError>
+    ensures { IfOk result (IfText (λ text. ⊥)) }
+{
+    let mut line = String::from_str(alloc, "ats refuses the document: ")?;
+    push_document(&mut line, refused)?;
+    line.push_str("\n")?;
+    Ok(Answer::Wrong(line))
+}

@@ -1,0 +1,13 @@
+//! What the planner's program does: it reads its input to the end, and writes what an order asks for, or what is wrong, a line each.
+#![tactic(auto)]
+
+mod answer;
+mod drawing;
+mod explaining;
+mod linting;
+mod planning;
+mod timing;
+mod top;
+
+pub use answer::{Answer, answer_to};
+pub use top::{MOST_BYTES, Status, Stop, code, end_unread, serve, turn_down};

@@ -1,0 +1,63 @@
+// The document of a plan.
+ghost use Rattle.std.specs.Prelude.{◌≡◌, IfOk, IfNone};
+ghost use Rattle.plan_reading.specs.Said.{IsRead};
+ghost use Rattle.plan_reading.specs.declared.reading.PlanRead.TheVariants.{Plan as AsPlan};
+ghost use Rattle.planner_run.specs.Answered.{IfText, IsDocument, IsPlanned};
+
+use crate::Answer;
+use layout_json::{DocRefused, document};
+use plan_document::{Plan, written};
+use plan_reading::{Fault, PlanRead, read_plan};
+use refusal_lines::push_document;
+use std::alloc::{AllocError, Global};
+
+/// The document of the plan that a text is, or all that is wrong with the plan, each with its line.
+pub(crate) fn plan(alloc: Global, text: &[u8]) -> Result<Answer, AllocError>
+    ensures { IfOk result (IfText (IsPlanned text.now)) }
+{
+    match read_plan(alloc, text)? {
+        PlanRead::Plan(plan) => planned(alloc, text, plan),
+        PlanRead::Faults(faults) => Ok(Answer::Wrong(lines_of(alloc, &faults)?)),
+    }
+}
+
+// A line for each fault.
+fn lines_of(alloc: Global, faults: &[Fault]) -> Result<String, AllocError> {
+    let mut lines = String::new(alloc);
+    for fault in faults {
+        let line = fault.line;
+        let words = fault.words.as_str();
+        write!(lines, "line {line}: {words}\n")?;
+    }
+    Ok(lines)
+}
+
+// The document of a plan that was read of a text, if it reads as one.
+fn planned(alloc: Global, text: &[u8], plan: Plan) -> Result<Answer, AllocError>
+    requires { IsRead text.now (AsPlan plan) }
+    ensures { IfOk result (IfText (IsPlanned text.now)) }
+{
+    let document = written(alloc, plan)?;
+    match refusal_of(alloc, &document)? {
+        None => Ok(Answer::Text(document)),
+        Some(line) => Ok(Answer::Wrong(line)),
+    }
+}
+
+// Why a text is no document, if it isn't one.
+fn refusal_of(alloc: Global, text: &[u8]) -> Result<Option<String>, AllocError>
+    ensures { IfOk result (λ line. IfNone line (IsDocument text.now)) }
+{
+    match document(alloc, text) {
+        Ok(_) => Ok(None),
+        Err(DocRefused::Memory) => Err(AllocError),
+        Err(refused) => Ok(Some(line_of(alloc, &refused)?)),
+    }
+}
+
+fn line_of(alloc: Global, refused: &DocRefused) -> Result<String, AllocError> {
+    let mut line = String::from_str(alloc, "ats refuses the document of this plan: ")?;
+    push_document(&mut line, refused)?;
+    line.push_str("\n")?;
+    Ok(line)
+}

@@ -1,0 +1,62 @@
+// Timetables and graphs of timed runs.
+ghost use Rattle.std.specs.Prelude.{◌≡◌, IfOk};
+ghost use Rattle.timed_reading.specs.Runs.{IsRunOf};
+ghost use Rattle.planner_run.specs.Answered.{IfText, IsGraphText};
+
+use crate::Answer;
+use layout_json::{Doc, layout_of, names_of};
+use rail_model::Names;
+use run_timetable::{Form, Run, written};
+use std::alloc::{AllocError, Global};
+use svg_text::text;
+use timed_reading::{Timed, timed_run};
+use train_graph::train_graph;
+
+/// The timetable of a timed run.
+pub(crate) fn timetable(alloc: Global, input: &[u8], csv: bool) -> Result<Answer, AllocError> {
+    let form = if csv { Form::Csv } else { Form::Text };
+    match timed_run(alloc, input)? {
+        Timed::Run { doc, run } => {
+            let table = written(alloc, layout_of(&doc), names_of(&doc), &run, form)?;
+            Ok(Answer::Text(table.into_bytes()))
+        }
+        Timed::Fault(words) => Ok(Answer::Wrong(words)),
+    }
+}
+
+/// The graph of a timed run, along the route of a train if one is named.
+pub(crate) fn graph(alloc: Global, input: &[u8], train: Option<&str>) -> Result<Answer, AllocError>
+    ensures { IfOk result (IfText IsGraphText) }
+{
+    match timed_run(alloc, input)? {
+        Timed::Run { doc, run } => graph_of(alloc, &doc, &run, train),
+        Timed::Fault(words) => Ok(Answer::Wrong(words)),
+    }
+}
+
+// The graph of a run of a document.
+fn graph_of(alloc: Global, doc: &Doc, run: &Run, train: Option<&str>) -> Result<Answer, AllocError>
+    requires { IsRunOf doc.now run.now }
+    ensures { IfOk result (IfText IsGraphText) }
+{
+    let chosen = match train {
+        Some(name) => match numbered(names_of(doc), name) {
+            Some(train) => Some(train),
+            None => return unknown(alloc, name),
+        },
+        None => None,
+    };
+    let picture = train_graph(alloc, layout_of(doc), names_of(doc), run, chosen)?;
+    Ok(Answer::Text(text(alloc, &picture)?))
+}
+
+// The number of the train of this name, if there is one.
+fn numbered(names: &Names, name: &str) -> Option<u32> {
+    (0..names.trains() as u32).find(|train| names.train(*train) == name)
+}
+
+fn unknown(alloc: Global, name: &str) -> Result<Answer, AllocError>
+    ensures { IfOk result (IfText (λ text. ⊥)) }
+{
+    Ok(Answer::Wrong(format!(in alloc; "there is no train {name:?}\n")?))
+}

@@ -1,0 +1,146 @@
+// The top call.
+ghost use Rattle.std.specs.Prelude.{◌≡◌, ◌≢◌, ◌⊎◌, ℕ, List, IfSome};
+ghost use Rattle.ats_io.specs.Bytes.{Adds, AddsPrefix};
+ghost use Rattle.planner_run.specs.Answered.{IsTextFor, code_of};
+
+use crate::Answer;
+use crate::answer::answer_to;
+use ats_io::{ReadAll, Sink, Source, WriteFault, read_all, write_all};
+use planner_words::{Order, WordsAnswered};
+use std::alloc::{AllocError, Global};
+
+/// The most bytes of an input.
+pub const MOST_BYTES: usize = 16_777_216;
+
+const NO_MEMORY: &str = "planner: out of memory\n";
+
+/// How a call ends.
+#[derive(Clone, Copy)]
+pub enum Status {
+    /// What was asked for is written, and nothing is wrong.
+    Done,
+    /// The input has faults, which are written.
+    Faulty,
+    /// The command line is wrong, a device failed, the input is too long, or there was no memory.
+    Failed,
+}
+
+/// Why nothing was read.
+#[derive(Clone, Copy)]
+pub enum Stop {
+    /// The system gave no words: one of them isn't UTF-8, or there was no memory for them.
+    Words,
+    /// The file of a former document can't be read, or is too long.
+    File,
+}
+
+/// The exit code of a status.
+pub fn code(status: Status) -> u8
+    ensures { result ≡ code_of status }
+{
+    match status {
+        Status::Done => 0,
+        Status::Faulty => 1,
+        Status::Failed => 2,
+    }
+}
+
+// Writes words to the error sink. A fault of it changes nothing.
+fn tell<E: Sink>(err: &mut E, words: &str)
+    ensures { AddsPrefix (E.taken err.old) (E.taken err.new) words.now }
+{
+    match write_all(err, words.as_bytes()) {
+        Ok(()) | Err(WriteFault) => {}
+    }
+}
+
+// A call that failed, with its line.
+fn failed<E: Sink>(err: &mut E, line: &str) -> Status
+    ensures { result ≡ Status.Failed }
+{
+    tell(err, line);
+    Status::Failed
+}
+
+// How a call ends that has this text to write.
+fn print<K: Sink, E: Sink>(text: &[u8], status: Status, out: &mut K, err: &mut E) -> Status
+    ensures kept { (result ≡ status) ⊎ (result ≡ Status.Failed) }
+    ensures whole { result ≢ Status.Failed → Adds (K.taken out.old) (K.taken out.new) text.now }
+    ensures quiet { result ≢ Status.Failed → E.taken err.new ≡ E.taken err.old }
+{
+    match write_all(out, text) {
+        Ok(()) => status,
+        Err(WriteFault) => failed(err, "planner: standard output can't be written\n"),
+    }
+}
+
+/// Answers an order: it reads the source to its end, and writes to `out` what the order asks for, or to `err` what is wrong.
+/// `former` is the former document, where the order names one.
+pub fn serve<S: Source, K: Sink, E: Sink>(
+    alloc: Global,
+    order: &Order<'_>,
+    former: Option<&[u8]>,
+    source: &mut S,
+    out: &mut K,
+    err: &mut E,
+) -> Status
+    // What is written is what the order comes to on all that the source had left.
+    ensures done { result ≡ Status.Done → IfSome (S.left source.old) (λ all.
+        (text : List ℕ) × IsTextFor order.now all text × Adds (K.taken out.old) (K.taken out.new) text) }
+    ensures quiet { result ≡ Status.Done → E.taken err.new ≡ E.taken err.old }
+{
+    match read_all(alloc, source, MOST_BYTES) {
+        Ok(input) => respond(alloc, order, &input, former, out, err),
+        Err(ReadAll::Memory) => failed(err, NO_MEMORY),
+        Err(ReadAll::ReadFault) => failed(err, "planner: standard input can't be read\n"),
+        Err(ReadAll::TooLong { .. }) => failed(
+            err,
+            "planner: the input has more than 16777216 bytes\n",
+        ),
+    }
+}
+
+// Answers an order on its input.
+fn respond<K: Sink, E: Sink>(
+    alloc: Global,
+    order: &Order<'_>,
+    input: &[u8],
+    former: Option<&[u8]>,
+    out: &mut K,
+    err: &mut E,
+) -> Status
+    ensures done { result ≡ Status.Done → (text : List ℕ) × IsTextFor order.now input.now text × Adds (K.taken out.old) (K.taken out.new) text }
+    ensures quiet { result ≡ Status.Done → E.taken err.new ≡ E.taken err.old }
+{
+    match answer_to(alloc, order, input, former) {
+        Ok(Answer::Text(text)) => print(&text, Status::Done, out, err),
+        Ok(Answer::Remarks(text)) => print(text.as_bytes(), Status::Faulty, out, err),
+        Ok(Answer::Wrong(lines)) => {
+            tell(err, lines.as_str());
+            Status::Faulty
+        }
+        Err(AllocError) => failed(err, NO_MEMORY),
+    }
+}
+
+/// Answers words that are no order: help and the version go to `out`, what is wrong with the words to `err`.
+pub fn turn_down<K: Sink, E: Sink>(words: &WordsAnswered, out: &mut K, err: &mut E) -> Status {
+    match words {
+        WordsAnswered::Shown(text) => print(text.as_bytes(), Status::Done, out, err),
+        WordsAnswered::Refused(text) => failed(err, text.as_str()),
+        WordsAnswered::Memory => failed(err, NO_MEMORY),
+    }
+}
+
+/// Writes to `err` why nothing was read.
+pub fn end_unread<E: Sink>(why: Stop, err: &mut E) -> Status
+    ensures { result ≡ Status.Failed }
+{
+    match why {
+        Stop::Words => failed(
+            err,
+            "planner: the words of the command line can't be read\n",
+        ),
+        Stop::File => failed(err, "planner: the file of --before can't be read\n"),
+    }
+}

@@ -1,0 +1,71 @@
+// Documents that are explained, searched for mistakes, and drawn.
+use crate::rows::play_all;
+use std::test::Fail;
+
+// Words, a document and an answer each.
+const DOCUMENTS: &str = r##"explain|--at|1,1
+{"version":1,"points":[["A",0],["M",0],["N",0],["B",0],["C",0],["D",0]],"links":[["A","M"],["M","N"],["N","B"],["C","N"],["M","D"]],"zones":1,"trains":["T0","T1"],"start":[0,0],"tables":[{"missions":[["A","M","N","B"],["C","N","M","D"]],"sections":[],"certificate":[]}]}
+----
+T0 is at M, place 1 of 3, and wants N: T1 is there
+T1 is at N, place 1 of 3, and wants M: T0 is there
+A circle: T0 waits for T1. T1 waits for T0.
+No train can move, so the state is stuck. The sections of table 0 allow it, whether or not trains can come to it from the start.
+A section keeps it out: write one that these places overfill, or let ats repair make one.
+====
+explain|--at|1,0
+{"version":1,"points":[["A",0],["M",0],["N",0],["B",0],["C",0],["D",0]],"links":[["A","M"],["M","N"],["N","B"],["C","N"],["M","D"]],"zones":1,"trains":["T0","T1"],"start":[0,0],"tables":[{"missions":[["A","M","N","B"],["C","N","M","D"]],"sections":[{"limit":1,"changes":[[0,1,0,-1],[0,1,0,-1]]}],"certificate":[[0,0,0],[0,1,0],[4,0],[0,1,2],[4,1],[4,0],[0,0,2],[0,1,0],[4,0],[0,1,2],[2,0],[4,0],[0,1,2],[4,1],[3]]}]}
+----
+T0 is at M, place 1 of 3, and wants N: it may
+T1 is at C, place 0 of 3, and wants N: section 0 has no room for 1 more, 1 of 1 are taken; T0 has 1
+The state isn't stuck: a train may move.
+====
+explain|--at|0,0
+{"version":3,"points":[["A",0],["B",0],["C",0],["D",0]],"links":[["A","B"],["C","D"]],"zones":1,"trains":["T0","T1"],"start":[0,0],"tables":[{"missions":[["A","B"],["C","D"]],"certificate":[[0,0,0],[0,1,0],[4,1],[4,0],[0,1,0],[4,1],[3]],"connections":[[0,0,1,1]]}]}
+----
+T0 is at A, place 0 of 1, and wants B: connection 0 holds it until T1 has come to place 1, D
+T1 is at C, place 0 of 1, and wants D: it may
+The state isn't stuck: a train may move.
+====
+explain|--line|ats: 57 MoveRoom table=0 index=4 train=0 section=0
+{"version":1,"points":[["A",0],["M",0],["N",0],["B",0],["C",0],["D",0]],"links":[["A","M"],["M","N"],["N","B"],["C","N"],["M","D"]],"zones":1,"trains":["T0","T1"],"start":[0,0],"tables":[{"missions":[["A","M","N","B"],["C","N","M","D"]],"sections":[{"limit":1,"changes":[[0,1,0,-1],[0,1,0,-1]]}],"certificate":[[0,0,0],[0,1,0],[4,0],[0,1,2],[4,1],[4,0],[0,0,2],[0,1,0],[4,0],[0,1,2],[2,0],[4,0],[0,1,2],[4,1],[3]]}]}
+----
+A node of the certificate says that a train surely has a move, and a section may have no room for it.
+Where: table 0, node 4 (T1 has a move), train 0 ("T0"), section 0 (M, N).
+The certificate doesn't fit the table, as after an edit: let ats make write a new one.
+====
+explain|--line|23 Step table=0 section=0 train=0 place=1 value=3
+{"version":1,"points":[["A",0],["M",0],["N",0],["B",0],["C",0],["D",0]],"links":[["A","M"],["M","N"],["N","B"],["C","N"],["M","D"]],"zones":1,"trains":["T0","T1"],"start":[0,0],"tables":[{"missions":[["A","M","N","B"],["C","N","M","D"]],"sections":[{"limit":1,"changes":[[0,1,0,-1],[0,1,0,-1]]}],"certificate":[[0,0,0],[0,1,0],[4,0],[0,1,2],[4,1],[4,0],[0,0,2],[0,1,0],[4,0],[0,1,2],[2,0],[4,0],[0,1,2],[4,1],[3]]}]}
+----
+A change of a section is too large, up or down: -4 to 4, and -1 to 1 in version 1.
+Where: table 0, section 0 (M, N), train 0 ("T0"), place 1 ("M"), value 3.
+A change is by how much the share rises when the train reaches the place: for the shares 0 1 1 0 write 0, 1, 0, -1.
+====
+explain|--at|2,1
+{"version":1,"points":[["A",0],["M",0],["N",0],["B",0],["C",0],["D",0]],"links":[["A","M"],["M","N"],["N","B"],["C","N"],["M","D"]],"zones":1,"trains":["T0","T1"],"start":[0,0],"tables":[{"missions":[["A","M","N","B"],["C","N","M","D"]],"sections":[{"limit":1,"changes":[[0,1,0,-1],[0,1,0,-1]]}],"certificate":[[0,0,0],[0,1,0],[4,0],[0,1,2],[4,1],[4,0],[0,0,2],[0,1,0],[4,0],[0,1,2],[2,0],[4,0],[0,1,2],[4,1],[3]]}]}
+----
+These places are no legal state of table 0: T0 and T1 are both at N.
+====
+explain|--line|hello
+{"version":1,"points":[["A",0],["M",0],["N",0],["B",0],["C",0],["D",0]],"links":[["A","M"],["M","N"],["N","B"],["C","N"],["M","D"]],"zones":1,"trains":["T0","T1"],"start":[0,0],"tables":[{"missions":[["A","M","N","B"],["C","N","M","D"]],"sections":[{"limit":1,"changes":[[0,1,0,-1],[0,1,0,-1]]}],"certificate":[[0,0,0],[0,1,0],[4,0],[0,1,2],[4,1],[4,0],[0,0,2],[0,1,0],[4,0],[0,1,2],[2,0],[4,0],[0,1,2],[4,1],[3]]}]}
+----
+This is no line of ats: "hello". A line of ats is like 206 Stuck table=0 at=1,1.
+====
+lint
+{"links":[["Siding","UpWest"],["UpWest","UpCross"],["UpCross","UpEast"],["DownWest","DownCross"],["DownCross","DownEast"],["UpCross","DownEast"],["DownCross","UpEast"]],"points":[["Siding",0],["UpWest",0],["UpCross",0],["UpEast",0],["DownWest",0],["DownCross",0],["DownEast",0]],"start":[0,0,0],"tables":[{"after":0,"certificate":[[0,0,1],[0,0,0],[0,2,2],[0,2,1],[4,0],[0,1,1],[4,2],[0,1,2],[4,1],[4,2],[4,0],[4,0],[0,0,2],[4,0],[0,1,1],[0,1,0],[0,2,2],[4,2],[4,1],[0,2,2],[4,1],[0,2,3],[4,2],[4,1],[0,1,2],[4,1],[0,2,2],[4,2],[0,2,3],[4,2],[3]],"exits":[true,true,true],"missions":[["UpWest","UpCross","UpEast"],["DownWest","DownCross","DownEast"],["Siding","UpWest","UpCross","DownEast"]],"sections":[{"changes":[[0,1,-1,0],[0,1,-1,0],[0,0,2,-2,0]],"limit":2}],"times":[[1,1,1],[1,1,1],[1,1,1,1]]}],"trains":["Up","Down","Over"],"version":2,"zones":1}
+----
+links[6]: no mission goes from DownCross to UpEast or back
+====
+lint
+{"version":1,"points":[["A",0],["M",0],["N",0],["B",0],["C",0],["D",0]],"links":[["A","M"],["M","N"],["N","B"],["C","N"],["M","D"]],"zones":1,"trains":["T0","T1"],"start":[0,0],"tables":[{"missions":[["A","M","N","B"],["C","N","M","D"]],"sections":[{"limit":1,"changes":[[0,1,0,-1],[0,1,0,-1]]}],"certificate":[[0,0,0],[0,1,0],[4,0],[0,1,2],[4,1],[4,0],[0,0,2],[0,1,0],[4,0],[0,1,2],[2,0],[4,0],[0,1,2],[4,1],[3]]}]}
+----
+====
+layout|--at|1,1
+{"version":1,"points":[["A",0],["M",0],["N",0],["B",0],["C",0],["D",0]],"links":[["A","M"],["M","N"],["N","B"],["C","N"],["M","D"]],"zones":1,"trains":["T0","T1"],"start":[0,0],"tables":[{"missions":[["A","M","N","B"],["C","N","M","D"]],"sections":[{"limit":1,"changes":[[0,1,0,-1],[0,1,0,-1]]}],"certificate":[[0,0,0],[0,1,0],[4,0],[0,1,2],[4,1],[4,0],[0,0,2],[0,1,0],[4,0],[0,1,2],[2,0],[4,0],[0,1,2],[4,1],[3]]}]}
+----
+section 0 has 2, above its limit 1
+"##;
+
+#[test]
+fn documents_are_answered_as_their_rows_say(rt: HostRuntime) -> Result<(), Fail> {
+    play_all(&rt, rt.alloc(), DOCUMENTS)
+}

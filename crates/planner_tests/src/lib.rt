@@ -1,0 +1,11 @@
+//! Tests of the planner's program: rows of text, each with the words after `planner`, an input, and the answer.
+#![tactic(auto)]
+
+#[cfg(test)]
+mod documents;
+#[cfg(test)]
+mod plans;
+#[cfg(test)]
+mod rows;
+#[cfg(test)]
+mod runs;

@@ -1,0 +1,1010 @@
+// Plans, and the documents or the faults that they are answered with.
+use crate::rows::play_all;
+use std::test::Fail;
+
+// Words, a plan and an answer each: a document, or a line for each mistake.
+const PLANS: &str = r##"plan
+[[train]]
+name = "T0"
+route = ["A", "M", "N", "B"]
+
+[[train]]
+name = "T1"
+route = ["C", "N", "M", "D"]
+
+[[section]]
+name = "corridor"
+limit = 1
+points = ["M", "N"]
+
+[[table]]
+after = 1000001
+----
+line 15: table 1: a table is due after 0 to 1000000 moves, and this is 1000001
+====
+plan
+[[train]]
+name = "T0"
+route = ["A", "M", "B", "M", "C"]
+
+[[train]]
+name = "T1"
+route = ["D", "M", "E"]
+
+[[connection]]
+train = "T1"
+leaves = "D"
+after = "T0"
+reached = "M"
+----
+line 13: connection 0: "M" comes more than once on the route of train "T0": write #1, #2 .. behind it
+====
+plan
+[[train]]
+name = "T0"
+route = ["A", "M", "N", "platform number 2"]
+
+[[train]]
+name = "T1"
+route = ["C", "N", "M", "D"]
+
+[[section]]
+name = "corridor"
+limit = 1
+points = ["M", "N"]
+----
+line 3: train "T0": "platform number 2" is no name: 1 to 16 of A-Z, a-z, 0-9 and _
+====
+plan
+[[train]]
+name = "T0"
+route = ["A", "M", "N", "B"]
+
+[[train]]
+name = "T-1"
+route = ["C", "N", "M", "D"]
+
+[[section]]
+name = "corridor"
+limit = 1
+points = ["M", "N"]
+----
+line 6: train "T-1": "T-1" is no name: 1 to 16 of A-Z, a-z, 0-9 and _
+====
+plan
+[[train]]
+name = "T0"
+route = ["A", "M", "N", "B"]
+
+[[train]]
+name = "T1"
+route = ["C", "N", "M", "D"]
+
+[[section]]
+name = "corridor"
+limit = 1
+points = ["M", "N"]
+
+[[connection]]
+train = "T1"
+leaves = "D"
+after = "T0"
+reached = "N"
+----
+line 16: connection 0: "D" is never left: the route of the train ends there
+====
+plan
+[[train]]
+name = "T0"
+route = ["A", "M", "N", "B"]
+
+[[train]]
+name = "T1"
+route = ["C", "N", "M", "D"]
+
+[[section]]
+name = "corridor"
+limit = 1
+points = ["M", "N"]
+
+[[connection]]
+train = "T1"
+leaves = "C"
+after = "T1"
+reached = "N"
+----
+line 17: connection 0: a train doesn't wait for itself
+====
+plan
+[[train]]
+name = "T0"
+route = ["A", "M", "N", "B"]
+
+[[train]]
+name = "T1"
+route = []
+
+[[section]]
+name = "corridor"
+limit = 1
+points = ["M", "N"]
+----
+line 7: train "T1": the route is empty
+====
+plan
+[[train]]
+name = "T0"
+route = ["A", "M", "N", "B"]
+
+[[train]]
+name = "T1"
+route = ["C", "N", "M", "D"]
+
+[[section]]
+name = "corridor"
+limit = 1
+points = ["M", "N"]
+
+[[connection]]
+train = "T1"
+leaves = "C"
+after = "T0"
+reached = "N"
+
+[[table]]
+after = 4
+[[table.train]]
+name = "T1"
+route = ["C", "N", "M", "A"]
+----
+{"links":[["A","M"],["M","N"],["N","B"],["C","N"],["M","D"]],"points":[["A",0],["M",0],["N",0],["B",0],["C",0],["D",0]],"start":[0,0],"tables":[{"after":0,"certificate":[],"connections":[[1,0,0,2]],"exits":[false,false],"missions":[["A","M","N","B"],["C","N","M","D"]],"sections":[{"changes":[[0,1,0,-1],[0,1,0,-1]],"limit":1}],"times":[[1,1,1],[1,1,1]]},{"after":4,"certificate":[],"connections":[[1,0,0,2]],"exits":[false,false],"missions":[["A","M","N","B"],["C","N","M","A"]],"sections":[{"changes":[[0,1,0,-1],[0,1,0,-1]],"limit":1}],"times":[[1,1,1],[1,1,1]]}],"trains":["T0","T1"],"version":3,"zones":1}
+====
+plan
+# a loop that is run twice, zones, times by link, weights and a stretch
+lines = [["A", "B", "C", "D", "A"]]
+
+[zones]
+"0" = ["A", "B"]
+"1" = ["C", "D"]
+
+[[train]]
+name = "slow"
+route = ["A", "B", "C", "D", "A", "B"]
+start = "A#2"
+exit = true
+times = { default = 3, "B C" = 5 }
+
+[[train]]
+name = "fast"
+route = ["C", "D", "A"]
+times = 2
+
+[[section]]
+name = "heavy"
+limit = 4
+points = ["B", "C"]
+weight = { slow = 3 }
+only = ["slow"]
+
+[[section]]
+name = "order"
+limit = 1
+from = "C"
+to = "A"
+weight = 1
+only = ["fast"]
+----
+{"links":[["A","B"],["B","C"],["C","D"],["D","A"]],"points":[["A",0],["B",0],["C",1],["D",1]],"start":[4,0],"tables":[{"after":0,"certificate":[],"connections":[],"exits":[true,false],"missions":[["A","B","C","D","A","B"],["C","D","A"]],"sections":[{"changes":[[0,3,0,-3,0,3,-3],[0,0,0]],"limit":4},{"changes":[[0,0,0,0,0,0,0],[1,0,-1]],"limit":1}],"times":[[3,5,3,3,3,3],[2,2]]}],"trains":["slow","fast"],"version":3,"zones":2}
+====
+plan
+[[train]]
+name = "T0"
+route = ["W", "L1", "E"]
+exit = true
+
+[[train]]
+name = "T1"
+route = ["E", "L2", "W"]
+exit = true
+
+[[section]]
+limit = 1
+points = ["L1"]
+
+[[table]]
+after = 2
+[[table.train]]
+name = "T0"
+exit = false
+times = { default = 4, "W L1" = 9 }
+
+[[table.section]]
+limit = 2
+points = ["L1", "L2"]
+
+[[table]]
+after = 3
+connection = []
+----
+{"links":[["W","L1"],["L1","E"],["E","L2"],["L2","W"]],"points":[["W",0],["L1",0],["E",0],["L2",0]],"start":[0,0],"tables":[{"after":0,"certificate":[],"connections":[],"exits":[true,true],"missions":[["W","L1","E"],["E","L2","W"]],"sections":[{"changes":[[0,1,-1,0],[0,0,0,0]],"limit":1}],"times":[[1,1,1],[1,1,1]]},{"after":2,"certificate":[],"connections":[],"exits":[false,true],"missions":[["W","L1","E"],["E","L2","W"]],"sections":[{"changes":[[0,1,-1],[0,1,-1,0]],"limit":2}],"times":[[9,4],[1,1,1]]},{"after":3,"certificate":[],"connections":[],"exits":[true,true],"missions":[["W","L1","E"],["E","L2","W"]],"sections":[{"changes":[[0,1,-1,0],[0,0,0,0]],"limit":1}],"times":[[1,1,1],[1,1,1]]}],"trains":["T0","T1"],"version":3,"zones":1}
+====
+plan
+train = [{ name = "T0", route = ["A", "B"] }, { name = "T1", route = ["C", "C"] }]
+----
+line 1: train "T1": "C" comes twice in a row
+====
+plan
+[[train]]
+name = "T0"
+route = ["A", "M", "N", "B"]
+
+[[train]]
+name = "T1"
+route = ["C", "N", "M", "D"]
+
+[[section]]
+name = "corridor"
+limit = 1
+points = ["M", "N"]
+
+[[connection]]
+train = "T1"
+leave = "C"
+leaves = "C"
+after = "T0"
+reached = "N"
+----
+line 16: connection 0: no key "leave"; the keys are train, leaves, after, reached
+====
+plan
+[[train]]
+name = "T0"
+route = ["A", "M", "N", "B"]
+
+[[train]]
+name = "T1"
+route = ["C", "N", "M", "D"]
+
+[[section]]
+name = "corridor"
+limit = 1
+points = ["M", "N"]
+weights = 2
+----
+line 13: section "corridor": no key "weights"; the keys are name, limit, points, weight, only, from, to
+====
+plan
+[[train]]
+name = "T0"
+route = ["A", "M", "N", "B"]
+
+[[train]]
+name = "T1"
+route = ["C", "N", "M", "D"]
+
+[[section]]
+name = "corridor"
+limit = 1
+points = ["M", "N"]
+
+[[table]]
+after = 4
+zones = 2
+----
+line 16: table 1: no key "zones"; the keys are after, train, section, connection
+====
+plan
+[[train]]
+name = "T0"
+route = ["A", "M", "N", "B"]
+
+[[train]]
+name = "T1"
+route = ["C", "N", "M", "D"]
+
+[[section]]
+name = "corridor"
+limit = 1
+points = ["M", "N"]
+
+[[table]]
+after = 4
+[[table.train]]
+name = "T1"
+start = "C"
+----
+line 18: table 1, train "T1": no key "start"; the keys are name, route, exit, times
+====
+plan
+[[train]]
+name = "T0"
+route = ["A", "M", "N", "B"]
+
+[[train]]
+name = "T1"
+route = ["C", "N", "M", "D"]
+
+[[sections]]
+name = "corridor"
+limit = 1
+points = ["M", "N"]
+----
+line 9: no key "sections"; the keys are lines, zones, train, section, connection, table
+====
+plan
+[[train]]
+name = "T0"
+route = ["A", "M", "N", "B"]
+
+[[train]]
+name = "T1"
+exits = true
+route = ["C", "N", "M", "D"]
+
+[[section]]
+name = "corridor"
+limit = 1
+points = ["M", "N"]
+----
+line 7: train "T1": no key "exits"; the keys are name, route, start, exit, times
+====
+plan
+[[train]]
+name = "T0"
+route = ["A", "M", "N", "B"]
+
+[[train]]
+name = "T1"
+route = ["C", "N", "M", "D"]
+
+[[section]]
+name = "corridor"
+limit = 129
+points = ["M", "N"]
+----
+line 11: section "corridor": a limit is 0 to 128, and this is 129
+====
+plan
+[[train]]
+name = "T0"
+route = ["A", "M", "N", "B"]
+
+[[train]]
+name = "T1"
+route = ["C", "N", "M", "D"]
+
+[[section]]
+name = "corridor"
+limit = 1
+points = ["M", "N"]
+
+[[table]]
+[[table.train]]
+name = "T1"
+exit = true
+----
+line 14: table 1: "after" is missing
+====
+plan
+[[train]]
+name = "T0"
+route = ["A", "M", "N", "B"]
+
+[[train]]
+name = "T1"
+route = ["C", "N", "M", "D"]
+
+[[section]]
+name = "corridor"
+limit = 1
+points = ["M", "N"]
+
+[[connection]]
+----
+line 14: connection 0: "train" is missing
+line 14: connection 0: "leaves" is missing
+line 14: connection 0: "after" is missing
+line 14: connection 0: "reached" is missing
+====
+plan
+[[train]]
+name = "T0"
+route = ["A", "M", "N", "B"]
+
+[[train]]
+name = "T1"
+route = ["C", "N", "M", "D"]
+
+[[section]]
+name = "corridor"
+points = ["M", "N"]
+----
+line 9: section "corridor": "limit" is missing
+====
+plan
+[[train]]
+name = "T0"
+route = ["A", "M", "N", "B"]
+
+[[train]]
+route = ["C", "N", "M", "D"]
+
+[[section]]
+name = "corridor"
+limit = 1
+points = ["M", "N"]
+----
+line 5: train 1: "name" is missing
+====
+plan
+[[train]]
+name = "T0"
+route = ["A", "M", "N", "B"]
+
+[[train]]
+name = "T1"
+route = ["C", "N", "M", "D"]
+
+[[section]]
+name = "corridor"
+limit = 1
+----
+line 9: section "corridor": "points" is missing
+====
+plan
+[[train]]
+name = "T0"
+route = ["A", "M", "N", "B"]
+
+[[train]]
+name = "T1"
+
+[[section]]
+name = "corridor"
+limit = 1
+points = ["M", "N"]
+----
+line 5: train "T1": "route" is missing
+====
+plan
+[[train]]
+name = "T0"
+route = ["A", "B"
+exit = true
+----
+line 4: no TOML: missing comma between array elements, expected `,` or `]`
+====
+plan
+lines = [["A", "B"]]
+----
+line 1: there is no train
+====
+plan
+[[train]]
+name = "T0"
+start = "M"
+route = ["A", "M", "N", "B"]
+
+[[train]]
+name = "T1"
+start = "N"
+route = ["C", "N", "M", "D"]
+
+[[section]]
+name = "corridor"
+limit = 1
+points = ["M", "N"]
+----
+line 13: section "corridor": at the start 2 of 1 are taken, T0 1, T1 1
+====
+plan
+[[train]]
+name = "T0"
+route = ["A", "M", "N", "B"]
+
+[[train]]
+name = "T1"
+route = ["C", "N", "M", "D"]
+
+[[section]]
+name = "corridor"
+limit = 1
+points = ["M", "N"]
+
+[[connection]]
+train = "T1"
+leaves = "C"
+after = "T0"
+reached = "Nn"
+----
+line 18: connection 0: no point "Nn"; did you mean "N"?
+====
+plan
+[[train]]
+name = "T0"
+route = ["A", "M", "N", "B"]
+
+[[train]]
+name = "T1"
+route = ["C", "N", "M", "D"]
+
+[[section]]
+name = "corridor"
+limit = 1
+points = ["Mm", "N"]
+----
+line 12: section "corridor": no point "Mm"; did you mean "M"?
+====
+plan
+[[train]]
+name = "T0"
+route = ["A", "M", "N", "B"]
+
+[[train]]
+name = "T1"
+start = "Q7"
+route = ["C", "N", "M", "D"]
+
+[[section]]
+name = "corridor"
+limit = 1
+points = ["M", "N"]
+----
+line 7: train "T1": no point "Q7"; the points are A, M, N, B, C, D
+====
+plan
+[[train]]
+name = "T0"
+route = ["A", "M", "N", "B"]
+
+[[train]]
+name = "T1"
+times = { default = 2, "C Nn" = 3 }
+route = ["C", "N", "M", "D"]
+
+[[section]]
+name = "corridor"
+limit = 1
+points = ["M", "N"]
+----
+line 7: train "T1": no point "Nn"; did you mean "N"?
+====
+plan
+[[train]]
+name = "T0"
+route = ["A", "M", "N", "B"]
+
+[[train]]
+name = "T1"
+route = ["C", "N", "M", "D"]
+
+[[section]]
+name = "corridor"
+limit = 1
+points = ["M", "N"]
+
+[zones]
+"0" = ["A", "B", "C", "D"]
+"1" = ["M", "North"]
+----
+line 16: no point "North"; the points are A, M, N, B, C, D
+====
+plan
+[[train]]
+name = "T0"
+route = ["A", "M", "N", "B"]
+
+[[train]]
+name = "T1"
+route = ["C", "N", "N", "M", "D"]
+
+[[section]]
+name = "corridor"
+limit = 1
+points = ["M", "N"]
+----
+line 7: train "T1": "N" comes twice in a row
+====
+plan
+[[train]]
+name = "T0"
+route = ["A", "M", "N", "B"]
+
+[[train]]
+name = "T1"
+route = ["C", "N", "M", "B"]
+
+[[section]]
+name = "corridor"
+limit = 1
+points = ["M", "N"]
+----
+line 7: train "T1": without an exit it ends at "B", as train "T0" does
+====
+plan
+[[train]]
+name = "T0"
+route = ["A", "M", "N", "B"]
+
+[[train]]
+name = "T0"
+route = ["C", "N", "M", "D"]
+
+[[section]]
+name = "corridor"
+limit = 1
+points = ["M", "N"]
+----
+line 6: train "T0": "T0" is the name of an earlier train too
+====
+plan
+[[train]]
+name = "T0"
+route = ["A", "M", "N", "B"]
+
+[[train]]
+name = "T1"
+route = ["A", "N", "M", "D"]
+
+[[section]]
+name = "corridor"
+limit = 1
+points = ["M", "N"]
+----
+line 7: train "T1": starts at "A", as train "T0" does
+====
+plan
+[[train]]
+name = "T0"
+route = ["A", "M", "N", "B"]
+
+[[train]]
+name = "T-1"
+route = ["C", "N", "M", "D"]
+
+[[section]]
+name = "corridor"
+limit = 1
+points = ["Mm", "N"]
+only = ["T7"]
+width = 3
+----
+line 6: train "T-1": "T-1" is no name: 1 to 16 of A-Z, a-z, 0-9 and _
+line 12: section "corridor": no point "Mm"; did you mean "M"?
+line 13: section "corridor": no train "T7"; did you mean "T0"?
+line 14: section "corridor": no key "width"; the keys are name, limit, points, weight, only, from, to
+====
+plan
+[[train]]
+name = "T0"
+route = ["A", "M", "N", "B"]
+
+[[train]]
+name = "T1"
+start = "A"
+route = ["C", "N", "M", "D"]
+
+[[section]]
+name = "corridor"
+limit = 1
+points = ["M", "N"]
+----
+line 7: train "T1": "A" is not on the route of train "T1"
+====
+plan
+[[train]]
+name = "T0"
+route = ["A", "M", "N", "B"]
+
+[[train]]
+name = "T1"
+start = "M#3"
+route = ["C", "N", "M", "D"]
+
+[[section]]
+name = "corridor"
+limit = 1
+points = ["M", "N"]
+----
+line 7: train "T1": "M#3" is not on the route of train "T1"
+====
+plan
+[[train]]
+name = "T0"
+route = ["A", "M", "N", "B"]
+
+[[train]]
+name = "T1"
+times = { "M N" = 3 }
+route = ["C", "N", "M", "D"]
+
+[[section]]
+name = "corridor"
+limit = 1
+points = ["M", "N"]
+----
+line 7: train "T1": "M N" is no step of the route
+====
+plan
+[[train]]
+name = "T0"
+route = ["A", "M", "N", "B"]
+
+[[train]]
+name = "T1"
+times = { default = 0, "N M" = 1001 }
+route = ["C", "N", "M", "D"]
+
+[[section]]
+name = "corridor"
+limit = 1
+points = ["M", "N"]
+----
+line 7: train "T1": a time is 1 to 1000, and this is 0
+line 7: train "T1": a time is 1 to 1000, and this is 1001
+====
+plan
+[[train]]
+name = "T0"
+route = ["A", "M", "N", "B"]
+
+[[train]]
+name = "T1"
+route = ["C", "N", "M", "D"]
+
+[[section]]
+name = "corridor"
+limit = 1
+points = ["M", "N"]
+
+[[connection]]
+train = "X1"
+leaves = "C"
+after = "T0"
+reached = "N"
+----
+line 15: connection 0: no train "X1"; did you mean "T1"?
+====
+plan
+[[train]]
+name = "T0"
+route = ["A", "M", "N", "B"]
+
+[[train]]
+name = "T1"
+route = ["C", "N", "M", "D"]
+
+[[section]]
+name = "corridor"
+limit = 1
+points = ["M", "N"]
+only = ["T0", "express"]
+----
+line 13: section "corridor": no train "express"; the trains are T0, T1
+====
+plan
+[[train]]
+name = "T0"
+route = ["A", "M", "N", "B"]
+
+[[train]]
+name = "T1"
+route = ["C", "N", "M", "D"]
+
+[[section]]
+name = "corridor"
+limit = 1
+points = ["M", "N"]
+
+[[table]]
+after = 4
+[[table.train]]
+name = "t1"
+exit = true
+----
+line 17: table 1, train "t1": no train "t1"; did you mean "T1"?
+====
+plan
+[[train]]
+name = "T0"
+route = ["A", "M", "N", "B"]
+
+[[train]]
+name = "T1"
+route = ["C", "N", "M", "D"]
+
+[[section]]
+name = "corridor"
+limit = 1
+points = ["M", "N"]
+weight = { T9 = 1 }
+----
+line 13: section "corridor": no train "T9"; did you mean "T0"?
+====
+plan
+[[train]]
+name = "T0"
+route = ["A", "M", "N", "B"]
+
+[[train]]
+name = "T1"
+exit = "yes"
+route = ["C", "N", "M", "D"]
+
+[[section]]
+name = "corridor"
+limit = 1
+points = ["M", "N"]
+----
+line 7: train "T1": "exit" takes true or false, and this is of type string
+====
+plan
+[[train]]
+name = "T0"
+route = ["A", "M", "N", "B"]
+
+[[train]]
+name = "T1"
+route = ["C", "N", "M", "D"]
+
+[[section]]
+name = "corridor"
+limit = "one"
+points = ["M", "N"]
+----
+line 11: section "corridor": "limit" takes a whole number, and this is of type string
+====
+plan
+[[train]]
+name = "T0"
+route = ["A", "M", "N", "B"]
+
+[[train]]
+name = "T1"
+route = "C N M D"
+
+[[section]]
+name = "corridor"
+limit = 1
+points = ["M", "N"]
+----
+line 7: train "T1": "route" takes a list of names, and this is of type string
+====
+plan
+[[train]]
+name = "T0"
+route = ["A", "M", "N", "B"]
+
+[[train]]
+name = "T1"
+route = ["C", "N", 5, "D"]
+
+[[section]]
+name = "corridor"
+limit = 1
+points = ["M", "N"]
+----
+line 7: train "T1": "route" takes a list of names, and this is of type integer
+====
+plan
+train = "T0"
+----
+line 1: "train" takes a list of tables, and this is of type string
+====
+plan
+[[train]]
+name = "T0"
+route = ["A", "M", "N", "B"]
+
+[[train]]
+name = "T1"
+route = ["C", "N", "M", "D"]
+
+[[section]]
+name = "corridor"
+limit = 1
+points = ["M", "N"]
+weight = { T1 = "2" }
+----
+line 13: section "corridor": "weight" takes whole numbers, and this is of type string
+====
+plan
+[[train]]
+name = "T0"
+route = ["A", "M", "N", "B"]
+
+[[train]]
+name = "T1"
+route = ["C", "N", "M", "D"]
+
+[[section]]
+name = "corridor"
+limit = 1
+points = ["M", "N"]
+weight = { T1 = 2 }
+----
+line 11: section "corridor": train "T1" alone takes 2 of 1
+====
+plan
+[[train]]
+name = "T0"
+route = ["A", "M", "N", "B"]
+
+[[train]]
+name = "T1"
+route = ["C", "N", "M", "D"]
+
+[[section]]
+name = "corridor"
+limit = 1
+points = ["M", "N"]
+weight = { T0 = 5, T1 = -1 }
+----
+line 13: section "corridor": a weight is 0 to 4, and this is 5
+line 13: section "corridor": a weight is 0 to 4, and this is -1
+====
+plan
+[[train]]
+name = "T0"
+route = ["A", "M", "N", "B"]
+
+[[train]]
+name = "T1"
+route = ["C", "N", "M", "D"]
+
+[[section]]
+name = "corridor"
+limit = 1
+points = ["M", "N"]
+
+[zones]
+"2" = ["A"]
+----
+line 14: zone 1 has no point, and zone 2 has
+====
+plan
+[[train]]
+name = "T0"
+route = ["A", "M", "N", "B"]
+
+[[train]]
+name = "T1"
+route = ["C", "N", "M", "D"]
+
+[[section]]
+name = "corridor"
+limit = 1
+points = ["M", "N"]
+
+[zones]
+"16" = ["A"]
+"west" = ["B"]
+----
+line 15: "16" is no zone: they are numbered from 0 to 15
+line 16: "west" is no zone: they are numbered from 0 to 15
+====
+plan
+[[train]]
+name = "T0"
+route = ["A", "M", "N", "B"]
+
+[[train]]
+name = "T1"
+route = ["C", "N", "M", "D"]
+
+[[section]]
+name = "corridor"
+limit = 1
+points = ["M", "N"]
+
+[zones]
+"0" = ["A", "B", "M"]
+"1" = ["C", "D", "M"]
+----
+line 16: "M" is in a zone already
+"##;
+
+#[test]
+fn plans_are_answered_as_their_rows_say(rt: HostRuntime) -> Result<(), Fail> {
+    play_all(&rt, rt.alloc(), PLANS)
+}

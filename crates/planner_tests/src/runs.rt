@@ -1,0 +1,98 @@
+// Timed runs: a document, a line `journal`, and what `ats sim` writes of it.
+use crate::rows::play_all;
+use std::test::Fail;
+
+// Words, a timed run and an answer each.
+const RUNS: &str = r##"timetable
+{"version":1,"points":[["W",0],["L1",0],["E",0],["L2",0]],"links":[["W","L1"],["L1","E"],["E","L2"],["L2","W"]],"zones":1,"trains":["T0","T1"],"start":[0,0],"tables":[{"missions":[["W","L1","E"],["E","L2","W"]],"certificate":[[0,0,0],[4,0],[0,1,0],[0,0,1],[4,1],[1,0,1],[0,0,1],[4,0],[0,1,1],[4,1],[3]]}]}
+
+journal
+0 move T0 W L1
+0 move T1 E L2
+1 move T0 L1 E
+1 move T1 L2 W
+end moves=4 tables=0 last=1
+----
+train  point  arrives  leaves  waits
+T0     W            -       0      0
+T0     L1           1       1      0
+T0     E            2       -      -
+T1     E            -       0      0
+T1     L2           1       1      0
+T1     W            2       -      -
+T0 ends at 2, and waits 0 in all
+T1 ends at 2, and waits 0 in all
+end of the last step: 2
+====
+timetable
+{"links":[["W0","W"],["W1","W"],["W","P1"],["W","P2"],["P1","E"],["P2","E"]],"points":[["W0",0],["W",0],["W1",0],["P1",0],["P2",0],["E",0]],"start":[0,0],"tables":[{"after":0,"certificate":[[0,0,2],[0,0,1],[0,0,0],[0,1,2],[4,1],[4,0],[0,1,2],[0,1,1],[4,0],[4,1],[4,0],[0,1,2],[4,0],[0,1,3],[4,1],[4,0],[0,0,3],[4,0],[0,1,2],[4,1],[0,1,3],[4,1],[3]],"exits":[true,true],"missions":[["W0","W","P1","E"],["W1","W","P1","E"]],"sections":[],"times":[[1,31,1,1],[1,31,1,1]]},{"after":2,"certificate":[[0,0,2],[0,0,1],[0,0,0],[0,1,2],[4,1],[4,0],[4,0],[0,1,2],[4,0],[0,1,3],[4,1],[4,0],[0,0,3],[4,0],[0,1,2],[4,1],[0,1,3],[4,1],[3]],"exits":[true,true],"missions":[["W0","W","P1","E"],["W1","W","P2","E"]],"sections":[],"times":[[1,31,1,1],[1,31,1,1]]}],"trains":["T0","T1"],"version":2,"zones":1}
+
+journal
+0 move T0 W0 W
+1 move T0 W P1
+1 table 1
+1 move T1 W1 W
+2 move T1 W P2
+32 move T0 P1 E
+33 move T0 E -
+33 move T1 P2 E
+34 move T1 E -
+end moves=8 tables=1 last=34
+----
+train  point  arrives  leaves  waits
+T0     W0           -       0      0
+T0     W            1       1      0
+T0     P1          32      32      0
+T0     E           33      33      0
+T0     -           34       -      -
+T1     W1           -       1      1
+T1     W            2       2      0
+T1     P2          33      33      0
+T1     E           34      34      0
+T1     -           35       -      -
+table 1 takes over at 1
+T0 ends at 34, and waits 0 in all
+T1 ends at 35, and waits 1 in all
+end of the last step: 35
+====
+timetable|--csv
+{"version":1,"points":[["A",0],["M",0],["N",0],["B",0],["C",0],["D",0]],"links":[["A","M"],["M","N"],["N","B"],["C","N"],["M","D"]],"zones":1,"trains":["T0","T1"],"start":[0,0],"tables":[{"missions":[["A","M","N","B"],["C","N","M","D"]],"sections":[{"limit":1,"changes":[[0,1,0,-1],[0,1,0,-1]]}],"certificate":[[0,0,0],[0,1,0],[4,0],[0,1,2],[4,1],[4,0],[0,0,2],[0,1,0],[4,0],[0,1,2],[2,0],[4,0],[0,1,2],[4,1],[3]]}]}
+
+journal
+0 move T0 A M
+1 move T0 M N
+2 move T0 N B
+2 move T1 C N
+3 move T1 N M
+4 move T1 M D
+end moves=6 tables=0 last=4
+----
+train,point,arrives,leaves,waits
+T0,A,,0,0
+T0,M,1,1,0
+T0,N,2,2,0
+T0,B,3,,
+T1,C,,2,2
+T1,N,3,3,0
+T1,M,4,4,0
+T1,D,5,,
+====
+graph|--train|T9
+{"version":1,"points":[["A",0],["M",0],["N",0],["B",0],["C",0],["D",0]],"links":[["A","M"],["M","N"],["N","B"],["C","N"],["M","D"]],"zones":1,"trains":["T0","T1"],"start":[0,0],"tables":[{"missions":[["A","M","N","B"],["C","N","M","D"]],"sections":[{"limit":1,"changes":[[0,1,0,-1],[0,1,0,-1]]}],"certificate":[[0,0,0],[0,1,0],[4,0],[0,1,2],[4,1],[4,0],[0,0,2],[0,1,0],[4,0],[0,1,2],[2,0],[4,0],[0,1,2],[4,1],[3]]}]}
+
+journal
+0 move T0 A M
+1 move T0 M N
+2 move T0 N B
+2 move T1 C N
+3 move T1 N M
+4 move T1 M D
+end moves=6 tables=0 last=4
+----
+there is no train "T9"
+"##;
+
+#[test]
+fn timed_runs_are_answered_as_their_rows_say(rt: HostRuntime) -> Result<(), Fail> {
+    play_all(&rt, rt.alloc(), RUNS)
+}

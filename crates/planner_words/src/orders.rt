@@ -1,0 +1,31 @@
+// What the planner's program can be asked for.
+
+/// What the words ask for, with the values of its options as they were written.
+#[derive(Clone, Copy)]
+pub enum Order<'a> {
+    /// Make the document of a plan.
+    Plan,
+    /// Explain a state of a document's table, given by the positions of its trains.
+    ExplainState { table: &'a str, at: &'a str },
+    /// Explain a line that `ats` printed.
+    ExplainLine { line: &'a str },
+    /// List what a document says without effect, or what of a former document, in a file, is gone.
+    Lint { before: Option<&'a str> },
+    /// Write the timetable of a timed run, as columns or with commas.
+    Timetable { csv: bool },
+    /// Draw a timed run along the route of a train.
+    Graph { train: Option<&'a str> },
+    /// Draw the layout of a document, with its trains at the start of a table or at these positions.
+    Layout { table: &'a str, at: Option<&'a str> },
+}
+
+/// Why there is no order for the words.
+#[derive(Drop)]
+pub enum WordsAnswered {
+    /// They ask for help, or for the version, which this text is.
+    Shown(String),
+    /// They ask for nothing that there is; the text says why.
+    Refused(String),
+    /// There was no memory to read them.
+    Memory,
+}

@@ -1,0 +1,106 @@
+// Reading the words.
+ghost use Rattle.std.specs.Prelude.{◌≡◌, IfOk, codes};
+ghost use Rattle.planner_words.specs.Named.{name_of};
+
+use crate::asking::command;
+use crate::{Order, WordsAnswered};
+use clap::error::ErrorKind;
+use clap::{ArgMatches, Error};
+use std::alloc::Global;
+
+const NO_COMMAND: &str = "planner: no such command\n";
+
+/// What the words after the program's name ask for.
+///
+/// # Errors
+///
+/// A text to show, for help and the version; a text that says what is wrong with the words; out of memory.
+pub fn words<'a>(alloc: Global, words: &'a [String]) -> Result<Order<'a>, WordsAnswered> {
+    let Ok(command) = command(alloc) else {
+        return Err(WordsAnswered::Memory);
+    };
+    match command.try_get_matches_from(words) {
+        Ok(matches) => order_of(alloc, &matches),
+        Err(error) => Err(answer_to(alloc, &error)),
+    }
+}
+
+// What is written for words that are no order.
+fn answer_to(alloc: Global, error: &Error) -> WordsAnswered {
+    if error.kind() == ErrorKind::OutOfMemory {
+        return WordsAnswered::Memory;
+    }
+    match format!(in alloc; "{error}") {
+        Ok(text) => if error.use_stderr() {
+            WordsAnswered::Refused(text)
+        } else {
+            WordsAnswered::Shown(text)
+        },
+        Err(_) => WordsAnswered::Memory,
+    }
+}
+
+fn order_of<'a>(alloc: Global, matches: &ArgMatches<'a>) -> Result<Order<'a>, WordsAnswered> {
+    match matches.subcommand() {
+        Some((name, inner)) => order_called(alloc, name, inner),
+        None => refused(alloc, NO_COMMAND),
+    }
+}
+
+// Words that are refused, with what is wrong.
+fn refused<'a>(alloc: Global, words: &str) -> Result<Order<'a>, WordsAnswered>
+    ensures { IfOk result (λ order. ⊥) }
+{
+    match String::from_str(alloc, words) {
+        Ok(text) => Err(WordsAnswered::Refused(text)),
+        Err(_) => Err(WordsAnswered::Memory),
+    }
+}
+
+fn order_called<'a>(
+    alloc: Global,
+    name: &str,
+    matches: &ArgMatches<'a>,
+) -> Result<Order<'a>, WordsAnswered>
+    ensures { IfOk result (λ order. name_of order ≡ name.now) }
+{
+    match name {
+        "plan" => Ok(Order::Plan),
+        "explain" => explain(alloc, matches),
+        "lint" => Ok(Order::Lint {
+            before: matches.get_str("before"),
+        }),
+        "timetable" => Ok(Order::Timetable {
+            csv: matches.get_flag("csv"),
+        }),
+        "graph" => Ok(Order::Graph {
+            train: matches.get_str("train"),
+        }),
+        "layout" => Ok(Order::Layout {
+            table: table_in(matches),
+            at: matches.get_str("at"),
+        }),
+        _ => refused(alloc, NO_COMMAND),
+    }
+}
+
+// The table that is named, as it was written, or the first one.
+fn table_in<'a>(matches: &ArgMatches<'a>) -> &'a str {
+    matches.get_str("table").unwrap_or("0")
+}
+
+fn explain<'a>(alloc: Global, matches: &ArgMatches<'a>) -> Result<Order<'a>, WordsAnswered>
+    ensures { IfOk result (λ order. name_of order ≡ codes "explain") }
+{
+    match (matches.get_str("at"), matches.get_str("line")) {
+        (Some(at), _) => Ok(Order::ExplainState {
+            table: table_in(matches),
+            at,
+        }),
+        (None, Some(line)) => Ok(Order::ExplainLine { line }),
+        (None, None) => refused(
+            alloc,
+            "planner explain: it takes --at PLACES or --line LINE\n",
+        ),
+    }
+}

@@ -1,0 +1,21 @@
+# Completions of planner for bash.
+_planner() {
+  local word=${COMP_WORDS[COMP_CWORD]} options
+  if [ "$COMP_CWORD" -eq 1 ]; then
+    COMPREPLY=($(compgen -W "plan explain lint timetable graph layout --help --version" -- "$word"))
+    return
+  fi
+  if [ "${COMP_WORDS[COMP_CWORD-1]}" = --before ]; then
+    COMPREPLY=($(compgen -f -- "$word"))
+    return
+  fi
+  case ${COMP_WORDS[1]} in
+    explain) options="--at --table --line" ;;
+    lint) options="--before" ;;
+    timetable) options="--csv" ;;
+    graph) options="--train" ;;
+    layout) options="--at --table" ;;
+  esac
+  COMPREPLY=($(compgen -W "$options --help" -- "$word"))
+}
+complete -F _planner planner
