@@ -1,7 +1,7 @@
 // What the text of a plan says, before its names are known.
 use crate::{Numbers, Places, Subject};
 
-/// All entries of a plan. What is missing or has the wrong type is left out, and told as a fault.
+/// All entries of a plan. What is missing or has the wrong type is left out, and reported as a fault.
 #[derive(Drop)]
 pub struct Entries {
     pub lines: Vec<Chain>,

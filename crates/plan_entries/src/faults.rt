@@ -3,7 +3,7 @@ use crate::Place;
 use crate::source::Source;
 use std::alloc::{AllocError, Global};
 
-// How many faults are told.
+// How many faults are reported.
 const MOST: usize = 100;
 
 /// Something that is wrong with a plan: a line of its text, counted from 1, and what is wrong there.
@@ -64,12 +64,12 @@ impl<'a> Faults<'a> {
         self.list.is_empty()
     }
 
-    // Whether a fault has been told already.
+    // Whether a fault is in the list already.
     fn has(&self, line: u32, words: &str) -> bool {
         self.list.iter().any(|fault| fault.line == line && fault.words.as_str() == words)
     }
 
-    /// Adds a fault of an entry, with these words, at a name below one of its keys. One that has been told isn't told again.
+    /// Adds a fault of an entry, with these words, at a name below one of its keys. A fault is in the list once.
     pub fn tell(
         &mut self,
         subject: &Subject,

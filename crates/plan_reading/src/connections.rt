@@ -73,7 +73,7 @@ fn reached_place(
     Ok(place.unwrap_or(0))
 }
 
-// A connection of a table; what is wrong with it is told.
+// A connection of a table; what is wrong with it is reported.
 fn wait(
     alloc: Global,
     faults: &mut Faults,
@@ -114,7 +114,7 @@ fn wait(
     })
 }
 
-/// The connections of a table; what is wrong with them is told.
+/// The connections of a table; what is wrong with them is reported.
 pub(crate) fn waits(
     alloc: Global,
     faults: &mut Faults,

@@ -4,7 +4,7 @@ use plan_entries::{Entries, Faults, Place, Subject, ZoneEntry};
 use std::alloc::{AllocError, Global};
 
 const MOST_POINTS: usize = 512;
-// How many points are kept, so that those too many aren't told as unknown too.
+// How many points are kept, so that those too many aren't reported as unknown too.
 const KEPT_POINTS: usize = 4096;
 
 const MOST_LINKS: usize = 2048;
@@ -167,7 +167,7 @@ pub(crate) fn ground_of(
     Ok(found)
 }
 
-// The number of a zone; one that is out of range is told.
+// The number of a zone; one that is out of range is reported.
 fn zone_of(
     alloc: Global,
     faults: &mut Faults,

@@ -112,7 +112,7 @@ pub(crate) fn tell_of(
     faults.tell(subject, key, name, &[shown.as_str(), behind])
 }
 
-/// The number of the train of a name, if it is given; a name that no train has is told.
+/// The number of the train of a name, if it is given; a name that no train has is reported.
 pub(crate) fn train_of(
     alloc: Global,
     faults: &mut Faults,

@@ -83,7 +83,7 @@ fn read_table(alloc: Global, text: &str, table: &Table) -> Result<PlanRead, Allo
     Ok(PlanRead::Faults(all_faults(alloc, faults)?))
 }
 
-/// Reads a plan in TOML. All that is wrong with it is told, with lines and names.
+/// Reads a plan in TOML. All that is wrong with it is reported, with lines and names.
 ///
 /// The keys at the top are `lines` (lists of points, each linked to the next), `zones` (a table: the number of a zone, and
 /// its points; those in none are in zone 0), and the lists of tables `train`, `section`, `connection` and `table`. Points and

@@ -152,7 +152,7 @@ pub(crate) fn tell_nowhere(
     )
 }
 
-/// The place of a name on a train's route; a name that isn't one place is told.
+/// The place of a name on a train's route; a name that isn't one place is reported.
 pub(crate) fn place_of(
     alloc: Global,
     faults: &mut Faults,

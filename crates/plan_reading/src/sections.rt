@@ -19,7 +19,7 @@ const NOTHING: Holding = Holding {
     until: 0,
 };
 
-// The limit of a section; one that is out of range is told.
+// The limit of a section; one that is out of range is reported.
 fn limit_of(alloc: Global, faults: &mut Faults, entry: &SectionEntry) -> Result<u32, AllocError> {
     let Some(number) = entry.limit else {
         return Ok(MOST_LIMIT);
@@ -279,7 +279,7 @@ fn end_for<'a>(ends: &'a Option<Places>, train: &str) -> Option<&'a str> {
     }
 }
 
-// Where an end of a stretch is on a train's route; one that isn't a single place is told.
+// Where an end of a stretch is on a train's route; one that isn't a single place is reported.
 fn end_of(
     alloc: Global,
     faults: &mut Faults,
@@ -377,7 +377,7 @@ fn check_alone(
     Ok(())
 }
 
-// A section of a table; what is wrong with it is told.
+// A section of a table; what is wrong with it is reported.
 fn section(
     alloc: Global,
     faults: &mut Faults,
@@ -397,7 +397,7 @@ fn section(
     Ok(section)
 }
 
-/// The sections of a table; what is wrong with them is told.
+/// The sections of a table; what is wrong with them is reported.
 pub(crate) fn sections(
     alloc: Global,
     faults: &mut Faults,

@@ -42,7 +42,7 @@ fn connections_of<'e>(entries: &'e Entries, own: Option<&'e TableEntry>) -> &'e 
     entries.connections.as_slice()
 }
 
-// After how many moves a table is due; a number that is out of range is told.
+// After how many moves a table is due; a number that is out of range is reported.
 fn after_of(
     alloc: Global,
     faults: &mut Faults,
@@ -66,7 +66,7 @@ fn after_of(
     }
 }
 
-// The plan of a table; what is wrong with it is told.
+// The plan of a table; what is wrong with it is reported.
 fn table_plan(
     alloc: Global,
     faults: &mut Faults,
@@ -125,7 +125,7 @@ fn further_tables(
     Ok(())
 }
 
-// Where the trains start, under the first table; what is wrong with it is told.
+// Where the trains start, under the first table; what is wrong with it is reported.
 fn starts_of(
     alloc: Global,
     faults: &mut Faults,
@@ -180,7 +180,7 @@ fn zoned(
     Ok(found)
 }
 
-/// The plan that entries make; what is wrong with it is told.
+/// The plan that entries make; what is wrong with it is reported.
 pub(crate) fn plan_of(
     alloc: Global,
     faults: &mut Faults,

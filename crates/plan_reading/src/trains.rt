@@ -262,7 +262,7 @@ fn check_service(
     }
 }
 
-/// What a table says of the trains; what is wrong with it is told.
+/// What a table says of the trains; what is wrong with it is reported.
 pub(crate) fn missions_of(
     alloc: Global,
     faults: &mut Faults,

@@ -43,7 +43,7 @@ pub(crate) fn line(alloc: Global, input: &[u8], line: &str) -> Result<Answer, Al
     Ok(answer_of(explain_line(alloc, input, line)?))
 }
 
-// An explanation as an answer: what explains nothing tells what is wrong.
+// An explanation as an answer: what explains nothing says what is wrong.
 fn answer_of(explained: Explained) -> Answer
     ensures { IfText (Tells explained) result }
 {

@@ -1,4 +1,4 @@
--- What is told of a line, where it names a state.
+-- What a line that names a state is explained with.
 use Rattle.std.proofs.Common.{ℕ, List}
 use Rattle.std.specs.Prelude.{Result, Ok, Err, IfOk}
 use Rattle.refusal_sentences.specs.Explains.{ExplainsState}

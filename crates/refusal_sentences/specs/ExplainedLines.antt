@@ -1,11 +1,11 @@
--- What an explanation tells of a line of ats.
+-- How a line of ats is explained.
 use Rattle.std.specs.Prelude.{ℕ, List}
 use Rattle.refusal_sentences.specs.Explains.{ExplainsState}
 use Rattle.refusal_sentences.specs.StateLines.{NamesState, IsLineOf}
 use Rattle.refusal_sentences.specs.declared.explained.Explained.{Explained}
 use Rattle.refusal_sentences.specs.declared.explained.Explained.TheVariants.{State, Refusal, NotLegal, NoTable, NoDocument, NoLine}
 
--- The line names positions of a table, and this is what is told of them.
+-- The line names positions of a table, and this explains them.
 pub record ExplainsItsState (bytes line : List ℕ) (told : Explained) : Type 0 where
   pub words : List ℕ
   pub table : ℕ
@@ -14,7 +14,7 @@ pub record ExplainsItsState (bytes line : List ℕ) (told : Explained) : Type 0 
   pub names : NamesState words table places
   pub explains : ExplainsState bytes table places told
 
--- What is told of a line, where it is told of a state: of the one that the line names.
+-- Where a state is explained, it is the one that the line names.
 abbrev pub ExplainsLine : List ℕ → List ℕ → Explained → Type 0
 ExplainsLine bytes line (State text) = ExplainsItsState bytes line (State text)
 ExplainsLine bytes line (NotLegal cause text) = ExplainsItsState bytes line (NotLegal cause text)

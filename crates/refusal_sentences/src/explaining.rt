@@ -1,4 +1,4 @@
-// What is told of a line of `ats`.
+// What a line of `ats` is explained with.
 ghost use Rattle.std.specs.Prelude.{IfOk};
 ghost use Rattle.refusal_sentences.specs.ExplainedLines.{ExplainsLine};
 ghost use Rattle.refusal_sentences.specs.StateLines.{IsLineOf};
@@ -19,7 +19,7 @@ fn words_of(line: &str) -> &str
 }
 
 /// What a line of `ats` says of a document. The line may begin with `ats: ` or with its number. One that names a state
-/// is explained as [`explain_state`] does it; of any other it is told what it means, where, and what to do about it.
+/// is explained as [`explain_state`] does it; of any other it says what it means, where, and what to do about it.
 pub fn explain_line(alloc: Global, bytes: &[u8], line: &str) -> Result<Explained, AllocError>
     ensures { IfOk result (ExplainsLine bytes.now line.now) }
 {

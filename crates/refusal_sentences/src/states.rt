@@ -1,4 +1,4 @@
-// What is told of a state of a document.
+// How a state of a document is explained.
 ghost use Rattle.std.specs.Prelude.{◌≡◌, ◌<◌, IfOk, IfErr, Err, OnOk, length, string_bytes};
 ghost use Rattle.rail_model.specs.State.{Legal};
 ghost use Rattle.legal_state.specs.Illegal.{IsIllegal};
@@ -16,7 +16,7 @@ use rail_model::State;
 use state_sentences::{Scene, text_of};
 use std::alloc::{AllocError, Global};
 
-// What is told of positions under a table that the document has.
+// How positions are explained under a table that the document has.
 fn explain_positions(
     alloc: Global,
     bytes: &[u8],
@@ -46,7 +46,7 @@ fn explain_positions(
     }
 }
 
-// What is told of positions under a table.
+// How positions are explained under a table.
 fn explain_table(
     alloc: Global,
     bytes: &[u8],

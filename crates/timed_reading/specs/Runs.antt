@@ -19,7 +19,7 @@ use Rattle.timed_reading.specs.declared.ticks.Timed.{Timed}
 abbrev pub line_of : Timed → Line
 line_of t = t.line
 
--- the step that a line tells in a state, with the time of the train's step from its place in the table in force
+-- the step of a line in a state, with the time of the train's step from its place in the table in force
 abbrev pub told_step : List (List (List ℕ)) → Yard → ℕ → Line → List Step
 told_step times y tick (Move i from to) =
     record { tick = tick; train = i; from = from; to = to; takes = time times y.table i (place y.positions i) } ∷ []

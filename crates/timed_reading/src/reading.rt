@@ -24,7 +24,7 @@ pub enum Timed {
     Fault(String),
 }
 
-/// The document of an input, and the run that its journal tells: the input is a document, a line `journal`, and what
+/// The document of an input, and the run that its journal gives: the input is a document, a line `journal`, and what
 /// `ats sim` wrote. A line that doesn't fit the document is refused: another point, a train that is at the end of its
 /// way, a table that isn't the next one, a tick that falls. Whether a move may be made isn't tested, as `ats verify`
 /// does.
@@ -48,7 +48,7 @@ pub fn timed_run(alloc: Global, input: &[u8]) -> Result<Timed, AllocError>
     }
 }
 
-// The run that a journal tells of a document.
+// The run of a document that a journal gives.
 fn run_of(alloc: Global, doc: &Doc, journal: &[u8]) -> Result<Run, Fault>
     ensures { IfOk result (λ run. IsRunOf doc.now run) }
 {

@@ -90,7 +90,7 @@ pub(crate) fn steps_in(alloc: Global, doc: &Doc, lines: &[Timed]) -> Result<Vec<
     Ok(made)
 }
 
-// Adds the step that a line tells, if it tells one.
+// Adds the step of a line, if it is a move.
 fn push_step(
     made: &mut Vec<Step>,
     times: &Times,
