@@ -115,6 +115,7 @@ fn add_all(remarks: &mut Remarks, bytes: &[u8]) -> Result<Option<Doc>, AllocErro
 /// What a document says that has no effect or is likely a mistake; and if `ats` refuses it, why.
 pub fn lint(alloc: Global, bytes: &[u8]) -> Result<Vec<Remark>, AllocError> {
     let mut remarks = Remarks::new(alloc);
+    // Only the remarks are wanted, not the document.
     let _doc = add_all(&mut remarks, bytes)?;
     Ok(remarks.into_vec())
 }

@@ -214,6 +214,7 @@ fn section_in(
     subject: Subject,
     table: &Table,
 ) -> Result<SectionEntry, AllocError> {
+    // The name serves messages alone, which find it by themselves: here it is read for its type.
     let _name = text_at(alloc, faults, &subject, table, "name")?;
     let limit = needed_number(faults, &subject, table, "limit")?;
     let points = names_at(alloc, faults, &subject, table, "points")?;
