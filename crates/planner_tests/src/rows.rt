@@ -15,9 +15,9 @@ pub(crate) fn play_all(rt: &impl Abort, alloc: Global, rows: &str) -> Result<(),
 
 fn play(rt: &impl Abort, alloc: Global, row: &str) -> Result<(), Fail> {
     let (line, rest) = row.split_once("\n").ok_or("words")?;
-    let (input, says) = rest.split_once("----\n").ok_or("an answer")?;
+    let (input, says) = rest.split_once("----").ok_or("an answer")?;
     let said = answer(alloc, line, input)?;
-    assert_eq!(rt; said.as_str().trim_end(), says.trim_end());
+    assert_eq!(rt; said.as_str().trim_end(), says.trim());
     Ok(())
 }
 
