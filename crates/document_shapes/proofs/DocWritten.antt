@@ -4,8 +4,9 @@ use Rattle.std.specs.List.{AllZip}
 use Rattle.std.proofs.lemmas.Bool.Decides.{nat_tests}
 use Rattle.std.proofs.lemmas.List.Elements.{All-head, All-tail}
 use Rattle.rail_model.specs.Turns.{in_turn}
-use Rattle.serde_json.specs.Data.{Data, string, object, Members, no_members, member, put}
+use Rattle.serde_json.specs.Data.{Data, string, object, Members, no_members, member}
 use Rattle.serde_json.specs.View.{items_of}
+use Rattle.document_shapes.specs.Added.{tokens_of}
 use Rattle.document_shapes.specs.Each.{each_from}
 use Rattle.document_shapes.specs.Members.{need}
 use Rattle.document_shapes.specs.Raw.{DocMembers as RawDoc, TableMembers as RawTable, IsRead, IsOfVersion, table_members, doc_members, known_version}
@@ -95,24 +96,8 @@ module _ (d : DocMembers) where
       let trains = names-seen d.trains in
       λ i. object (listed (links i) (points i) (put_numbers d.start) (tables-seen i) (trains i) d.version d.zones)
 
-  -- the members put in one after another
-  pub doc-value : (m0 m1 m2 m3 m4 m5 m6 m7 : Members) → m0 ≡ no_members
-      → m1 ≡ put (codes "zones") (whole_data d.zones) m0
-      → m2 ≡ put (codes "version") (whole_data d.version) m1
-      → m3 ≡ put (codes "trains") (put_names d.trains) m2
-      → m4 ≡ put (codes "tables") (put_tables d.tables) m3
-      → m5 ≡ put (codes "start") (put_numbers d.start) m4
-      → m6 ≡ put (codes "points") (put_points d.points) m5
-      → m7 ≡ put (codes "links") (put_links d.links) m6
-      → object m7 ≡ doc_data seen
-  doc-value m0 m1 m2 m3 m4 m5 m6 m7 e0 e1 e2 e3 e4 e5 e6 e7 =
-      let zones = e1 ∙ ap (put (codes "zones") (whole_data d.zones)) e0 in
-      let version = e2 ∙ ap (put (codes "version") (whole_data d.version)) zones in
-      let trains = e3 ∙ ap (put (codes "trains") (put_names d.trains)) version in
-      let tables = e4 ∙ ap (put (codes "tables") (put_tables d.tables)) trains in
-      let start = e5 ∙ ap (put (codes "start") (put_numbers d.start)) tables in
-      let points = e6 ∙ ap (put (codes "points") (put_points d.points)) start in
-      ap object (e7 ∙ ap (put (codes "links") (put_links d.links)) points) ∙ doc-seen
+  pub doc-tokens : tokens_of (object all_members) ≡ tokens_of (doc_data seen)
+  doc-tokens = ap tokens_of doc-seen
 
   module _
       (zones : ReadsBack whole_data 0 (λ e n. whole e ≡ Some n) d.zones)
@@ -122,16 +107,16 @@ module _ (d : DocMembers) where
       (start : ReadsBack put_numbers 1 (λ e v. ReadsList (λ f n. whole f ≡ Some n) e v.items) d.start)
       (points : ReadsBack put_points 2 (λ e v. ReadsList (λ f p. ReadsPair (λ g s. text g ≡ Some (string_bytes s)) (λ g n. whole g ≡ Some n) f p) e v.items) d.points)
       (links : ReadsBack put_links 2 (λ e v. ReadsList (λ f p. ReadsPair (λ g s. text g ≡ Some (string_bytes s)) (λ g s. text g ≡ Some (string_bytes s)) f p) e v.items) d.links) where
-    pub doc-plain : IsPlain 7 (doc_data seen)
+    doc-plain : IsPlain 7 (doc_data seen)
     doc-plain =
-        let from_zones = plain-member 6 (codes "zones") (whole_data d.zones) no_members (plain-within 0 6 (whole_data d.zones) (omega arith) zones.plain) (plain-no_members 6) in
-        let from_version = plain-member 6 (codes "version") (whole_data d.version) _ (plain-within 0 6 (whole_data d.version) (omega arith) version.plain) from_zones in
-        let from_trains = plain-member 6 (codes "trains") (put_names d.trains) _ (plain-within 1 6 (put_names d.trains) (omega arith) trains.plain) from_version in
-        let from_tables = plain-member 6 (codes "tables") (put_tables d.tables) _ tables.plain from_trains in
-        let from_start = plain-member 6 (codes "start") (put_numbers d.start) _ (plain-within 1 6 (put_numbers d.start) (omega arith) start.plain) from_tables in
-        let from_points = plain-member 6 (codes "points") (put_points d.points) _ (plain-within 2 6 (put_points d.points) (omega arith) points.plain) from_start in
-        let all = plain-member 6 (codes "links") (put_links d.links) _ (plain-within 2 6 (put_links d.links) (omega arith) links.plain) from_points in
-        subst (IsPlain 7) doc-seen (plain-object 6 _ all)
+        let with_zones = plain-member 6 (codes "zones") (codes "~") refl (whole_data d.zones) no_members (plain-within 0 6 (whole_data d.zones) (omega arith) zones.plain) (plain-no_members 6 (codes "~")) in
+        let with_version = plain-member 6 (codes "version") (codes "zones") refl (whole_data d.version) _ (plain-within 0 6 (whole_data d.version) (omega arith) version.plain) with_zones in
+        let with_trains = plain-member 6 (codes "trains") (codes "version") refl (put_names d.trains) _ (plain-within 1 6 (put_names d.trains) (omega arith) trains.plain) with_version in
+        let with_tables = plain-member 6 (codes "tables") (codes "trains") refl (put_tables d.tables) _ tables.plain with_trains in
+        let with_start = plain-member 6 (codes "start") (codes "tables") refl (put_numbers d.start) _ (plain-within 1 6 (put_numbers d.start) (omega arith) start.plain) with_tables in
+        let with_points = plain-member 6 (codes "points") (codes "start") refl (put_points d.points) _ (plain-within 2 6 (put_points d.points) (omega arith) points.plain) with_start in
+        let with_links = plain-member 6 (codes "links") (codes "points") refl (put_links d.links) _ (plain-within 2 6 (put_links d.links) (omega arith) links.plain) with_points in
+        subst (IsPlain 7) doc-seen (plain-object 6 (codes "links") _ with_links)
 
     known : (n : ℕ) → 1 ≤ n → n ≤ 3 → known_version n ≡ Ok n
     known n low high = grind (arith, nat_tests)
@@ -141,7 +126,6 @@ module _ (d : DocMembers) where
         needed-back None names.Tables (list_of shape.object) all_members (put_tables d.tables) (map table_data seen.tables) refl
         (ap (list_of shape.object) tables-seen ∙ tables_are_objects seen.tables)
 
-    -- the document reads back
     doc-back : IsRead seen → doc_members (object all_members) ≡ Ok seen
     doc-back read =
         let ms = all_members in
@@ -155,5 +139,6 @@ module _ (d : DocMembers) where
         (needed-back None names.Start (list_of whole) ms (put_numbers d.start) seen.start refl ((agrees-items agrees-whole).reads (put_numbers d.start) d.start start.back))
         (ap (λ r. in_turn r (each_from (table_members d.version) 0)) table_objects ∙ tables-back d.version 0 d.tables.items tables.back read.tables)
 
-    pub doc-read : IsRead seen → doc_members (doc_data seen) ≡ Ok seen
-    doc-read read = ap doc_members (sym doc-seen) ∙ doc-back read
+    -- the document reads back
+    pub doc-reads_back : ReadsBack (λ u. doc_data (seen_document u)) 7 (λ e u. IsRead (seen_document u) → doc_members e ≡ Ok (seen_document u)) d
+    doc-reads_back = record { plain = doc-plain; back = λ read. ap doc_members (sym doc-seen) ∙ doc-back read }

@@ -8,14 +8,15 @@ pub mod ObjectLemmas
 pub mod EachLemmas
 pub mod InTurn
 pub mod Versions
+pub mod MemberOrder
 pub mod PlainLemmas
 pub mod BackLemmas
 pub mod Trailing
+pub mod AddedLemmas
 pub mod ListWritten
 pub mod PartsBack
 pub mod SeenLemmas
 pub mod TableOrder
-pub mod MemberOrder
 pub mod TableWritten
 pub mod TableValue
 pub mod DocWritten

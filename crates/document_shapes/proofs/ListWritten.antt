@@ -1,23 +1,34 @@
--- The values of a list, made in turn.
-use Rattle.std.proofs.Common.{◌≡◌, ℕ, ◌+◌, ◌<◌, List, [], ◌∷◌, ◌++◌, length, take, get_or, map, All, sym, ap, ap₂, ◌∙◌, subst}
-use Rattle.std.proofs.lemmas.List.{take_more, map-append}
+-- The tokens of a list, written in turn.
+use Rattle.std.proofs.Common.{◌≡◌, ℕ, ◌+◌, ◌<◌, ◌≤◌, List, [], ◌∷◌, ◌++◌, length, take, get_or, take_all, All, Result, OnOk, sym, ap, ◌∙◌, subst}
+use Rattle.std.specs.List.{flat_map}
+use Rattle.std.proofs.lemmas.List.{take_more, flat_map_more}
 use Rattle.std.proofs.lemmas.List.Elements.{All-more}
+use Rattle.json.specs.Token.{Token, begin_array, end_array}
+use Rattle.json.specs.Written.{Written, Writes}
 use Rattle.serde_json.specs.Data.{Data}
-use Rattle.serde_json.specs.View.{view}
-use Rattle.serde_json.specs.declared.value.Value.{Value}
+use Rattle.document_shapes.specs.Added.{Adds, tokens_of}
 use Rattle.document_shapes.specs.ReadsBack.{ReadsBack}
+use Rattle.document_shapes.specs.Written.{list_data}
+use Rattle.document_shapes.proofs.AddedLemmas.{adds-more, adds-last, list-tokens}
 
--- the values made of the items below i
-pub record WrittenTo {X : Type 0} (put : X → Data) (levels : ℕ) (R : Data → X → Type 0) (xs : List X) (vs : List Value) (i : ℕ) : Type 0 where
-  pub values : map view vs ≡ map put (take i xs)
+-- The list is begun, with the items below i.
+pub record WrittenTo {X : Type 0} (put : X → Data) (levels : ℕ) (R : Data → X → Type 0) (xs : List X) (old new : Written) (i : ℕ) : Type 0 where
+  pub tokens : Adds (begin_array ∷ flat_map (λ x. tokens_of (put x)) (take i xs)) old new
   pub back : All (ReadsBack put levels R) (take i xs)
 
 module _ {X : Type 0} (put : X → Data) (levels : ℕ) (R : Data → X → Type 0) (xs : List X) where
-  pub write_push : (old new : List Value) (i : ℕ) (x : X) (v : Value) → i < length xs → x ≡ get_or xs i x → view v ≡ put x → ReadsBack put levels R x → new ≡ old ++ v ∷ []
-      → WrittenTo put levels R xs old i → WrittenTo put levels R xs new (i + 1)
-  write_push old new i x v lt item value back added h = record {
-    values =
-        ap (map view) added ∙ map-append view old (v ∷ []) ∙ ap₂ (λ ds d. ds ++ d ∷ []) h.values (value ∙ ap put item)
-        ∙ sym (ap (map put) (take_more xs i x lt) ∙ map-append put (take i xs) (get_or xs i x ∷ []));
-    back = All-more (ReadsBack put levels R) xs i x lt h.back (subst (ReadsBack put levels R) item back);
-  }
+  pub write_item : (old mid new : Written) (i : ℕ) (x : X) → i < length xs → x ≡ get_or xs i x → Adds (tokens_of (put x)) mid new → ReadsBack put levels R x
+      → WrittenTo put levels R xs old mid i → WrittenTo put levels R xs old new (i + 1)
+  write_item old mid new i x lt item added back h =
+      let f : X → List Token = λ y. tokens_of (put y) in
+      let all = flat_map_more f (begin_array ∷ []) (take i xs) x ∙ ap (λ ys. begin_array ∷ flat_map f (take i xs ++ ys)) (ap (λ y. y ∷ []) item) ∙ ap (λ ys. begin_array ∷ flat_map f ys) (sym (take_more xs i x lt)) in
+      record {
+        tokens = subst (λ ts. Adds ts old new) all (adds-more (begin_array ∷ flat_map f (take i xs)) (tokens_of (put x)) old mid new h.tokens added);
+        back = All-more (ReadsBack put levels R) xs i x lt h.back (subst (ReadsBack put levels R) item back);
+      }
+
+  pub write_end : {E : Type 0} (old mid new : Written) (i : ℕ) (r : Result (Unit {0}) E) → length xs ≤ i → Writes r mid new end_array → WrittenTo put levels R xs old mid i
+      → OnOk r (Adds (tokens_of (list_data put xs)) old new)
+  write_end old mid new i r past wrote h =
+      let all = ap (λ ys. (begin_array ∷ flat_map (λ x. tokens_of (put x)) ys) ++ end_array ∷ []) (take_all i xs past) ∙ list-tokens put xs in
+      subst (λ ts. OnOk r (Adds ts old new)) all (adds-last (begin_array ∷ flat_map (λ x. tokens_of (put x)) (take i xs)) end_array old mid new r wrote h.tokens)

@@ -1,48 +1,61 @@
--- Members that are put in from the last name to the first stand in the order of their names.
-use Rattle.std.proofs.Common.{◌≡◌, ℕ, List, codes, Option, Some, None, Less, refl, ap, ◌∙◌}
-use Rattle.std.specs.Ordering.{nat_cmp}
+-- Members in the order of their names are read one after another.
+use Rattle.std.proofs.Common.{◌≡◌, ℕ, List, Some, Less, Greater, refl, sym, ap, ◌∙◌}
+use Rattle.std.specs.Prelude.{⊤, option_and_then}
+use Rattle.std.specs.Ordering.{nat_cmp, ordering_reverse}
 use Rattle.std.specs.Cmp.Lexicographic.{slice_cmp}
+use Rattle.std.proofs.lemmas.Cmp.{nat_list_cmp_total}
 use Rattle.serde_json.specs.Data.{Data, Members, no_members, member, put}
-use Rattle.document_shapes.specs.Written.{given_put, given_member}
-use Rattle.document_shapes.proofs.TableOrder.{Standing, from_times, from_sections, from_missions, from_exits, from_connections, from_certificate, all_members}
+use Rattle.serde_json.specs.Read.{of_json, of_members}
+use Rattle.serde_json.specs.Written.{outline, members_outline}
 
--- The name comes before those of the members.
-abbrev IsBefore : List ℕ → Members → Type 0
-IsBefore name no_members = Unit {0}
-IsBefore name (member k d ms) = slice_cmp nat_cmp name k ≡ Less
+abbrev pub Precedes : List ℕ → List ℕ → Type 0
+Precedes k l = slice_cmp nat_cmp k l ≡ Less
 
-put-before : (name : List ℕ) (d : Data) (ms : Members) → IsBefore name ms → put name d ms ≡ member name d ms
-put-before name d no_members h = refl
-put-before name d (member k e ms) h = rw h refl
+-- The name comes after those of the members.
+abbrev pub IsAfter : List ℕ → Members → Type 0
+IsAfter name no_members = ⊤
+IsAfter name (member k d ms) = Precedes k name × IsAfter name ms
 
-given-before : (name : List ℕ) (o : Option Data) (ms : Members) → IsBefore name ms → given_put name o ms ≡ given_member name o ms
-given-before name None ms h = refl
-given-before name (Some d) ms h = put-before name d ms h
+abbrev pub followed : Members → Members → Members
+followed no_members later = later
+followed (member k d ms) later = member k d (followed ms later)
 
-before-given : (name k : List ℕ) (o : Option Data) (ms : Members) → slice_cmp nat_cmp name k ≡ Less → IsBefore name ms → IsBefore name (given_member k o ms)
-before-given name k None ms less rest = rest
-before-given name k (Some d) ms less rest = less
+followed-none : (ms : Members) → followed ms no_members ≡ ms
+followed-none no_members = refl
+followed-none (member k d ms) = ap (member k d) (followed-none ms)
 
--- one more member, before those that are in order
-one-before : (name : List ℕ) (o : Option Data) (ms sorted : Members) → ms ≡ sorted → IsBefore name sorted → given_put name o ms ≡ given_member name o sorted
-one-before name o ms sorted same before = ap (given_put name o) same ∙ given-before name o sorted before
+followed-member : (found : Members) (name : List ℕ) (d : Data) (ms : Members) → followed (followed found (member name d no_members)) ms ≡ followed found (member name d ms)
+followed-member no_members name d ms = refl
+followed-member (member k e found) name d ms = ap (member k e) (followed-member found name d ms)
 
-module _ (s : Standing) where
-  -- a table's members
-  pub table-in_order :
-      given_put (codes "after") s.after (given_put (codes "certificate") s.certificate (given_put (codes "connections") s.connections (given_put (codes "exits") s.exits
-      (put (codes "missions") s.missions (given_put (codes "sections") s.sections (given_put (codes "times") s.times no_members))))))
-      ≡ all_members s
-  table-in_order =
-      let times = given-before (codes "times") s.times no_members tt in
-      let sections = one-before (codes "sections") s.sections _ (from_times s) times (before-given (codes "sections") (codes "times") s.times no_members refl tt) in
-      let missions = ap (put (codes "missions") s.missions) sections
-      ∙ put-before (codes "missions") s.missions (from_sections s)
-      (before-given (codes "missions") (codes "sections") s.sections (from_times s) refl (before-given (codes "missions") (codes "times") s.times no_members refl tt)) in
-      let exits = one-before (codes "exits") s.exits _ (from_missions s) missions refl in
-      let connections = one-before (codes "connections") s.connections _ (from_exits s) exits (before-given (codes "connections") (codes "exits") s.exits (from_missions s) refl refl) in
-      let certificate = one-before (codes "certificate") s.certificate _ (from_connections s) connections
-      (before-given (codes "certificate") (codes "connections") s.connections (from_exits s) refl (before-given (codes "certificate") (codes "exits") s.exits (from_missions s) refl refl)) in
-      one-before (codes "after") s.after _ (from_certificate s) certificate
-      (before-given (codes "after") (codes "certificate") s.certificate (from_connections s) refl
-      (before-given (codes "after") (codes "connections") s.connections (from_exits s) refl (before-given (codes "after") (codes "exits") s.exits (from_missions s) refl refl)))
+put-last : (name : List ℕ) (d : Data) (ms : Members) → IsAfter name ms → put name d ms ≡ followed ms (member name d no_members)
+put-last name d no_members h = refl
+put-last name d (member k e ms) h =
+    let above : slice_cmp nat_cmp name k ≡ Greater = nat_list_cmp_total.antisymm name k ∙ ap ordering_reverse h.0 in
+    rw above (ap (member k e) (put-last name d ms h.1))
+
+later-after : (k l : List ℕ) (ms : Members) → Precedes k l → IsAfter k ms → IsAfter l ms
+later-after k l no_members less h = tt
+later-after k l (member n d ms) less h = (nat_list_cmp_total.trans n k l h.0 less, later-after k l ms less h.1)
+
+after-last : (k l : List ℕ) (d : Data) (ms : Members) → Precedes k l → IsAfter k ms → IsAfter l (followed ms (member k d no_members))
+after-last k l d no_members less h = (less, tt)
+after-last k l d (member n e ms) less h = (nat_list_cmp_total.trans n k l h.0 less, after-last k l d ms less h.1)
+
+-- They are read as they stand, behind any members whose names come before this one.
+abbrev pub AreReadFrom : List ℕ → Members → Type 0
+AreReadFrom name ms = (found : Members) → IsAfter name found → of_members (members_outline ms) found ≡ Some (followed found ms)
+
+pub none-read : (name : List ℕ) → AreReadFrom name no_members
+none-read name found h = ap Some (sym (followed-none found))
+
+pub member-read : (name next : List ℕ) (d : Data) (ms : Members) → Precedes name next → of_json (outline d) ≡ Some d → AreReadFrom next ms → AreReadFrom name (member name d ms)
+member-read name next d ms less same rest found h =
+    ap (option_and_then (λ e. of_members (members_outline ms) (put name e found))) same
+    ∙ ap (of_members (members_outline ms)) (put-last name d found h)
+    ∙ rest (followed found (member name d no_members)) (after-last name next d found less h)
+    ∙ ap Some (followed-member found name d ms)
+
+-- nothing stands under the name
+pub skipped-read : (name next : List ℕ) (ms : Members) → Precedes name next → AreReadFrom next ms → AreReadFrom name ms
+skipped-read name next ms less rest found h = rest found (later-after name next found less h)

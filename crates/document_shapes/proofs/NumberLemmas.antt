@@ -1,9 +1,10 @@
 -- The numbers that decimal digits write.
-use Rattle.std.proofs.Common.{◌≡◌, ℕ, zero, suc, ◌-◌, ◌<◌, ◌≤◌, ◌^◌, ℤ, pos, negsuc, List, ◌∷◌, Option, Some, None, refl, ap, ◌∙◌, arith}
+use Rattle.std.proofs.Common.{◌≡◌, ℕ, zero, suc, ◌+◌, ◌-◌, ◌<◌, ◌≤◌, ◌^◌, pos, negsuc, List, [], ◌∷◌, length, slice_index_or, Option, Some, None, refl, sym, ap, ◌∙◌, arith}
 use Rattle.std.specs.Prelude.{neg_ℤ, ◌≤ℤ◌, option_and_then}
+use Rattle.std.proofs.lemmas.Fmt.{decimal_digit}
 use Rattle.std.proofs.lemmas.Int.{ints}
 use Rattle.decimal_number.specs.Decimal as decimal
-use Rattle.decimal_number.proofs.Numbers.{number_takes}
+use Rattle.decimal_number.proofs.Numbers.{number_takes, number_of-decimal as word_of-decimal}
 use Rattle.serde_json.specs.Data.{Num, number, unsigned, negative}
 use Rattle.serde_json.specs.Read.{number_of}
 use Rattle.serde_json.proofs.Numbers.{number_of-decimal, number_of-negative}
@@ -29,6 +30,16 @@ whole-number s n h = let t = number_takes s n h in ap number_of t.text ∙ numbe
 
 pub whole-read : (s : List ℕ) (n : ℕ) → decimal.number_of s ≡ Some n → number_read whole s ≡ Some n
 whole-read s n h = number_read-is whole s (unsigned n) (whole-number s n h) ∙ whole-back n (number_takes s n h).small
+
+-- a text of one digit
+pub digit-read : (s : List ℕ) (n : ℕ) → 1 ≤ length s → length s < 2 → n ≡ slice_index_or s 0 0 - 48 → 48 ≤ slice_index_or s 0 0 → slice_index_or s 0 0 < 58
+    → number_read whole s ≡ Some n
+digit-read [] n some few is low high = absurd (omega arith)
+digit-read (d ∷ []) n some few is low high =
+    let small : n < 10 = omega arith in
+    let same : d ≡ 48 + n = omega arith in
+    whole-read (d ∷ []) n (ap decimal.number_of (ap (λ x. x ∷ []) same ∙ sym (decimal_digit n small)) ∙ word_of-decimal n (omega arith))
+digit-read (d ∷ e ∷ ds) n some few is low high = absurd (omega arith)
 
 pub change-read : (s : List ℕ) (n : ℕ) → decimal.number_of s ≡ Some n → n < 2 ^ 31 → number_read change s ≡ Some (pos n)
 change-read s n h small =

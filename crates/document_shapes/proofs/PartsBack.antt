@@ -31,6 +31,6 @@ section-back s changes small = rw (whole-back s.limit small, changes) refl
 
 pub section-plain : (s : Section) → IsPlain 2 (list_data (list_data change_data) s.changes) → s.limit < 2 ^ 32 → IsPlain 3 (section_data s)
 section-plain s changes small =
-    plain-object 2 _
-    (plain-member 2 (codes "changes") (list_data (list_data change_data) s.changes) _ changes
-    (plain-member 2 (codes "limit") (whole_data s.limit) no_members (plain-within 0 2 (whole_data s.limit) (omega arith) (plain-whole s.limit small)) (plain-no_members 2)))
+    plain-object 2 (codes "changes") _
+    (plain-member 2 (codes "changes") (codes "limit") refl (list_data (list_data change_data) s.changes) _ changes
+    (plain-member 2 (codes "limit") (codes "~") refl (whole_data s.limit) no_members (plain-within 0 2 (whole_data s.limit) (omega arith) (plain-whole s.limit small)) (plain-no_members 2 (codes "~"))))

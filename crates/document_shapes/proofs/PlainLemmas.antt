@@ -1,18 +1,25 @@
 -- What is written is plain, shape by shape.
-use Rattle.std.proofs.Common.{◌≡◌, ℕ, ◌+◌, ◌<◌, ◌≤◌, ◌-◌, ◌^◌, ℤ, pos, negsuc, Bool, false, ◌||◌, List, [], ◌∷◌, map, All, refl, arith}
-use Rattle.std.specs.Prelude.{neg_ℤ, ◌≤ℤ◌}
+use Rattle.std.proofs.Common.{◌≡◌, ℕ, ◌+◌, ◌<◌, ◌≤◌, ◌-◌, ◌^◌, ℤ, pos, negsuc, List, [], ◌∷◌, map, All, Option, Some, None, refl, ap, ◌∙◌, arith}
+use Rattle.std.specs.Prelude.{neg_ℤ, ◌≤ℤ◌, MatchOption, ⊤, option_map, option_and_then}
 use Rattle.std.proofs.lemmas.Int.{ints}
 use Rattle.std.proofs.lemmas.List.Elements.{All-head, All-tail}
-use Rattle.json.specs.Tree.{ItemsHaveNumbers, MembersHaveNumbers}
+use Rattle.json.specs.Tree.{ItemsHaveNumbers, MembersHaveNumbers, items_depth, members_depth}
 use Rattle.json.proofs.Printed.Decimals.{IsNumber-decimal, IsNumber-signed_decimal}
-use Rattle.serde_json.specs.Data.{Data, array, object, Items, no_items, item, Members, no_members, member, items_depth, members_depth}
+use Rattle.serde_json.specs.Data.{Data, number, array, object, Items, no_items, item, Members, no_members, member}
+use Rattle.serde_json.specs.Read.{of_items}
 use Rattle.serde_json.specs.View.{items_of}
-use Rattle.serde_json.specs.Written.{items_outline, members_outline, has_float, items_have_float, members_have_float}
+use Rattle.serde_json.specs.Written.{items_outline, members_outline}
+use Rattle.serde_json.proofs.Numbers.{number_of-decimal, number_of-negative}
 use Rattle.document_shapes.specs.ReadsBack.{IsPlain}
-use Rattle.document_shapes.specs.Written.{whole_data, change_data, list_data}
+use Rattle.document_shapes.specs.Written.{whole_data, change_data, list_data, given_member}
+use Rattle.document_shapes.proofs.MemberOrder.{Precedes, AreReadFrom, none-read, member-read, skipped-read}
 
 pub plain-whole : (n : ℕ) → n < 2 ^ 32 → IsPlain 0 (whole_data n)
-plain-whole n small = record { numbers = IsNumber-decimal n (omega arith); whole = refl; deep = omega arith }
+plain-whole n small = record {
+  numbers = IsNumber-decimal n (omega arith);
+  same = ap (option_map number) (number_of-decimal n (omega arith));
+  deep = omega arith;
+}
 
 pub pos-small : (n : ℕ) → pos n ≤ℤ pos (2 ^ 31 - 1) → n < 2 ^ 31
 pos-small n high = grind (arith, ints, high)
@@ -21,52 +28,58 @@ pub negsuc-small : (n : ℕ) → neg_ℤ (pos (2 ^ 31)) ≤ℤ negsuc n → n < 
 negsuc-small n low = grind (arith, ints, low)
 
 pub plain-change : (z : ℤ) → neg_ℤ (pos (2 ^ 31)) ≤ℤ z → z ≤ℤ pos (2 ^ 31 - 1) → IsPlain 0 (change_data z)
-plain-change (pos n) low high = record { numbers = IsNumber-decimal n (omega (arith, pos-small n high)); whole = refl; deep = omega arith }
-plain-change (negsuc n) low high = record { numbers = IsNumber-signed_decimal (negsuc n) (omega (arith, negsuc-small n low)); whole = refl; deep = omega arith }
+plain-change (pos n) low high = plain-whole n (omega (arith, pos-small n high))
+plain-change (negsuc n) low high = record {
+  numbers = IsNumber-signed_decimal (negsuc n) (omega (arith, negsuc-small n low));
+  same = ap (option_map number) (number_of-negative n (omega (arith, negsuc-small n low)));
+  deep = omega arith;
+}
 
--- The same of items, and of members.
+-- The same of items, and of members, whose names begin with this one.
 pub record ItemsArePlain (levels : ℕ) (ds : Items) : Type 0 where
   pub numbers : ItemsHaveNumbers (items_outline ds)
-  pub whole : items_have_float ds ≡ false
-  pub deep : items_depth ds ≤ levels
+  pub same : of_items (items_outline ds) ≡ Some ds
+  pub deep : items_depth (items_outline ds) ≤ levels
 
-pub record MembersArePlain (levels : ℕ) (ms : Members) : Type 0 where
+pub record MembersArePlain (levels : ℕ) (name : List ℕ) (ms : Members) : Type 0 where
   pub numbers : MembersHaveNumbers (members_outline ms)
-  pub whole : members_have_float ms ≡ false
-  pub deep : members_depth ms ≤ levels
-
-neither : (a b : Bool) → a ≡ false → b ≡ false → (a || b) ≡ false
-neither a b p q = rw (p, q) refl
+  pub same : AreReadFrom name ms
+  pub deep : members_depth (members_outline ms) ≤ levels
 
 pub plain-no_items : (k : ℕ) → ItemsArePlain k no_items
-plain-no_items k = record { numbers = tt; whole = refl; deep = omega arith }
+plain-no_items k = record { numbers = tt; same = refl; deep = omega arith }
 
 pub plain-item : (k : ℕ) (d : Data) (ds : Items) → IsPlain k d → ItemsArePlain k ds → ItemsArePlain k (item d ds)
 plain-item k d ds first rest = record {
   numbers = (first.numbers, rest.numbers);
-  whole = neither (has_float d) (items_have_float ds) first.whole rest.whole;
+  same = ap (option_and_then (λ e. option_map (item e) (of_items (items_outline ds)))) first.same ∙ ap (option_map (item d)) rest.same;
   deep = let a = first.deep in let b = rest.deep in omega arith;
 }
 
 pub plain-array : (k : ℕ) (ds : Items) → ItemsArePlain k ds → IsPlain (k + 1) (array ds)
-plain-array k ds h = record { numbers = h.numbers; whole = h.whole; deep = let a = h.deep in omega arith }
+plain-array k ds h = record { numbers = h.numbers; same = ap (option_map array) h.same; deep = let a = h.deep in omega arith }
 
-pub plain-no_members : (k : ℕ) → MembersArePlain k no_members
-plain-no_members k = record { numbers = tt; whole = refl; deep = omega arith }
+pub plain-no_members : (k : ℕ) (name : List ℕ) → MembersArePlain k name no_members
+plain-no_members k name = record { numbers = tt; same = none-read name; deep = omega arith }
 
-pub plain-member : (k : ℕ) (name : List ℕ) (d : Data) (ms : Members) → IsPlain k d → MembersArePlain k ms → MembersArePlain k (member name d ms)
-plain-member k name d ms first rest = record {
-  numbers = (first.numbers, rest.numbers);
-  whole = neither (has_float d) (members_have_float ms) first.whole rest.whole;
-  deep = let a = first.deep in let b = rest.deep in omega arith;
-}
+module _ (k : ℕ) (name next : List ℕ) (before : Precedes name next) where
+  pub plain-member : (d : Data) (ms : Members) → IsPlain k d → MembersArePlain k next ms → MembersArePlain k name (member name d ms)
+  plain-member d ms first rest = record {
+    numbers = (first.numbers, rest.numbers);
+    same = member-read name next d ms before first.same rest.same;
+    deep = let a = first.deep in let b = rest.deep in omega arith;
+  }
 
-pub plain-object : (k : ℕ) (ms : Members) → MembersArePlain k ms → IsPlain (k + 1) (object ms)
-plain-object k ms h = record { numbers = h.numbers; whole = h.whole; deep = let a = h.deep in omega arith }
+  pub plain-given : (o : Option Data) (ms : Members) → MatchOption o ⊤ (IsPlain k) → MembersArePlain k next ms → MembersArePlain k name (given_member name o ms)
+  plain-given None ms h rest = record { numbers = rest.numbers; same = skipped-read name next ms before rest.same; deep = rest.deep }
+  plain-given (Some d) ms h rest = plain-member d ms h rest
+
+pub plain-object : (k : ℕ) (name : List ℕ) (ms : Members) → MembersArePlain k name ms → IsPlain (k + 1) (object ms)
+plain-object k name ms h = record { numbers = h.numbers; same = ap (option_map object) (h.same no_members tt); deep = let a = h.deep in omega arith }
 
 -- what nests less deep
 pub plain-within : (j k : ℕ) (d : Data) → j ≤ k → IsPlain j d → IsPlain k d
-plain-within j k d more h = record { numbers = h.numbers; whole = h.whole; deep = let a = h.deep in omega arith }
+plain-within j k d more h = record { numbers = h.numbers; same = h.same; deep = let a = h.deep in omega arith }
 
 items-plain : {A : Type 0} (k : ℕ) (put : A → Data) (xs : List A) → All (λ x. IsPlain k (put x)) xs → ItemsArePlain k (items_of (map put xs))
 items-plain k put [] h = plain-no_items k

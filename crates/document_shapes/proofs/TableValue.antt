@@ -1,9 +1,11 @@
 -- What stands for a table's members.
-use Rattle.std.proofs.Common.{◌≡◌, ℕ, ◌≤◌, Bool, List, map, codes, Option, Some, None, option_map, Ok, refl, sym, ap, ◌∙◌, arith, subst, Vec, String, Global, string_bytes}
+use Rattle.std.proofs.Common.{◌≡◌, ℕ, ◌≤◌, Bool, List, [], ◌∷◌, ◌++◌, map, codes, Option, Some, None, option_map, Ok, refl, sym, ap, ◌∙◌, arith, subst, Vec, String, Global, string_bytes}
 use Rattle.std.specs.Prelude.{MatchOption, ⊤}
 use Rattle.rail_model.specs.declared.types.Node.{Node}
 use Rattle.rail_model.specs.Table.{Connection}
-use Rattle.serde_json.specs.Data.{Data, boolean, string, object, Members, no_members, put}
+use Rattle.json.specs.Token.{begin_object, end_object}
+use Rattle.serde_json.specs.Data.{Data, boolean, string, object, no_members}
+use Rattle.document_shapes.specs.Added.{tokens_of, member_tokens, given_tokens}
 use Rattle.document_shapes.specs.Parts.{node, section, connection}
 use Rattle.document_shapes.specs.Raw.{IsOfVersion, table_members}
 use Rattle.document_shapes.specs.Readings.{ReadsList}
@@ -11,19 +13,19 @@ use Rattle.document_shapes.specs.ReadsBack.{IsPlain, ReadsBack}
 use Rattle.document_shapes.specs.Seen.{names_seen, seen_table}
 use Rattle.document_shapes.specs.SeenSection.{seen_section}
 use Rattle.document_shapes.specs.Shape.{whole, truth, text, list_of}
-use Rattle.document_shapes.specs.Written.{list_data, whole_data, node_data, section_data, connection_data, given_put, given_member, table_data}
+use Rattle.document_shapes.specs.Written.{list_data, whole_data, node_data, section_data, connection_data, table_data}
 use Rattle.document_shapes.specs.declared.parts.SectionMembers.{SectionMembers}
 use Rattle.document_shapes.specs.declared.table.TableMembers.{TableMembers}
 use Rattle.document_shapes.proofs.Agreement.{agrees-list, agrees-items, agrees-text, agrees-truth, agrees-section, agrees-connection, agrees-node, agrees-train_times}
-use Rattle.document_shapes.proofs.MemberOrder.{table-in_order}
-use Rattle.document_shapes.proofs.PlainLemmas.{MembersArePlain, plain-no_members, plain-member, plain-object, plain-within}
+use Rattle.document_shapes.proofs.AddedLemmas.{given-tokens}
+use Rattle.document_shapes.proofs.PlainLemmas.{plain-no_members, plain-member, plain-given, plain-object, plain-within}
 use Rattle.document_shapes.proofs.SeenLemmas.{list-seen, given-seen, given-reads, given-plain, put_names, names-seen}
-use Rattle.document_shapes.proofs.TableOrder.{Standing, all_members, standing_for}
+use Rattle.document_shapes.proofs.TableOrder.{Standing, from_times, from_missions, from_exits, from_connections, from_certificate, all_members, standing_for}
 use Rattle.document_shapes.proofs.TableWritten.{MembersRead, table-back}
 
-plain-given : (j k : ℕ) (name : List ℕ) (o : Option Data) (ms : Members) → j ≤ k → MatchOption o ⊤ (IsPlain j) → MembersArePlain k ms → MembersArePlain k (given_member name o ms)
-plain-given j k name None ms deep h rest = rest
-plain-given j k name (Some d) ms deep h rest = plain-member k name d ms (plain-within j k d deep h) rest
+given-within : (j k : ℕ) (o : Option Data) → j ≤ k → MatchOption o ⊤ (IsPlain j) → MatchOption o ⊤ (IsPlain k)
+given-within j k None deep h = tt
+given-within j k (Some d) deep h = plain-within j k d deep h
 
 -- what stands for the lists of a table
 abbrev put_missions : Vec (Vec (String Global) Global) Global → Data
@@ -84,25 +86,19 @@ module _ (t : TableMembers) where
   table-seen : object (all_members standing) ≡ table_data (seen_table t)
   table-seen = ap (λ s. object (all_members s)) standing-seen
 
-  -- the members put in one after another
-  pub table-value : (m0 m1 m2 m3 m4 m5 m6 m7 : Members) → m0 ≡ no_members
-      → m1 ≡ given_put (codes "times") standing.times m0
-      → m2 ≡ given_put (codes "sections") standing.sections m1
-      → m3 ≡ put (codes "missions") standing.missions m2
-      → m4 ≡ given_put (codes "exits") standing.exits m3
-      → m5 ≡ given_put (codes "connections") standing.connections m4
-      → m6 ≡ given_put (codes "certificate") standing.certificate m5
-      → m7 ≡ given_put (codes "after") standing.after m6
-      → object m7 ≡ table_data (seen_table t)
-  table-value m0 m1 m2 m3 m4 m5 m6 m7 e0 e1 e2 e3 e4 e5 e6 e7 =
-      let times = e1 ∙ ap (given_put (codes "times") standing.times) e0 in
-      let sections = e2 ∙ ap (given_put (codes "sections") standing.sections) times in
-      let missions = e3 ∙ ap (put (codes "missions") standing.missions) sections in
-      let exits = e4 ∙ ap (given_put (codes "exits") standing.exits) missions in
-      let connections = e5 ∙ ap (given_put (codes "connections") standing.connections) exits in
-      let certificate = e6 ∙ ap (given_put (codes "certificate") standing.certificate) connections in
-      let after = e7 ∙ ap (given_put (codes "after") standing.after) certificate in
-      ap object (after ∙ table-in_order standing) ∙ table-seen
+  -- the tokens of the members, one after another
+  pub table-tokens : begin_object ∷ (given_tokens (codes "after") standing.after ++ (given_tokens (codes "certificate") standing.certificate
+      ++ (given_tokens (codes "connections") standing.connections ++ (given_tokens (codes "exits") standing.exits ++ (member_tokens (codes "missions") standing.missions
+      ++ (given_tokens (codes "sections") standing.sections ++ (given_tokens (codes "times") standing.times ++ end_object ∷ []))))))) ≡ tokens_of (table_data (seen_table t))
+  table-tokens =
+      let s = standing in
+      let times = given-tokens (codes "times") s.times no_members in
+      let sections = ap (λ ts. given_tokens (codes "sections") s.sections ++ ts) times ∙ given-tokens (codes "sections") s.sections (from_times s) in
+      let exits = ap (λ ts. given_tokens (codes "exits") s.exits ++ (member_tokens (codes "missions") s.missions ++ ts)) sections ∙ given-tokens (codes "exits") s.exits (from_missions s) in
+      let connections = ap (λ ts. given_tokens (codes "connections") s.connections ++ ts) exits ∙ given-tokens (codes "connections") s.connections (from_exits s) in
+      let certificate = ap (λ ts. given_tokens (codes "certificate") s.certificate ++ ts) connections ∙ given-tokens (codes "certificate") s.certificate (from_connections s) in
+      let after = ap (λ ts. given_tokens (codes "after") s.after ++ ts) certificate ∙ given-tokens (codes "after") s.after (from_certificate s) in
+      ap (λ ts. begin_object ∷ ts) after ∙ ap tokens_of table-seen
 
   module _
       (missions : ReadsBack put_missions 2 (λ d v. ReadsList (λ e (w : Vec (String Global) Global). ReadsList (λ f s. text f ≡ Some (string_bytes s)) e w.items) d v.items) t.missions)
@@ -129,14 +125,21 @@ module _ (t : TableMembers) where
 
     table-plain : IsPlain 5 (table_data (seen_table t))
     table-plain =
-        let from_times = plain-given 2 4 (codes "times") standing.times no_members (omega arith) (given-plain put_times 2 _ t.times times) (plain-no_members 4) in
-        let from_sections = plain-given 4 4 (codes "sections") standing.sections _ (omega arith) (given-plain put_sections 4 _ t.sections sections) from_times in
-        let from_missions = plain-member 4 (codes "missions") standing.missions _ (plain-within 2 4 standing.missions (omega arith) missions.plain) from_sections in
-        let from_exits = plain-given 1 4 (codes "exits") standing.exits _ (omega arith) (given-plain put_exits 1 _ t.exits exits) from_missions in
-        let from_connections = plain-given 2 4 (codes "connections") standing.connections _ (omega arith) (given-plain put_connections 2 _ t.connections connections) from_exits in
-        let from_certificate = plain-given 2 4 (codes "certificate") standing.certificate _ (omega arith) (given-plain put_nodes 2 _ t.certificate certificate) from_connections in
-        let all = plain-given 0 4 (codes "after") standing.after _ (omega arith) (given-plain whole_data 0 _ t.after after) from_certificate in
-        subst (IsPlain 5) table-seen (plain-object 4 _ all)
+        let s = standing in
+        let of_times = given-within 2 4 s.times (omega arith) (given-plain put_times 2 _ t.times times) in
+        let of_sections = given-within 4 4 s.sections (omega arith) (given-plain put_sections 4 _ t.sections sections) in
+        let of_exits = given-within 1 4 s.exits (omega arith) (given-plain put_exits 1 _ t.exits exits) in
+        let of_connections = given-within 2 4 s.connections (omega arith) (given-plain put_connections 2 _ t.connections connections) in
+        let of_certificate = given-within 2 4 s.certificate (omega arith) (given-plain put_nodes 2 _ t.certificate certificate) in
+        let of_after = given-within 0 4 s.after (omega arith) (given-plain whole_data 0 _ t.after after) in
+        let with_times = plain-given 4 (codes "times") (codes "~") refl s.times no_members of_times (plain-no_members 4 (codes "~")) in
+        let with_sections = plain-given 4 (codes "sections") (codes "times") refl s.sections _ of_sections with_times in
+        let with_missions = plain-member 4 (codes "missions") (codes "sections") refl s.missions _ (plain-within 2 4 s.missions (omega arith) missions.plain) with_sections in
+        let with_exits = plain-given 4 (codes "exits") (codes "missions") refl s.exits _ of_exits with_missions in
+        let with_connections = plain-given 4 (codes "connections") (codes "exits") refl s.connections _ of_connections with_exits in
+        let with_certificate = plain-given 4 (codes "certificate") (codes "connections") refl s.certificate _ of_certificate with_connections in
+        let with_after = plain-given 4 (codes "after") (codes "certificate") refl s.after _ of_after with_certificate in
+        subst (IsPlain 5) table-seen (plain-object 4 (codes "after") _ with_after)
 
     -- the table reads back
     pub table-reads_back : ReadsBack (λ u. table_data (seen_table u)) 5

@@ -10,6 +10,7 @@ pub mod SeenSection
 pub mod Seen
 pub mod Written
 pub mod ReadsBack
+pub mod Added
 pub mod Taken
 pub mod SectionFound
 pub mod TableFound

@@ -1,6 +1,6 @@
 -- The text of a document: compact, its members in the byte order of their names, and a newline.
 use Rattle.std.specs.Prelude.{ℕ, ℤ, List, [], ◌∷◌, ◌++◌, codes, map, Option, Some, None, option_map}
-use Rattle.serde_json.specs.Data.{Data, boolean, number, string, array, object, unsigned, no_items, item, Members, no_members, member, put}
+use Rattle.serde_json.specs.Data.{Data, boolean, number, string, array, object, unsigned, no_items, item, Members, no_members, member}
 use Rattle.serde_json.specs.Find.{of_integer}
 use Rattle.serde_json.specs.View.{items_of}
 use Rattle.serde_json.specs.Written.{compact_text}
@@ -45,11 +45,6 @@ connection_data k = list_data whole_data (k.train ∷ k.place ∷ k.other ∷ k.
 abbrev pub given_member : List ℕ → Option Data → Members → Members
 given_member name None later = later
 given_member name (Some d) later = member name d later
-
--- a member put among others, where there is one
-abbrev pub given_put : List ℕ → Option Data → Members → Members
-given_put name None others = others
-given_put name (Some d) others = put name d others
 
 -- a table's members, in the byte order of their names
 abbrev pub table_data : TableMembers → Data

@@ -11,7 +11,7 @@ mod number_text;
 mod parts;
 mod refused;
 mod table;
-mod to_value;
+mod to_tokens;
 mod token_document;
 mod token_parts;
 mod token_table;

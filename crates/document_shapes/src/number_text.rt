@@ -7,7 +7,11 @@ ghost use Rattle.document_shapes.specs.Taken.{number_read};
 pub(crate) fn whole_of(text: &str) -> Option<u32>
     ensures { IfSome result (λ n. number_read shape.whole text.now ≡ Some n) }
 {
-    decimal_number::number_of(text.as_bytes())
+    match text.as_bytes() {
+        // Most numbers have one digit.
+        &[digit @ b'0'..=b'9'] => Some(u32::from(digit - b'0')),
+        digits => decimal_number::number_of(digits),
+    }
 }
 
 /// The integer from -2,147,483,647 to 2,147,483,647 that the text is, where it is written in digits, perhaps after a

@@ -1,52 +1,48 @@
 // The text of a document.
 ghost use Rattle.std.specs.Prelude.{◌≡◌, ℕ, IfOk, OnOk, Ok, MatchOption, option_map, ⊤};
-ghost use Rattle.serde_json.specs.Data.{object, put};
-ghost use Rattle.serde_json.specs.View.{view, members_view};
+ghost use Rattle.document_shapes.specs.Added.{Adds, member_tokens, given_tokens};
 ghost use Rattle.document_shapes.specs.Members.{name_of};
 ghost use Rattle.document_shapes.specs.Raw.{table_members, doc_members, members_of, IsOfVersion, IsRead};
-ghost use Rattle.document_shapes.specs.ReadsBack.{IsPlain, ReadsBack};
+ghost use Rattle.document_shapes.specs.ReadsBack.{ReadsBack};
 ghost use Rattle.document_shapes.specs.Seen.{seen_document, seen_table};
-ghost use Rattle.document_shapes.specs.Written.{table_data, doc_data, given_put, text_of};
+ghost use Rattle.document_shapes.specs.Written.{table_data, doc_data, text_of};
 
-use crate::to_value::ToValue;
+use crate::to_tokens::{ToTokens, write_named};
 use crate::{DocMembers, Member, TableMembers};
-use serde_json::{Map, Value};
+use json::Writer;
 use std::alloc::{AllocError, Global};
 
-// Puts a member among others.
-fn put_member<T: ToValue>(
-    map: &mut Map<String, Value>,
-    alloc: Global,
+// Writes a member of an object.
+fn write_member<T: ToTokens>(
+    writer: &mut Writer,
     member: Member,
     item: &T,
 ) -> Result<(), AllocError>
-    ensures members { OnOk result (members_view map.new.entries
-        ≡ put (name_of member) (T.ToValue.stands item.now) (members_view map.old.entries)) }
-    ensures back { OnOk result (ReadsBack T.ToValue.stands T.ToValue.levels T.ToValue.reads item.now) }
+    ensures tokens { OnOk result
+        (Adds (member_tokens (name_of member) (T.ToTokens.stands item.now)) writer.old writer.new) }
+    ensures back { OnOk result (ReadsBack T.ToTokens.stands T.ToTokens.levels T.ToTokens.reads item.now) }
 {
-    let value = item.to_value(alloc)?;
-    serde_json::put(map, alloc, member.name(), value)
+    write_named(writer, member.name(), item)
 }
 
-// Puts a member among others, where there is one.
-fn put_given<T: ToValue>(
-    map: &mut Map<String, Value>,
-    alloc: Global,
+// Writes a member of an object, where there is one.
+fn write_given<T: ToTokens>(
+    writer: &mut Writer,
     member: Member,
     item: &Option<T>,
 ) -> Result<(), AllocError>
-    ensures members { OnOk result (members_view map.new.entries
-        ≡ given_put (name_of member) (option_map T.ToValue.stands item.now) (members_view map.old.entries)) }
+    ensures tokens { OnOk result
+        (Adds (given_tokens (name_of member) (option_map T.ToTokens.stands item.now)) writer.old writer.new) }
     ensures back { OnOk result
-        (MatchOption item.now ⊤ (ReadsBack T.ToValue.stands T.ToValue.levels T.ToValue.reads)) }
+        (MatchOption item.now ⊤ (ReadsBack T.ToTokens.stands T.ToTokens.levels T.ToTokens.reads)) }
 {
     match item {
-        Some(item) => put_member(map, alloc, member, item),
+        Some(item) => write_member(writer, member, item),
         None => Ok(()),
     }
 }
 
-impl ToValue for TableMembers {
+impl ToTokens for TableMembers {
     ghost stands = { λ t. table_data (seen_table t) };
 
     ghost levels = { 5 };
@@ -54,34 +50,37 @@ impl ToValue for TableMembers {
     ghost reads = { λ d t. (version number : ℕ) → IsOfVersion version (seen_table t)
         → table_members version number d ≡ Ok (seen_table t) };
 
-    fn to_value(&self, alloc: Global) -> Result<Value, AllocError> {
-        let mut map = Map::new(alloc);
-        put_given(&mut map, alloc, Member::Times, &self.times)?;
-        put_given(&mut map, alloc, Member::Sections, &self.sections)?;
-        put_member(&mut map, alloc, Member::Missions, &self.missions)?;
-        put_given(&mut map, alloc, Member::Exits, &self.exits)?;
-        put_given(&mut map, alloc, Member::Connections, &self.connections)?;
-        put_given(&mut map, alloc, Member::Certificate, &self.certificate)?;
-        put_given(&mut map, alloc, Member::After, &self.after)?;
-        Ok(Value::Object(map))
+    fn to_tokens(&self, writer: &mut Writer) -> Result<(), AllocError> {
+        writer.begin_object()?;
+        write_given(writer, Member::After, &self.after)?;
+        write_given(writer, Member::Certificate, &self.certificate)?;
+        write_given(writer, Member::Connections, &self.connections)?;
+        write_given(writer, Member::Exits, &self.exits)?;
+        write_member(writer, Member::Missions, &self.missions)?;
+        write_given(writer, Member::Sections, &self.sections)?;
+        write_given(writer, Member::Times, &self.times)?;
+        writer.end_object()
     }
 }
 
-// What stands for a document.
-fn document_value(alloc: Global, document: &DocMembers) -> Result<Value, AllocError>
-    ensures value { IfOk result (λ v. view v ≡ doc_data (seen_document document.now)) }
-    ensures plain { IfOk result (λ v. IsPlain 7 (view v)) }
-    ensures back { IfOk result (λ v. IsRead (seen_document document.now) → doc_members (view v) ≡ Ok (seen_document document.now)) }
-{
-    let mut map = Map::new(alloc);
-    put_member(&mut map, alloc, Member::Zones, &document.zones)?;
-    put_member(&mut map, alloc, Member::Version, &document.version)?;
-    put_member(&mut map, alloc, Member::Trains, &document.trains)?;
-    put_member(&mut map, alloc, Member::Tables, &document.tables)?;
-    put_member(&mut map, alloc, Member::Start, &document.start)?;
-    put_member(&mut map, alloc, Member::Points, &document.points)?;
-    put_member(&mut map, alloc, Member::Links, &document.links)?;
-    Ok(Value::Object(map))
+impl ToTokens for DocMembers {
+    ghost stands = { λ m. doc_data (seen_document m) };
+
+    ghost levels = { 7 };
+
+    ghost reads = { λ d m. IsRead (seen_document m) → doc_members d ≡ Ok (seen_document m) };
+
+    fn to_tokens(&self, writer: &mut Writer) -> Result<(), AllocError> {
+        writer.begin_object()?;
+        write_member(writer, Member::Links, &self.links)?;
+        write_member(writer, Member::Points, &self.points)?;
+        write_member(writer, Member::Start, &self.start)?;
+        write_member(writer, Member::Tables, &self.tables)?;
+        write_member(writer, Member::Trains, &self.trains)?;
+        write_member(writer, Member::Version, &self.version)?;
+        write_member(writer, Member::Zones, &self.zones)?;
+        writer.end_object()
+    }
 }
 
 /// The text of the document of these members: compact JSON, members in the byte order of their names, and a newline.
@@ -90,8 +89,9 @@ pub fn write_document(alloc: Global, document: &DocMembers) -> Result<Vec<u8>, A
     ensures reads_back { IfOk result
         (λ b. IsRead (seen_document document.now) → members_of b.items ≡ Ok (seen_document document.now)) }
 {
-    let value = document_value(alloc, document)?;
-    let mut bytes = value.to_vec(alloc)?;
+    let mut writer = Writer::new(Vec::new(alloc));
+    document.to_tokens(&mut writer)?;
+    let mut bytes = writer.into_inner();
     bytes.push(b'\n')?;
     Ok(bytes)
 }

@@ -1,0 +1,21 @@
+use Rattle.std.proofs.Common.{OnOk, subst}
+use Rattle.std.proofs.lemmas.Result.{on_ok_weaker}
+use Rattle.document_shapes.specs.Added.{Adds}
+use Rattle.document_shapes.proofs.AddedLemmas.{adds-seven}
+use Rattle.document_shapes.proofs.TableValue.{table-tokens, table-reads_back}
+use Rattle.document_shapes.proofs.writing.TableMembersToTokens.to_tokens.Goals as goal
+
+pub returns-clause-tokens : goal.returns-clause-tokens
+returns-clause-tokens c =
+    subst (λ ts. OnOk c.end_object.result (Adds ts c.args.writer.now c.end_object.new.self)) (table-tokens c.args.self.now)
+    (adds-seven _ _ _ _ _ _ _ _ _ _ _ _ _ _ _ _ _ c.end_object.result
+    (record { tokens = c.in_ok-begin_object.ensures.ok; before = c.begin_object.ensures.room.0 })
+    c.in_ok-write_given.ensures.tokens c.in_ok-write_given-2.ensures.tokens c.in_ok-write_given-3.ensures.tokens c.in_ok-write_given-4.ensures.tokens
+    c.in_ok-write_member.ensures.tokens c.in_ok-write_given-5.ensures.tokens c.in_ok-write_given-6.ensures.tokens c.end_object.ensures)
+
+pub returns-clause-back : goal.returns-clause-back
+returns-clause-back c =
+    on_ok_weaker c.end_object.result
+    (λ _. table-reads_back c.args.self.now c.in_ok-write_member.ensures.back c.in_ok-write_given-4.ensures.back c.in_ok-write_given-5.ensures.back
+    c.in_ok-write_given-3.ensures.back c.in_ok-write_given-2.ensures.back c.in_ok-write_given-6.ensures.back c.in_ok-write_given.ensures.back)
+    c.end_object.ensures.ok

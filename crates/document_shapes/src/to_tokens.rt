@@ -1,0 +1,194 @@
+// Values of one shape, written as the tokens of JSON.
+ghost use Rattle.std.specs.Prelude.{◌≡◌, ◌+◌, ℕ, All, OnOk, Some, max, string_bytes};
+ghost use Rattle.serde_json.specs.Data.{Data, boolean, string};
+ghost use Rattle.document_shapes.specs.Added.{Adds, member_tokens, tokens_of};
+ghost use Rattle.document_shapes.specs.Parts as part;
+ghost use Rattle.document_shapes.specs.Readings.{ReadsList, ReadsPair};
+ghost use Rattle.document_shapes.specs.ReadsBack.{ReadsBack};
+ghost use Rattle.document_shapes.specs.Shape as shape;
+ghost use Rattle.document_shapes.specs.Written as written;
+ghost use Rattle.document_shapes.specs.Written.{list_data, pair_data};
+
+use crate::parts::SectionMembers;
+use json::Writer;
+use rail_model::{Connection, Node, TrainTimes};
+use std::alloc::AllocError;
+
+/// What stands for a value in JSON.
+pub(crate) trait ToTokens {
+    /// The data that stand for the value.
+    ghost stands: { Self → Data };
+
+    /// How deep they nest at most.
+    ghost levels: { ℕ };
+
+    /// The data read as this.
+    ghost reads: { Data → Self → Type 0 };
+
+    /// Writes the data.
+    fn to_tokens(&self, writer: &mut Writer) -> Result<(), AllocError>
+        ensures tokens { OnOk result (Adds (tokens_of (stands self.now)) writer.old writer.new) }
+        ensures back { OnOk result (ReadsBack stands levels reads self.now) };
+}
+
+impl ToTokens for bool {
+    ghost stands = { boolean };
+
+    ghost levels = { 0 };
+
+    ghost reads = { λ d b. shape.truth d ≡ Some b };
+
+    fn to_tokens(&self, writer: &mut Writer) -> Result<(), AllocError> {
+        writer.boolean(*self)
+    }
+}
+
+impl ToTokens for u32 {
+    ghost stands = { written.whole_data };
+
+    ghost levels = { 0 };
+
+    ghost reads = { λ d n. shape.whole d ≡ Some n };
+
+    fn to_tokens(&self, writer: &mut Writer) -> Result<(), AllocError> {
+        writer.u64(u64::from(*self))
+    }
+}
+
+impl ToTokens for i32 {
+    ghost stands = { written.change_data };
+
+    ghost levels = { 0 };
+
+    ghost reads = { λ d z. shape.change d ≡ Some z };
+
+    fn to_tokens(&self, writer: &mut Writer) -> Result<(), AllocError> {
+        writer.i64(i64::from(*self))
+    }
+}
+
+impl ToTokens for String {
+    ghost stands = { λ s. string (string_bytes s) };
+
+    ghost levels = { 0 };
+
+    ghost reads = { λ d s. shape.text d ≡ Some (string_bytes s) };
+
+    fn to_tokens(&self, writer: &mut Writer) -> Result<(), AllocError> {
+        writer.string(self.as_str())
+    }
+}
+
+impl ToTokens for Node {
+    ghost stands = { written.node_data };
+
+    ghost levels = { 1 };
+
+    ghost reads = { λ d n. part.node d ≡ Some n };
+
+    fn to_tokens(&self, writer: &mut Writer) -> Result<(), AllocError> {
+        match *self {
+            Node::Split { train, place } => write_list(writer, &[0, train, place]),
+            Node::Clash { first, second } => write_list(writer, &[1, first, second]),
+            Node::Overfull { section } => write_list(writer, &[2, section]),
+            Node::Arrived => write_list(writer, &[3]),
+            Node::Move { train } => write_list(writer, &[4, train]),
+        }
+    }
+}
+
+impl ToTokens for Connection {
+    ghost stands = { written.connection_data };
+
+    ghost levels = { 1 };
+
+    ghost reads = { λ d k. part.connection d ≡ Some k };
+
+    fn to_tokens(&self, writer: &mut Writer) -> Result<(), AllocError> {
+        write_list(
+            writer,
+            &[self.train(), self.place(), self.other(), self.reached()],
+        )
+    }
+}
+
+impl ToTokens for TrainTimes {
+    ghost stands = { list_data written.whole_data };
+
+    ghost levels = { 1 };
+
+    ghost reads = { λ d t. shape.list_of shape.whole d ≡ Some t };
+
+    fn to_tokens(&self, writer: &mut Writer) -> Result<(), AllocError> {
+        write_list(writer, self.as_slice())
+    }
+}
+
+impl ToTokens for SectionMembers {
+    ghost use Rattle.document_shapes.specs.SeenSection.{seen_section};
+
+    ghost stands = { λ s. written.section_data (seen_section s) };
+
+    ghost levels = { 3 };
+
+    ghost reads = { λ d s. part.section d ≡ Some (seen_section s) };
+
+    fn to_tokens(&self, writer: &mut Writer) -> Result<(), AllocError> {
+        writer.begin_object()?;
+        write_named(writer, "changes", &self.changes)?;
+        write_named(writer, "limit", &self.limit)?;
+        writer.end_object()
+    }
+}
+
+/// Writes a member of this name.
+pub(crate) fn write_named<T: ToTokens>(
+    writer: &mut Writer,
+    name: &str,
+    item: &T,
+) -> Result<(), AllocError>
+    ensures tokens { OnOk result (Adds (member_tokens name.now (T.ToTokens.stands item.now)) writer.old writer.new) }
+    ensures back { OnOk result (ReadsBack T.ToTokens.stands T.ToTokens.levels T.ToTokens.reads item.now) }
+{
+    writer.key(name)?;
+    item.to_tokens(writer)
+}
+
+impl<T: ToTokens> ToTokens for Vec<T> {
+    ghost stands = { λ v. list_data T.ToTokens.stands v.items };
+
+    ghost levels = { T.ToTokens.levels + 1 };
+
+    ghost reads = { λ d v. ReadsList T.ToTokens.reads d v.items };
+
+    fn to_tokens(&self, writer: &mut Writer) -> Result<(), AllocError> {
+        write_list(writer, self.as_slice())
+    }
+}
+
+// Writes the list of what stands for each item.
+fn write_list<T: ToTokens>(writer: &mut Writer, items: &[T]) -> Result<(), AllocError>
+    ensures tokens { OnOk result (Adds (tokens_of (list_data T.ToTokens.stands items.now)) writer.old writer.new) }
+    ensures back { OnOk result (All (ReadsBack T.ToTokens.stands T.ToTokens.levels T.ToTokens.reads) items.now) }
+{
+    writer.begin_array()?;
+    for item in items {
+        item.to_tokens(writer)?;
+    }
+    writer.end_array()
+}
+
+impl<A: ToTokens, B: ToTokens> ToTokens for (A, B) {
+    ghost stands = { pair_data A.ToTokens.stands B.ToTokens.stands };
+
+    ghost levels = { max A.ToTokens.levels B.ToTokens.levels + 1 };
+
+    ghost reads = { λ d p. ReadsPair A.ToTokens.reads B.ToTokens.reads d p };
+
+    fn to_tokens(&self, writer: &mut Writer) -> Result<(), AllocError> {
+        writer.begin_array()?;
+        self.0.to_tokens(writer)?;
+        self.1.to_tokens(writer)?;
+        writer.end_array()
+    }
+}
