@@ -1,16 +1,57 @@
--- Worked rows: the steps of a train, and levels of points.
-use Rattle.std.proofs.Common.{◌≡◌, ℕ, zero, suc, ◌+◌, ◌<◌, ◌≤◌, List, [], ◌∷◌, Some, refl, subst, lit<, lit≤, arith}
-use Rattle.std.specs.Prelude.{slice_index}
-use Rattle.rail_model.specs.Table.{mission, point}
+-- Worked rows: steps, and levels of points.
+use Rattle.std.proofs.Common.{◌≡◌, ℕ, zero, suc, ◌+◌, ◌<◌, ◌≤◌, List, [], ◌∷◌, Some, refl, sym, subst, lit<, lit≤, arith, false}
+use Rattle.std.specs.Prelude.{All, slice_index}
+use Rattle.rail_model.specs.Table.{Mission, point}
 use Rattle.forbidden_states.specs.Forbid.{unmarked}
+use Rattle.ring_sections.specs.declared.levels.Step.{Step}
 use Rattle.ring_sections.specs.Ring.{Pair, point_at, next_point}
-use Rattle.ring_sections.specs.Search.{standing}
-use Rattle.ring_sections.specs.Levels.{train_steps, IsStepBelow, IsSettled, AreLevels, IsChart}
+use Rattle.ring_sections.specs.Search.{standing_at, standing}
+use Rattle.ring_sections.specs.Levels.{IsStep, IsMade, Makes, AreSteps, IsStepBelow, IsSettled, AreLevels, IsChart}
 use Rattle.ring_sections.proofs.RingRows.{uneven}
 
--- the steps of T1 between its points
-steps_of_T1 : train_steps 1 (mission (unmarked uneven) 1) ≡ record { train = 1; from = 4; to = 5 } ∷ record { train = 1; from = 5; to = 2 } ∷ record { train = 1; from = 2; to = 1 } ∷ record { train = 1; from = 1; to = 6 } ∷ []
-steps_of_T1 = refl
+-- T1 goes from point 5 to point 2
+is_step : IsStep uneven (record { train = 1; from = 5; to = 2 })
+is_step = ((1, 1), refl, refl)
+
+not_step : IsStep (record { points = 5 ∷ 2 ∷ []; exits = false } ∷ []) (record { train = 0; from = 2; to = 5 }) → ⊥
+not_step ((zero, zero), from, to) = cc
+not_step ((zero, suc zero), from, to) = cc
+not_step ((zero, suc (suc k)), from, to) = cc
+not_step ((suc i, k), from, to) = cc
+
+-- a step of T3 does for one of T1 between the same points
+abbrev some_steps : List Step
+some_steps = record { train = 3; from = 5; to = 2 } ∷ []
+
+is_made : IsMade some_steps (record { train = 1; from = 5; to = 2 })
+is_made = (record { train = 3; from = 5; to = 2 }, (0, lit< tt, refl), refl, refl, lit≤ tt)
+
+not_made : IsMade some_steps (record { train = 4; from = 5; to = 2 }) → ⊥
+not_made (t, (zero, lt, same), from, to, later) = let last : 4 ≤ 3 = subst (λ (s : Step). 4 ≤ s.train) (sym same) later in omega arith
+not_made (t, (suc k, lt, same), from, to, later) = absurd (omega (arith, lt))
+
+makes : Makes uneven some_steps 5 (1, 1)
+makes b next = let same : 2 ≡ b = cc in subst (λ x. IsMade some_steps (record { train = 1; from = 5; to = x })) same is_made
+
+-- one train from point 0 to point 1, and its step
+abbrev one : List Mission
+one = record { points = 0 ∷ 1 ∷ []; exits = false } ∷ []
+
+are_steps : AreSteps one 2 (record { train = 0; from = 0; to = 1 } ∷ [])
+are_steps = record { are_steps = own; all = all }
+  where
+    own : All (IsStep one) (record { train = 0; from = 0; to = 1 } ∷ [])
+    own zero d lt = ((0, 0), refl, refl)
+    own (suc k) d lt = absurd (omega (arith, lt))
+
+    all : (q : ℕ) → q < 2 → All (Makes one (record { train = 0; from = 0; to = 1 } ∷ []) q) (standing_at one q)
+    all zero less zero d lt b next = let same : 1 ≡ b = cc in (record { train = 0; from = 0; to = 1 }, (0, lit< tt, refl), refl, same, lit≤ tt)
+    all zero less (suc k) d lt b next = absurd (omega (arith, lt))
+    all (suc zero) less k d lt b next = absurd (omega (arith, lt))
+    all (suc (suc q)) less k d lt b next = absurd (omega (arith, less))
+
+step_is_missing : AreSteps one 2 [] → ⊥
+step_is_missing are = let made = are.all 0 (lit< tt) 0 (0, 0) (lit< tt) 1 refl in absurd (omega (arith, made.1.1))
 
 step_below : IsStepBelow 7 (record { train = 1; from = 1; to = 6 })
 step_below = (lit< tt, lit< tt)

@@ -1,18 +1,20 @@
 -- The pairs and the steps of trains, and the levels that steps keep.
-use Rattle.std.proofs.Common.{◌≡◌, ℕ, ◌+◌, ◌-◌, ◌<◌, List, [], length, Some, refl, arith, ap, ◌∙◌, sym, subst}
-use Rattle.std.specs.Prelude.{All, slice_index, slice_index_or}
-use Rattle.std.proofs.lemmas.Option.{slice_get-get_or, slice_get_within, get_or_from_slice_get}
+use Rattle.std.proofs.Common.{◌≡◌, ℕ, ◌+◌, ◌-◌, ◌<◌, ◌≤◌, List, [], length, Some, true, false, refl, arith, ap, ◌∙◌, sym, subst, inl, inr}
+use Rattle.std.specs.Prelude.{All, slice_index, slice_index_or, if◌then◌else◌}
+use Rattle.std.proofs.lemmas.Bool.Decides.{leb_tells}
+use Rattle.std.proofs.lemmas.List.{get_or_default}
+use Rattle.std.proofs.lemmas.Option.{slice_get_within}
 use Rattle.std.proofs.lemmas.List.FromFn.{get_or-map-range_with_len, length-map-range_with_len}
-use Rattle.rail_model.specs.Table.{Mission, mission, last}
+use Rattle.rail_model.specs.Table.{Mission, mission, last, last_of}
 use Rattle.rail_model.specs.Checks.{below}
-use Rattle.rail_model.proofs.Found.{Among, Among-flat_map, Among-map}
+use Rattle.rail_model.proofs.Found.{Among}
 use Rattle.rail_model.proofs.Agree.{Decides-same_point}
 use Rattle.forbidden_states.specs.Forbid.{unmarked}
-use Rattle.forbidden_states.proofs.Members.{map-among, filter-among, among-filter, flat-among, among-at, below-among, among-below}
+use Rattle.forbidden_states.proofs.Members.{map-among, filter-among, among-filter, flat-among, among-at, below-among}
 use Rattle.ring_sections.specs.declared.levels.Step.{Step}
 use Rattle.ring_sections.specs.Ring.{Pair, point_at, next_point, train_pairs, pairs}
 use Rattle.ring_sections.specs.Search.{IsPair, ArePointsBelow, stands_at, standing_at, standing}
-use Rattle.ring_sections.specs.Levels.{step_at, train_steps, steps, IsStepBelow, IsSettled, AreLevels}
+use Rattle.ring_sections.specs.Levels.{IsStep, IsMade, Makes, AreSteps, IsStepBelow, IsSettled, AreLevels}
 use Rattle.ring_sections.proofs.RingLists.{among-index, pairs-all}
 
 pub among-All : {X : Type 0} (P : X → Type 0) (xs : List X) → ((x : X) → Among xs x → P x) → All P xs
@@ -27,40 +29,9 @@ valid-pair M w a =
 pub valid-pairs : (M : List Mission) → All (IsPair M) (pairs M)
 valid-pairs M = among-All (IsPair M) (pairs M) (valid-pair M)
 
-step-below : (M : List Mission) (n : ℕ) → ArePointsBelow M n → (s : Step) → Among (steps M) s → IsStepBelow n s
-step-below M n points s a =
-    let u = flat-among (λ i. train_steps i (mission (unmarked M) i)) (below (length M)) s a in
-    let ps : List ℕ = (mission (unmarked M) u.0).points in
-    let v = map-among (step_at u.0 (mission (unmarked M) u.0)) (below (length ps - 1)) s u.2 in
-    let l : v.0 < length ps - 1 = below-among (length ps - 1) v.0 v.1 in
-    subst (IsStepBelow n) v.2 (
-      points u.0 v.0 (slice_index ps v.0) (slice_get-get_or ps v.0 0 (omega arith)),
-      points u.0 (v.0 + 1) (slice_index ps (v.0 + 1)) (slice_get-get_or ps (v.0 + 1) 0 (omega arith)),
-    )
-
-pub steps-below : (M : List Mission) (n : ℕ) → ArePointsBelow M n → All (IsStepBelow n) (steps M)
-steps-below M n points = among-All (IsStepBelow n) (steps M) (step-below M n points)
-
--- a pair with two points has a step
-has-step : (M : List Mission) (w : Pair) (a b : ℕ) → w.0 < length M → point_at M w ≡ Some a → next_point M w ≡ Some b → Among (steps M) (record { train = w.0; from = a; to = b })
-has-step M w a b l at next =
-    let m : Mission = mission (unmarked M) w.0 in
-    let short : w.1 + 1 < length m.points = slice_get_within m.points (w.1 + 1) b next in
-    let same : step_at w.0 m w.1 ≡ record { train = w.0; from = a; to = b } = λ i. record { train = w.0; from = get_or_from_slice_get m.points w.1 a 0 at i; to = get_or_from_slice_get m.points (w.1 + 1) b 0 next i } in
-    Among-flat_map (λ i. train_steps i (mission (unmarked M) i)) (below (length M)) w.0 (record { train = w.0; from = a; to = b })
-    (among-below (length M) w.0 l)
-    (subst (Among (train_steps w.0 m)) same (Among-map (step_at w.0 m) (below (length m.points - 1)) w.1 (among-below (length m.points - 1) w.1 (omega arith))))
-
--- Settled levels, with 0 at the point of the first pair, are levels.
-pub settled-levels : (M : List Mission) (first : Pair) (levels : List ℕ) → ((q : ℕ) → point_at M first ≡ Some q → slice_index levels q ≡ 0) →
-    All (IsSettled first.0 levels) (steps M) → AreLevels M first levels
-settled-levels M first levels goal settled = record {
-  goal = goal;
-  steps = λ w a b above l at next.
-      let s : Step = record { train = w.0; from = a; to = b } in
-      let k = among-index (steps M) s s (has-step M w a b l at next) in
-      subst (IsSettled first.0 levels) k.2 (settled k.0 s k.1) above;
-}
+-- a place with a point after it is below the last
+below_last : (m : Mission) (k : ℕ) → k + 1 < length m.points → k < last_of m
+below_last m k short = elim (m.exits) as (λ b. k < (if b then length m.points else length m.points - 1)) [ true ↦ omega arith | false ↦ omega arith ]
 
 -- what is at a point
 pub standing-at : (M : List Mission) (n q : ℕ) → q < n → slice_index_or (standing M n) q [] ≡ standing_at M q
@@ -89,3 +60,49 @@ pub here_valid : (M : List Mission) (q k : ℕ) (here : List Pair) → here ≡ 
 here_valid M q k here is l =
     let a : Among (standing_at M q) (slice_index_or here k (0, 0)) = subst (λ (s : List Pair). Among s (slice_index_or here k (0, 0))) is (among-at here k (0, 0) l) in
     valid-pair M (slice_index_or here k (0, 0)) (filter-among (stands_at M q) (pairs M) (slice_index_or here k (0, 0)) a).0
+
+pub steps-below : (M : List Mission) (n : ℕ) (steps : List Step) → ArePointsBelow M n → All (IsStep M) steps → All (IsStepBelow n) steps
+steps-below M n steps points are k d l = let s = are k d l in (points s.0.0 s.0.1 _ s.1, points s.0.0 (s.0.1 + 1) _ s.2)
+
+-- a pair with two points is among those at the first, and its step is made
+step-made : (M : List Mission) (n : ℕ) (steps : List Step) (w : Pair) (a b : ℕ) → ArePointsBelow M n → AreSteps M n steps → w.0 < length M → point_at M w ≡ Some a → next_point M w ≡ Some b →
+    IsMade steps (record { train = w.0; from = a; to = b })
+step-made M n steps w a b points are l at next =
+    let short : w.1 + 1 < length (mission (unmarked M) w.0).points = slice_get_within (mission (unmarked M) w.0).points (w.1 + 1) b next in
+    let pair : IsPair M w = (l, below_last (mission (unmarked M) w.0) w.1 short) in
+    let k = among-index (standing_at M a) w (0, 0) (stands-among M a w pair at) in
+    subst (Makes M steps a) k.2 (are.all a (points w.0 w.1 a at) k.0 (0, 0) k.1) b next
+
+-- what is settled for a step is settled for every earlier train that makes it
+settled-made : (above : ℕ) (levels : List ℕ) (steps : List Step) (s : Step) → All (IsSettled above levels) steps → IsMade steps s → above < s.train →
+    slice_index levels s.from ≤ slice_index levels s.to + 1
+settled-made above levels steps s settled made later =
+    let t : Step = made.0 in
+    let here : IsSettled above levels t = subst (IsSettled above levels) made.1.2 (settled made.1.0 t made.1.1) in
+    subst (λ q. slice_index levels q ≤ slice_index levels s.to + 1) made.2
+    (subst (λ q. slice_index levels t.from ≤ slice_index levels q + 1) made.3 (here (omega (arith, later, made.4))))
+
+-- Settled levels, with 0 at the point of the first pair, are levels.
+pub settled-levels : (M : List Mission) (n : ℕ) (steps : List Step) (first : Pair) (levels : List ℕ) → ArePointsBelow M n → AreSteps M n steps →
+    ((q : ℕ) → point_at M first ≡ Some q → slice_index levels q ≡ 0) → All (IsSettled first.0 levels) steps → AreLevels M first levels
+settled-levels M n steps first levels points are goal settled = record {
+  goal = goal;
+  steps = λ w a b above l at next.
+      settled-made first.0 levels steps (record { train = w.0; from = a; to = b }) settled (step-made M n steps w a b points are l at next) above;
+}
+
+-- ---- the steps from one point more
+
+pub all_valid : (M : List Mission) (q : ℕ) (here : List Pair) → here ≡ standing_at M q → All (IsPair M) here
+all_valid M q here is k d l = subst (IsPair M) (get_or_default here k (0, 0) d l) (here_valid M q k here is l)
+
+pub all_there : (M : List Mission) (q : ℕ) (here : List Pair) → here ≡ standing_at M q → All (λ w. point_at M w ≡ Some q) here
+all_there M q here is k d l = subst (λ (w : Pair). point_at M w ≡ Some q) (get_or_default here k (0, 0) d l) (here_stands M q k here is l)
+
+pub made_more : (M : List Mission) (before after : List Step) (n : ℕ) (here : List Pair) → ((s : Step) → IsMade before s → IsMade after s) →
+    ((q : ℕ) → q < n → All (Makes M before q) (standing_at M q)) → here ≡ standing_at M n → All (Makes M after n) here →
+    (q : ℕ) → q < n + 1 → All (Makes M after q) (standing_at M q)
+made_more M before after n here kept so_far is now q l = elim (leb_tells n q) [
+  | inr less ↦ λ k d m b next. kept _ (so_far q less.1 k d m b next)
+  | inl more ↦ subst (λ x. All (Makes M after x) (standing_at M x)) (let e : n ≡ q = omega (arith, more.1) in e) (subst (All (Makes M after n)) is now)
+]

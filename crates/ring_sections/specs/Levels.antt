@@ -1,23 +1,26 @@
 -- Levels of points: how far it is at least from a point to a goal, by steps of trains above a train.
-use Rattle.std.specs.Prelude.{◌≡◌, ℕ, ◌+◌, ◌-◌, ◌<◌, ◌≤◌, List, length, map, flat_map, slice_index, Some}
-use Rattle.rail_model.specs.Table.{Mission, mission}
-use Rattle.rail_model.specs.Checks.{below}
+use Rattle.std.specs.Prelude.{◌≡◌, ℕ, ◌+◌, ◌<◌, ◌≤◌, List, length, All, Contains, slice_index, Some}
+use Rattle.rail_model.specs.Table.{Mission}
 use Rattle.ring_sections.specs.declared.levels.Step.{Step}
-use Rattle.forbidden_states.specs.Forbid.{unmarked}
 use Rattle.ring_sections.specs.Ring.{Pair, point_at, next_point}
-use Rattle.ring_sections.specs.Search.{ArePointsBelow, standing}
+use Rattle.ring_sections.specs.Search.{ArePointsBelow, standing_at, standing}
 
--- the step of a train from a place on
-abbrev pub step_at : ℕ → Mission → ℕ → Step
-step_at i m k = record { train = i; from = slice_index m.points k; to = slice_index m.points (k + 1) }
+-- It is the step of some pair.
+abbrev pub IsStep : List Mission → Step → Type 0
+IsStep M s = (w : Pair) × (point_at M w ≡ Some s.from) × (next_point M w ≡ Some s.to)
 
--- the steps of a train between its points
-abbrev pub train_steps : ℕ → Mission → List Step
-train_steps i m = map (step_at i m) (below (length m.points - 1))
+-- One of the steps is between the same points, by the same train or a later one.
+abbrev pub IsMade : List Step → Step → Type 0
+IsMade steps s = (t : Step) × Contains steps t × (t.from ≡ s.from) × (t.to ≡ s.to) × (s.train ≤ t.train)
 
--- the steps of all trains
-abbrev pub steps : List Mission → List Step
-steps M = flat_map (λ i. train_steps i (mission (unmarked M) i)) (below (length M))
+-- So it is with the step of a pair from a point, if the pair wants a point.
+abbrev pub Makes : List Mission → List Step → ℕ → Pair → Type 0
+Makes M steps q w = (b : ℕ) → next_point M w ≡ Some b → IsMade steps (record { train = w.0; from = q; to = b })
+
+-- The steps between all points below n, not each of them by every train.
+pub record AreSteps (M : List Mission) (n : ℕ) (steps : List Step) : Type 0 where
+  pub are_steps : All (IsStep M) steps
+  pub all : (q : ℕ) → q < n → All (Makes M steps q) (standing_at M q)
 
 -- The step's points are below n.
 abbrev pub IsStepBelow : ℕ → Step → Type 0

@@ -1,14 +1,16 @@
 // How far it is at least from each point to a goal: what a search need not look at.
-ghost use Rattle.std.specs.Prelude.{◌≡◌, ℕ, ◌<◌, ◌≤◌, ◌++◌, All, IfOk, OnOk, length, sum, slice_index, false, true};
-ghost use Rattle.rail_model.specs.Table.{IsMission};
-ghost use Rattle.ring_sections.specs.Search.{IsPair, ArePointsBelow};
-ghost use Rattle.ring_sections.specs.Levels.{steps as steps_of_all, train_steps, IsStepBelow, IsSettled, AreLevels};
+ghost use Rattle.std.specs.Prelude.{◌≡◌, ℕ, ◌<◌, ◌≤◌, All, IfOk, OnOk, Some, length, sum, slice_index, false, true};
+ghost use Rattle.ring_sections.specs.declared.levels.Step.{Step as StepValue};
+ghost use Rattle.ring_sections.specs.Ring.{point_at};
+ghost use Rattle.ring_sections.specs.Search.{IsPair, ArePointsBelow, standing as standing_at_all};
+ghost use Rattle.ring_sections.specs.Levels.{IsStep, IsMade, Makes, AreSteps, IsStepBelow, IsSettled, AreLevels};
 
-use crate::placed::point_of;
-use rail_model::{Mission, Missions};
+use crate::placed::{next_point_of, point_of};
+use crate::standing::Standing;
+use rail_model::Missions;
 use std::alloc::{AllocError, Global};
 
-/// A step of a train from a point to the next.
+/// A step between two points, and a train that makes it.
 #[derive(Clone, Copy)]
 pub(crate) struct Step {
     pub train: u32,
@@ -16,30 +18,79 @@ pub(crate) struct Step {
     pub to: u32,
 }
 
-// Adds the steps of a train between its points.
-fn add_steps(train: u32, mission: &Mission, steps: &mut Vec<Step>) -> Result<(), AllocError>
-    requires { IsMission mission.now }
-    ensures { OnOk result (steps.new.items ≡ steps.old.items ++ train_steps train mission.now) }
+// Whether a step is there between the same points, by the same train or a later one; those from a point are together.
+fn is_made(steps: &[Step], step: Step) -> bool
+    ensures { result ≡ true → IsMade steps.now step }
 {
-    let points = mission.as_slice();
-    for place in 0..points.len() - 1 {
-        let step = Step {
-            train,
-            from: points[place],
-            to: points[place + 1],
-        };
+    for &other in steps.iter().rev() {
+        if other.from != step.from {
+            return false;
+        }
+        if other.to == step.to && step.train <= other.train {
+            return true;
+        }
+    }
+    false
+}
+
+// Adds the step of a pair at a point, unless one does for it.
+fn add_step(
+    missions: &Missions,
+    pair: (u32, u32),
+    from: u32,
+    steps: &mut Vec<Step>,
+) -> Result<(), AllocError>
+    requires pair { IsPair missions.now pair }
+    requires stands { point_at missions.now pair ≡ Some from }
+    requires steps { All (IsStep missions.now) steps.old.items }
+    ensures steps { OnOk result (All (IsStep missions.now) steps.new.items) }
+    ensures kept { OnOk result ((s : StepValue) → IsMade steps.old.items s → IsMade steps.new.items s) }
+    ensures made { OnOk result (Makes missions.now steps.new.items from pair) }
+{
+    let Some(to) = next_point_of(missions, pair) else {
+        return Ok(());
+    };
+    let train = pair.0;
+    let step = Step { train, from, to };
+    if !is_made(steps, step) {
         steps.push(step)?;
     }
     Ok(())
 }
 
+// Adds the steps from a point, each once, by its last train: so the last pair goes first.
+fn add_steps(
+    missions: &Missions,
+    pairs: &[(u32, u32)],
+    from: u32,
+    steps: &mut Vec<Step>,
+) -> Result<(), AllocError>
+    requires pairs { All (IsPair missions.now) pairs.now }
+    requires stand { All (λ w. point_at missions.now w ≡ Some from) pairs.now }
+    requires steps { All (IsStep missions.now) steps.old.items }
+    ensures steps { OnOk result (All (IsStep missions.now) steps.new.items) }
+    ensures kept { OnOk result ((s : StepValue) → IsMade steps.old.items s → IsMade steps.new.items s) }
+    ensures made { OnOk result (All (Makes missions.now steps.new.items from) pairs.now) }
+{
+    for index in (0..pairs.len()).rev() {
+        add_step(missions, pairs[index], from, steps)?;
+    }
+    Ok(())
+}
+
 // The steps of all trains between their points.
-pub(crate) fn steps_of(alloc: Global, missions: &Missions) -> Result<Vec<Step>, AllocError>
-    ensures { IfOk result (λ steps. steps.items ≡ steps_of_all missions.now) }
+pub(crate) fn steps_of(
+    alloc: Global,
+    missions: &Missions,
+    standing: &Standing,
+) -> Result<Vec<Step>, AllocError>
+    requires standing { standing.now ≡ standing_at_all missions.now (length standing.now) }
+    requires few { length standing.now ≤ 512 }
+    ensures { IfOk result (λ steps. AreSteps missions.now (length standing.now) steps.items) }
 {
     let mut steps = Vec::new(alloc);
-    for train in 0..missions.len() as u32 {
-        add_steps(train, missions.mission(train), &mut steps)?;
+    for point in 0..standing.len() as u32 {
+        add_steps(missions, standing.at(point), point, &mut steps)?;
     }
     Ok(steps)
 }
@@ -94,7 +145,7 @@ pub(crate) fn levels_of(
     first: (u32, u32),
     most: u32,
 ) -> Result<Vec<u32>, AllocError>
-    requires steps { steps.now ≡ steps_of_all missions.now }
+    requires steps { AreSteps missions.now size steps.now }
     requires size { ArePointsBelow missions.now size }
     requires first { IsPair missions.now first }
     ensures levels { IfOk result (λ levels. AreLevels missions.now first levels.items) }

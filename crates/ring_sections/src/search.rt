@@ -1,9 +1,10 @@
 // The search for circular waits: each from its least train on, pair by pair, in the order in which they are listed.
-ghost use Rattle.std.specs.Prelude.{◌≡◌, ◌<◌, ◌≤◌, ◌-◌, ◌++◌, ◌∷◌, [], All, IfOk, length};
+ghost use Rattle.std.specs.Prelude.{◌≡◌, ◌<◌, ◌≤◌, ◌-◌, ◌++◌, ◌∷◌, [], nat_lt, All, IfOk, length};
+ghost use Rattle.std.specs.List.{list_any};
 ghost use Rattle.rail_model.specs.Turns.{Answers};
 ghost use Rattle.ring_sections.specs.Ring.{pair_at, IsRing};
 ghost use Rattle.ring_sections.specs.Search.{IsPair, ArePointsBelow, standing as standing_at_all, own_ring, rings_from};
-ghost use Rattle.ring_sections.specs.Levels.{steps as steps_of_all, IsChart};
+ghost use Rattle.ring_sections.specs.Levels.{AreSteps, IsChart};
 ghost use Rattle.ring_sections.specs.Answer.{Adds, all_rings};
 
 use crate::chart::Chart;
@@ -89,7 +90,14 @@ fn extend(
     Ok(())
 }
 
-// Adds the circular waits that begin with a pair.
+// Whether one of the pairs is of a later train.
+fn has_later(pairs: &[(u32, u32)], train: u32) -> bool
+    ensures { result ≡ list_any (λ v. nat_lt train v.0) pairs.now }
+{
+    pairs.iter().any(|pair| train < pair.0)
+}
+
+// Adds the circular waits that begin with a pair: none where no later train is ever at the point that it wants.
 fn add_from(
     alloc: Global,
     missions: &Missions,
@@ -101,12 +109,18 @@ fn add_from(
 ) -> Result<(), Rings>
     requires points { ArePointsBelow missions.now (length standing.now) }
     requires standing { standing.now ≡ standing_at_all missions.now (length standing.now) }
-    requires steps { steps.now ≡ steps_of_all missions.now }
+    requires steps { AreSteps missions.now (length standing.now) steps.now }
     requires first { IsPair missions.now first }
     requires few { length found.old.items ≤ 64 }
     requires most { 0 < most }
     ensures { Adds found.old.items found.new.items (rings_from missions.now (first ∷ []) (most - 1)) result }
 {
+    let Some(wanted) = next_point_of(missions, first) else {
+        return Ok(());
+    };
+    if !has_later(standing.at(wanted), first.0) {
+        return Ok(());
+    }
     let levels = levels_of(alloc, missions, steps, standing.len(), first, most)?;
     let chart = Chart {
         missions,
@@ -138,7 +152,7 @@ pub fn rings(alloc: Global, missions: &Missions, most: u32) -> Result<Vec<Ring>,
     let size = size_of(missions);
     let pairs = pairs_of(alloc, missions)?;
     let standing = standing_of(alloc, missions, &pairs, size, most)?;
-    let steps = steps_of(alloc, missions)?;
+    let steps = steps_of(alloc, missions, &standing)?;
     let mut found = Vec::new(alloc);
     for &first in &pairs {
         add_from(alloc, missions, &standing, &steps, first, most, &mut found)?;

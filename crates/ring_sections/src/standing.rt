@@ -1,7 +1,8 @@
 // The pairs of trains and places, by their points.
-ghost use Rattle.std.specs.Prelude.{◌≡◌, ℕ, ◌<◌, ◌≤◌, ◌++◌, ◌^◌, [], All, IfOk, OnOk, length, filter, slice_index_or};
+ghost use Rattle.std.specs.Prelude.{◌≡◌, ℕ, ◌<◌, ◌≤◌, ◌++◌, ◌^◌, [], All, IfOk, OnOk, Some, None, length, map, filter, slice_index_or};
 ghost use Rattle.rail_model.specs.Table.{IsMission};
-ghost use Rattle.ring_sections.specs.Ring.{train_pairs, pairs as all_pairs};
+ghost use Rattle.rail_model.specs.Checks.{same_point};
+ghost use Rattle.ring_sections.specs.Ring.{point_at, train_pairs, pairs as all_pairs};
 ghost use Rattle.ring_sections.specs.Search.{IsPair, ArePointsBelow, stands_at as stands_at_point, standing as standing_at_all};
 
 use crate::placed::{next_point_of, point_of};
@@ -91,11 +92,28 @@ pub(crate) fn pairs_of(alloc: Global, missions: &Missions) -> Result<Vec<(u32, u
     Ok(pairs)
 }
 
-fn stands_at(missions: &Missions, point: u32, pair: (u32, u32)) -> bool
-    requires { IsPair missions.now pair }
-    ensures { result ≡ stands_at_point missions.now point pair }
+// The points of pairs, in order.
+fn points_of(
+    alloc: Global,
+    missions: &Missions,
+    pairs: &[(u32, u32)],
+) -> Result<Vec<Option<u32>>, AllocError>
+    requires { All (IsPair missions.now) pairs.now }
+    ensures { IfOk result (λ points. points.items ≡ map (point_at missions.now) pairs.now) }
 {
-    point_of(missions, pair) == Some(point)
+    let mut points = Vec::new(alloc);
+    for &pair in pairs {
+        points.push(point_of(missions, pair))?;
+    }
+    Ok(points)
+}
+
+// Whether the pair at an index is at a point.
+fn is_there(points: &[Option<u32>], index: usize, point: u32) -> bool
+    requires { index < length points.now }
+    ensures { result ≡ same_point (slice_index_or points.now index None) (Some point) }
+{
+    points[index] == Some(point)
 }
 
 // The least of the last `many` trains of the pairs that want a point; 0 where there are fewer.
@@ -136,16 +154,18 @@ fn standers_at(
     alloc: Global,
     missions: &Missions,
     pairs: &[(u32, u32)],
+    points: &[Option<u32>],
     point: u32,
     most: u32,
 ) -> Result<Standers, AllocError>
-    requires { All (IsPair missions.now) pairs.now }
+    requires pairs { All (IsPair missions.now) pairs.now }
+    requires points { points.now ≡ map (point_at missions.now) pairs.now }
     ensures { IfOk result (λ standers. standers ≡ filter (stands_at_point missions.now point) pairs.now) }
 {
     let mut standers = Vec::new(alloc);
-    for &pair in pairs {
-        if stands_at(missions, point, pair) {
-            standers.push(pair)?;
+    for index in 0..pairs.len() {
+        if is_there(points, index, point) {
+            standers.push(pairs[index])?;
         }
     }
     let lasts = lasts_of(alloc, missions, &standers, most.saturating_sub(1))?;
@@ -167,11 +187,12 @@ pub(crate) fn standing_of(
     requires size { size ≤ 512 }
     ensures { IfOk result (λ standing. standing ≡ standing_at_all missions.now size) }
 {
-    let mut points = Vec::new(alloc);
+    let points = points_of(alloc, missions, pairs)?;
+    let mut all = Vec::new(alloc);
     for point in 0..size {
-        points.push(standers_at(alloc, missions, pairs, point as u32, most)?)?;
+        all.push(standers_at(alloc, missions, pairs, &points, point as u32, most)?)?;
     }
-    Ok(Standing { points })
+    Ok(Standing { points: all })
 }
 
 // A number above all these points, and not below `least`.

@@ -1,12 +1,23 @@
-use Rattle.std.proofs.Common.{◌+◌, ap}
-use Rattle.std.specs.Prelude.{slice_index}
-use Rattle.ring_sections.specs.Levels.{step_at}
-use Rattle.forbidden_states.proofs.Growing.{next_behind}
+use Rattle.std.proofs.Common.{◌-◌, arith, inl, inr, subst, sym}
+use Rattle.std.proofs.lemmas.Bool.{cases_eq}
+use Rattle.std.proofs.lemmas.List.{get_or_default}
+use Rattle.ring_sections.specs.Ring.{pair_at}
+use Rattle.ring_sections.specs.Levels.{Makes}
 use Rattle.ring_sections.proofs.levels.add_steps.Goals as goal
 
-pub loop-place-preserved : goal.loop-place-preserved
-loop-place-preserved c =
-    let k = c.loop-place.place in
-    next_behind (step_at c.args.train c.args.mission.now) k c.args.steps.now.items c.loop-place.steps.items c.push.new.self.items _
-    c.loop-place.invariant c.in_ok-push.ensures.items
-    (ap (λ ps. record { train = c.args.train; from = slice_index ps k; to = slice_index ps (k + 1) }) c.as_slice-points.ensures)
+pub loop-index-preserved : goal.loop-index-preserved
+loop-index-preserved c =
+    let after = c.add_step.new.steps.items in
+    record {
+      are_steps = c.in_ok-add_step.ensures.steps;
+      kept = λ s made. c.in_ok-add_step.ensures.kept s (c.loop-index.invariant.kept s made);
+      made = λ k least l. elim (cases_eq k (c.loop-index.index - 1)) [
+        | inl same ↦ subst (λ j. Makes c.args.missions.now after c.args.from (pair_at c.args.pairs.now j)) (sym same) c.in_ok-add_step.ensures.made
+        | inr other ↦ λ b next. c.in_ok-add_step.ensures.kept _ (c.loop-index.invariant.made k (omega arith) l b next)
+      ];
+    }
+
+pub returns-clause-made : goal.returns-clause-made
+returns-clause-made c = λ k d l.
+    subst (Makes c.args.missions.now c.loop-index.steps.items c.args.from) (get_or_default c.args.pairs.now k (0, 0) d l)
+    (c.loop-index.invariant.made k (omega arith) l)

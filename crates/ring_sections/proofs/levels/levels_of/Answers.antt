@@ -2,7 +2,7 @@ use Rattle.std.proofs.Common.{◌≡◌, ◌≤◌, ℕ, zero, suc, List, [], �
 use Rattle.std.specs.Prelude.{All, slice_index, slice_set}
 use Rattle.std.proofs.lemmas.List.{take_all, take-append-le}
 use Rattle.std.proofs.lemmas.Option.{same_Some}
-use Rattle.ring_sections.specs.Levels.{IsStepBelow, IsSettled, AreLevels, steps}
+use Rattle.ring_sections.specs.Levels.{IsStepBelow, AreLevels}
 use Rattle.ring_sections.proofs.StepLists.{steps-below, settled-levels}
 use Rattle.ring_sections.proofs.levels.levels_of.Goals as goal
 use Rattle.ring_sections.proofs.levels.levels_of.Goals.{in-Some, in_default}
@@ -22,18 +22,16 @@ pub settle-requires : goal.settle-requires
 settle-requires c =
     let n : length c.deref_mut.result.now ≡ c.args.size = search rules in
     subst (λ m. All (IsStepBelow m) c.args.steps.now) (sym n)
-    (subst (All (IsStepBelow c.args.size)) (sym c.requires.steps) (steps-below c.args.missions.now c.args.size c.requires.size))
+    (steps-below c.args.missions.now c.args.size c.args.steps.now c.requires.size c.requires.steps.are_steps)
 
 pub returns-clause-levels : goal.returns-clause-levels
 returns-clause-levels c =
     let kept : length c.settle.new.levels ≡ length c.deref_mut.result.now = search rules in
     let n : c.match-point_of.levels.len ≡ length c.settle.new.levels = search rules in
-    let settled : All (IsSettled c.args.first.0 c.settle.new.levels) (steps c.args.missions.now) =
-    subst (All (IsSettled c.args.first.0 c.settle.new.levels)) c.requires.steps c.settle.ensures.settled in
     let low : (q : ℕ) → slice_index c.settle.new.levels q ≤ slice_index c.match-point_of.levels.items q =
     subst (λ (before : List ℕ). (q : ℕ) → slice_index c.settle.new.levels q ≤ slice_index before q) c.deref_mut.ensures.value c.settle.ensures.lower in
     subst (AreLevels c.args.missions.now c.args.first) (sym (written c.match-point_of.levels.len c.settle.new.levels _ n))
-    (settled-levels c.args.missions.now c.args.first c.settle.new.levels
+    (settled-levels c.args.missions.now c.args.size c.args.steps.now c.args.first c.settle.new.levels c.requires.size c.requires.steps
     (elim c.match-point_of.branch [
       | in-Some w ↦ λ q at.
           let same : w.in-Some.goal ≡ q = same_Some w.in-Some.goal q (sym w.in-Some.is ∙ c.point_of.ensures ∙ at) in
@@ -43,4 +41,4 @@ returns-clause-levels c =
           omega arith
       | in_default w ↦ λ q at. absurd (w.in_default.not-Some q (c.point_of.ensures ∙ at))
     ])
-    settled)
+    c.settle.ensures.settled)

@@ -1,10 +1,11 @@
-use Rattle.std.proofs.Common.{◌≡◌}
-use Rattle.std.specs.Prelude.{flat_map}
-use Rattle.rail_model.specs.Table.{mission}
-use Rattle.rail_model.specs.Checks.{below}
-use Rattle.forbidden_states.specs.Forbid.{unmarked}
-use Rattle.ring_sections.specs.Levels.{train_steps}
+use Rattle.std.proofs.Common.{ℕ, ◌<◌}
+use Rattle.std.specs.Prelude.{All}
+use Rattle.ring_sections.specs.Search.{standing_at}
+use Rattle.ring_sections.specs.Levels.{IsStep, Makes}
 use Rattle.ring_sections.proofs.levels.steps_of.Given as goal
 
-abbrev pub invariant-loop-train : goal.invariant-loop-train
-invariant-loop-train l = l.steps.items ≡ flat_map (λ i. train_steps i (mission (unmarked l.missions) i)) (below l.train)
+abbrev pub invariant-loop-point : goal.invariant-loop-point
+invariant-loop-point l = record {
+  are_steps : All (IsStep l.missions) l.steps.items;
+  made : (q : ℕ) → q < l.point → All (Makes l.missions l.steps.items q) (standing_at l.missions q);
+}

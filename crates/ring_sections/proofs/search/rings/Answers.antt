@@ -24,6 +24,15 @@ by_pairs M (suc n) ws some is =
 standing-length : (M : List Mission) (n : ℕ) (all : List (List Pair)) → all ≡ standing M n → n ≡ length all
 standing-length M n all is = sym (ap length is ∙ length-map-range_with_len (standing_at M) 0 n)
 
+pub steps_of-requires-clause-standing : goal.steps_of-requires-clause-standing
+steps_of-requires-clause-standing c =
+    c.in_ok-standing.ensures
+    ∙ ap (standing c.args.missions.now) (standing-length c.args.missions.now c.size_of-size.result c.in_ok-standing.standing c.in_ok-standing.ensures)
+
+pub steps_of-requires-clause-few : goal.steps_of-requires-clause-few
+steps_of-requires-clause-few c =
+    omega (arith, c.size_of-size.ensures.most, standing-length c.args.missions.now c.size_of-size.result c.in_ok-standing.standing c.in_ok-standing.ensures)
+
 pub add_from-requires-clause-points : goal.add_from-requires-clause-points
 add_from-requires-clause-points c =
     subst (ArePointsBelow c.args.missions.now) (standing-length c.args.missions.now c.size_of-size.result c.in_ok-standing.standing c.in_ok-standing.ensures) c.size_of-size.ensures.points
