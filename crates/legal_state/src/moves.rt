@@ -29,7 +29,7 @@ fn blocker(table: &Table, state: &State, train: u32) -> Option<u32>
     None
 }
 
-// Whether a section has no room for a train's move.
+// Whether a train's move takes a section over its limit.
 fn is_full(table: &Table, state: &State, train: u32, section: u32) -> bool
     requires legal { Legal table.now state.now }
     requires train { train < trains table.now }
@@ -43,6 +43,22 @@ fn is_full(table: &Table, state: &State, train: u32, section: u32) -> bool
     limit < count + change
 }
 
+// Whether a section has no room for a train's move. The trains are counted only if the move adds to the count, which is within the limit before.
+fn lacks_room(table: &Table, state: &State, train: u32, section: u32) -> bool
+    requires legal { Legal table.now state.now }
+    requires train { train < trains table.now }
+    requires unfinished { place state.now train < last table.now train }
+    requires section { section < length table.now.sections }
+    ensures { IsTrue result ↔ IsOver table.now (advance state.now train) section }
+{
+    // This read gives the proof that a train has at most 127 places.
+    let _limit = limit_of(table, section);
+    if change_at(table, train, section, state.place(train) + 1) <= 0 {
+        return false;
+    }
+    is_full(table, state, train, section)
+}
+
 // The first section without room for a train's move.
 fn full_section(table: &Table, state: &State, train: u32) -> Option<u32>
     requires legal { Legal table.now state.now }
@@ -51,7 +67,7 @@ fn full_section(table: &Table, state: &State, train: u32) -> Option<u32>
     ensures { IsFirstOrNone (IsOver table.now (advance state.now train)) result }
 {
     for section in 0..sections_of(table) {
-        if is_full(table, state, train, section) {
+        if lacks_room(table, state, train, section) {
             return Some(section);
         }
     }
