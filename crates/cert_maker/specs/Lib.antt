@@ -1,5 +1,10 @@
 pub mod Claims
+pub mod Draft
+pub mod Forest
 pub mod Kept
+pub mod Numbers
 pub mod Path
+pub mod Renumber
 pub mod Rule
+pub mod Slack
 pub mod Steps

@@ -2,12 +2,18 @@
 #![tactic(auto)]
 
 mod choice;
+mod draft;
 mod laws;
 mod leaves;
 mod made;
 mod maker;
+mod numbers;
 mod path;
+mod same;
+mod slack;
+mod trail;
 
-pub use laws::each_budget_has_one_answer;
+pub use draft::{Draft, Remade};
+pub use laws::{each_budget_has_one_answer, slack_keeps_the_rule};
 pub use made::Made;
-pub use maker::make;
+pub use maker::{make, remake};

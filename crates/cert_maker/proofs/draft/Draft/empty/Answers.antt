@@ -1,0 +1,11 @@
+use Rattle.std.proofs.Common.{List, length, ap, arith}
+use Rattle.rail_model.specs.declared.types.Node.{Node}
+use Rattle.cert_maker.proofs.Copied.{nothing_begins}
+use Rattle.cert_maker.proofs.draft.Draft.empty.Goals as goal
+
+pub returns : goal.returns
+returns c = record {
+  are_lists = c.in_ok-lists.ensures;
+  begins = nothing_begins c.args.table.now c.new-nodes.result.items c.new-nodes.ensures.items;
+  few = omega (arith, ap (λ (w : List Node). length w) c.new-nodes.ensures.items);
+}

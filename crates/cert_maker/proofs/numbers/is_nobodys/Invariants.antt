@@ -1,0 +1,6 @@
+use Rattle.std.proofs.Common.{◌≡◌, ℕ, ◌<◌, Some}
+use Rattle.cert_maker.specs.Renumber.{number_in}
+use Rattle.cert_maker.proofs.numbers.is_nobodys.Given as goal
+
+abbrev pub invariant-loop-section : goal.invariant-loop-section
+invariant-loop-section l = (s : ℕ) → s < l.section → number_in l.numbers s ≡ Some l.number → ⊥

@@ -1,0 +1,8 @@
+use Rattle.std.proofs.Common.{◌≡◌, ℕ, length, subst, arith}
+use Rattle.cert_maker.specs.Numbers.{HasAll, IsGone}
+use Rattle.cert_maker.proofs.numbers.without_number.Goals as goal
+
+pub returns : goal.returns
+returns c =
+    let end : c.loop-section.section ≡ length c.args.numbers.now = omega arith in
+    subst (λ (n : ℕ). HasAll (IsGone c.args.numbers.now) n c.loop-section.gone.items) end c.loop-section.invariant

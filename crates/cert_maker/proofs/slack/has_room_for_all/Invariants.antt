@@ -1,0 +1,11 @@
+use Rattle.std.proofs.Common.{◌<◌, drop}
+use Rattle.rail_model.specs.Table.{trains}
+use Rattle.rail_model.specs.Certificate.{MayBeFull}
+use Rattle.range_sums.specs.Extremes.{IsQuiet}
+use Rattle.cert_maker.proofs.Sought.{IsSought}
+use Rattle.cert_maker.proofs.slack.has_room_for_all.Given as goal
+
+abbrev pub invariant-loop-train : goal.invariant-loop-train
+invariant-loop-train l =
+    IsSought (λ j. IsQuiet l.table j l.section) (λ j. (j < trains l.table) × MayBeFull l.table l.ranges j l.section) (trains l.table)
+    (drop l.train-index l.members)
