@@ -8,9 +8,9 @@ ghost use Rattle.section_repair.specs.Claims.{LosesNothing, IsExact, DoomsAlike}
 use crate::Repair;
 use crate::cores::core;
 use crate::joining::{settled, stays_of};
-use cert_maker::{Made, make};
+use cert_maker::{Draft, Made, Remade, remake};
 use forbidden_states::{Stays, marked};
-use rail_model::{Layout, Missions, State, Table, copy_missions};
+use rail_model::{Layout, Missions, State, Table, copy_missions, copy_table};
 use std::alloc::{AllocError, Global};
 
 // The most sections that a table has.
@@ -33,7 +33,7 @@ fn treated(
     settled(alloc, sections, stays)
 }
 
-// The answer: round by round a section more, until a certificate, the budget, the rounds or the room end it.
+// The answer: round by round a section more, over the draft of the round before, until a certificate, the budget, the rounds or the room end it.
 fn answer(alloc: Global, missions: Missions, budget: u32, rounds: u32) -> Result<Repair, AllocError>
     requires some { 1 ≤ budget }
     requires most { budget ≤ 1000000 }
@@ -41,9 +41,12 @@ fn answer(alloc: Global, missions: Missions, budget: u32, rounds: u32) -> Result
 {
     let mut sections = Vec::new(alloc);
     let mut table = marked(alloc, missions, &sections)?;
+    let mut former = copy_table(alloc, &table)?;
+    let mut draft = Draft::empty(alloc, &former)?;
     let mut used = 0;
     'rounds: loop {
-        let at = match make(alloc, &table, budget)? {
+        let Remade { made, draft: next } = remake(alloc, &table, budget, &former, &draft)?;
+        let at = match made {
             Made::Cert(cert) => {
                 return Ok(Repair::Done {
                     table,
@@ -63,6 +66,8 @@ fn answer(alloc: Global, missions: Missions, budget: u32, rounds: u32) -> Result
             return Ok(Repair::Many { table, count });
         }
         let missions = copy_missions(alloc, &table)?;
+        former = table;
+        draft = next;
         table = marked(alloc, missions, &sections)?;
         used += 1;
     }
