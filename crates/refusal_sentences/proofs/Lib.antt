@@ -1,3 +1,2 @@
 mod Commas
-mod Named
 mod Told

@@ -3,7 +3,7 @@ ghost use Rattle.std.specs.Prelude.{IfOk};
 ghost use Rattle.refusal_sentences.specs.ExplainedLines.{ExplainsLine};
 ghost use Rattle.refusal_sentences.specs.StateLines.{IsLineOf};
 
-use crate::meanings::meaning_of;
+use crate::meanings::write_meaning;
 use crate::state_lines::state_of;
 use crate::{Explained, explain_state};
 use std::alloc::{AllocError, Global};
@@ -18,22 +18,29 @@ fn words_of(line: &str) -> &str
     }
 }
 
+// What a line that names no state is explained with.
+fn meaning_of(alloc: Global, bytes: &[u8], words: &str, line: &str) -> Result<Explained, AllocError>
+    ensures { IfOk result (ExplainsLine bytes.now line.now) }
+{
+    let mut text = String::new(alloc);
+    if write_meaning(&mut text, bytes, words)? {
+        return Ok(Explained::Refusal(text));
+    }
+    write!(
+        text,
+        "This is no line of ats: {line:?}. A line of ats is like 206 Stuck table=0 at=1,1.\n"
+    )?;
+    Ok(Explained::NoLine(text))
+}
+
 /// What a line of `ats` says of a document. The line may begin with `ats: ` or with its number. One that names a state
 /// is explained as [`explain_state`] does it; of any other it says what it means, where, and what to do about it.
 pub fn explain_line(alloc: Global, bytes: &[u8], line: &str) -> Result<Explained, AllocError>
     ensures { IfOk result (ExplainsLine bytes.now line.now) }
 {
     let words = words_of(line);
-    if let Some(at) = state_of(alloc, words)? {
-        return explain_state(alloc, bytes, at.table, &at.places);
-    }
-    match meaning_of(alloc, bytes, words)? {
-        Some(text) => Ok(Explained::Refusal(text)),
-        None => {
-            let text = format!(in alloc;
-                "This is no line of ats: {line:?}. A line of ats is like 206 Stuck table=0 at=1,1.\n"
-            )?;
-            Ok(Explained::NoLine(text))
-        }
+    match state_of(alloc, words)? {
+        Some(at) => explain_state(alloc, bytes, at.table, at.state.as_slice()),
+        None => meaning_of(alloc, bytes, words, line),
     }
 }

@@ -1,8 +1,9 @@
 // Why there is no such state.
 
-use crate::called::Called;
-use crate::fields::{write_section_points, write_train_name};
-use crate::meanings::meaning_of;
+use crate::fields::write_train;
+use crate::meanings::write_meaning;
+use crate::names::{Names, members_of, names_of, rows_of};
+use crate::section_points::write_section_points;
 use layout_json::DocRefused;
 use legal_state::Illegal;
 use refusal_lines::push_document;
@@ -12,15 +13,13 @@ use std::alloc::{AllocError, Global};
 pub(crate) fn no_document_text(
     alloc: Global,
     document: &[u8],
-    refused: DocRefused,
+    refused: &DocRefused,
 ) -> Result<String, AllocError> {
     let mut words = String::new(alloc);
-    push_document(&mut words, &refused)?;
+    push_document(&mut words, refused)?;
     let words = words.as_str();
     let mut text = format!(in alloc; "ats refuses the document: {words}\n")?;
-    if let Some(meaning) = meaning_of(alloc, document, words)? {
-        text.push_str(meaning.as_str())?;
-    }
+    write_meaning(&mut text, document, words)?;
     Ok(text)
 }
 
@@ -33,43 +32,74 @@ pub(crate) fn no_table_text(alloc: Global, table: u32, tables: u32) -> Result<St
     format!(in alloc; "There is no table {table}: the document has tables 0 to {last}.\n")
 }
 
-/// Why places are no legal state of a table.
+/// Why places are no legal state of a table of a document.
 pub(crate) fn not_legal_text(
     alloc: Global,
-    called: &Called,
+    document: &[u8],
     table: u32,
     places: &[u32],
     cause: Illegal,
 ) -> Result<String, AllocError> {
+    let members = members_of(alloc, document)?;
     let mut text = format!(in alloc; "These places are no legal state of table {table}: ")?;
-    match cause {
-        Illegal::Length { count } => write_length(&mut text, called, count)?,
-        Illegal::Range { train } => write_range(&mut text, called, table, places, train)?,
-        Illegal::Clash {
-            first,
-            second,
-            point,
-        } => write_clash(&mut text, called, first, second, point)?,
-        Illegal::Over {
-            section,
-            count,
-            limit,
-        } => write_over(&mut text, called, table, section, count, limit)?,
-    }
+    write_cause(&mut text, names_of(&members), table, places, cause)?;
     text.push_str(".\n")?;
     Ok(text)
 }
 
+// Adds the cause.
+fn write_cause(
+    out: &mut String,
+    names: Names,
+    table: u32,
+    places: &[u32],
+    cause: Illegal,
+) -> Result<(), AllocError> {
+    let trains = names.trains;
+    match cause {
+        Illegal::Length { count } => write_length(out, trains, count),
+        Illegal::Range { train } => {
+            write_train(out, trains, train)?;
+            write_range(
+                out,
+                places.get(train as usize).copied(),
+                rows_of(names.tables, table).last_place(train),
+            )
+        }
+        Illegal::Clash {
+            first,
+            second,
+            point,
+        } => {
+            write_train(out, trains, first)?;
+            out.push_str(" and ")?;
+            write_train(out, trains, second)?;
+            match names.point(point) {
+                Some(name) => write!(out, " are both at {name}"),
+                None => write!(out, " are both at point {point}"),
+            }
+        }
+        Illegal::Over {
+            section,
+            count,
+            limit,
+        } => {
+            write!(out, "they take {count} of section {section}")?;
+            write_section_points(out, &rows_of(names.tables, table), section)?;
+            write!(out, ", whose limit is {limit}")
+        }
+    }
+}
+
 // Adds that there isn't one place for each train.
-fn write_length(out: &mut String, called: &Called, count: usize) -> Result<(), AllocError> {
-    let trains = called.trains();
+fn write_length(out: &mut String, trains: &[String], count: usize) -> Result<(), AllocError> {
     let wanted = trains.len();
     write!(out, "{count} given, {wanted} wanted, one for each of ")?;
-    let mut front = "";
-    for train in trains {
-        out.push_str(front)?;
+    for (index, train) in trains.iter().enumerate() {
+        if 0 < index {
+            out.push_str(", ")?;
+        }
         out.push_str(train.as_str())?;
-        front = ", ";
     }
     Ok(())
 }
@@ -77,48 +107,14 @@ fn write_length(out: &mut String, called: &Called, count: usize) -> Result<(), A
 // Adds that a train has no such place.
 fn write_range(
     out: &mut String,
-    called: &Called,
-    table: u32,
-    places: &[u32],
-    train: u32,
+    place: Option<u32>,
+    last: Option<usize>,
 ) -> Result<(), AllocError> {
-    write_train_name(out, called, train)?;
-    if let Some(place) = places.get(train as usize) {
+    if let Some(place) = place {
         write!(out, " has no place {place}")?;
     }
-    match called.last_place(table, train) {
+    match last {
         Some(last) => write!(out, ", its last place is {last}"),
         None => Ok(()),
     }
-}
-
-// Adds that two trains are at one point.
-fn write_clash(
-    out: &mut String,
-    called: &Called,
-    first: u32,
-    second: u32,
-    point: u32,
-) -> Result<(), AllocError> {
-    write_train_name(out, called, first)?;
-    out.push_str(" and ")?;
-    write_train_name(out, called, second)?;
-    match called.point(point) {
-        Some(name) => write!(out, " are both at {name}"),
-        None => write!(out, " are both at point {point}"),
-    }
-}
-
-// Adds that a section has no room for all the trains.
-fn write_over(
-    out: &mut String,
-    called: &Called,
-    table: u32,
-    section: u32,
-    count: u32,
-    limit: u32,
-) -> Result<(), AllocError> {
-    write!(out, "they take {count} of section {section}")?;
-    write_section_points(out, called, table, section)?;
-    write!(out, ", whose limit is {limit}")
 }

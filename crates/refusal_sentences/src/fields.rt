@@ -1,270 +1,224 @@
 // The fields of a line, with names for their numbers.
 
-use crate::called::Called;
-use crate::lines::{Field, Line};
-use crate::section_points::points_of_section;
+use crate::lines::field_of;
+use crate::names::{Names, Rows, no_rows, rows_of};
+use crate::section_points::write_section_points;
 use crate::shapes::shape_of;
 use decimal_number::number_of;
 use rail_model::{Connection, Node};
 use std::alloc::AllocError;
 
-/// What a line's fields are read with: names, and which table and train the line speaks of.
+/// What a line's fields are read with: names, and the table and the train that the line speaks of.
 #[derive(Clone, Copy)]
 pub(crate) struct Scope<'a> {
-    pub called: &'a Called,
-    pub table: Option<u32>,
-    pub train: Option<u32>,
-    /// Whether `first` and `second` are points and not trains.
-    pub points: bool,
+    names: Names<'a>,
+    rows: Rows<'a>,
+    train: Option<u32>,
+    // Whether `first` and `second` are points and not trains.
+    points: bool,
 }
 
-impl<'a> Scope<'a> {
-    /// The scope of a line. A line without a table speaks of table 0 if there is no other, and if it is of a start.
-    pub(crate) fn of(line: &Line, called: &'a Called) -> Scope<'a> {
-        let number = line.number(0);
-        let sole = if called.has_one_table() || number == Some(112) {
-            Some(0)
+/// The scope of a line with these words. A line without a table speaks of table 0 if there is no other, and if it is of
+/// a start.
+pub(crate) fn scope_of<'a>(names: Names<'a>, words: &str, line: &str) -> Scope<'a> {
+    let is_sole = names.tables.len() == 1 || words.starts_with("112 ");
+    let rows = match field_of(line, "table") {
+        Some(table) => rows_of(names.tables, table),
+        None => if is_sole {
+            rows_of(names.tables, 0)
         } else {
-            None
-        };
-        Scope {
-            called,
-            table: line.field("table").or(sole),
-            train: line.field("train"),
-            points: number == Some(2),
-        }
+            no_rows()
+        },
+    };
+    Scope {
+        names,
+        rows,
+        train: field_of(line, "train"),
+        points: words == "2 DoubleName",
     }
 }
 
 /// Adds where a refusal is: the fields of its line.
-pub(crate) fn write_where(
-    out: &mut String,
-    scope: Scope,
-    fields: &[Field],
-) -> Result<(), AllocError> {
-    let mut front = "Where: ";
-    for field in fields {
-        out.push_str(front)?;
-        write_field(out, scope, *field)?;
-        front = ", ";
+pub(crate) fn write_where(out: &mut String, scope: &Scope, line: &str) -> Result<(), AllocError> {
+    let mut is_first = true;
+    for word in line.split_whitespace() {
+        if let Some((key, value)) = word.split_once('=') {
+            write_front(out, is_first)?;
+            write_field(out, scope, key, value)?;
+            is_first = false;
+        }
     }
-    if fields.is_empty() {
+    if is_first {
         Ok(())
     } else {
         out.push_str(".\n")
     }
 }
 
-// Adds a field with the names that its number stands for.
-fn write_field(out: &mut String, scope: Scope, field: Field) -> Result<(), AllocError> {
-    let Field { key, value } = field;
-    let Some(number) = number_of(value.as_bytes()) else {
-        return write_value(out, key, value);
-    };
-    match key {
-        "first" => write_pair(out, scope, number),
-        "second" => write_pair(out, scope, number),
-        "train" => write_train(out, scope.called, number),
-        "by" => write_train(out, scope.called, number),
-        "other" => write_train(out, scope.called, number),
-        "point" => write_point(out, scope.called, number),
-        "place" => write_place(out, scope, number),
-        "section" => write_section(out, scope, number),
-        "connection" => write_connection(out, scope, number),
-        "link" => write_link(out, scope.called, number),
-        "index" => write_node(out, scope, number),
-        "line" => write!(out, "line {number} of the journal"),
-        _ => write_value(out, key, value),
+// Adds what stands before a field.
+fn write_front(out: &mut String, is_first: bool) -> Result<(), AllocError> {
+    if is_first {
+        out.push_str("Where: ")
+    } else {
+        out.push_str(", ")
     }
 }
 
-// Adds a field as it stands.
-fn write_value(out: &mut String, key: &str, value: &str) -> Result<(), AllocError> {
+// What a number of a field is called.
+fn word_of<'a>(key: &'a str, points: bool) -> &'a str {
     match key {
-        "what" => out.push_str(value),
-        "member" => write_member(out, value),
-        _ => write!(out, "{key} {value}"),
+        "first" | "second" => if points { "point" } else { "train" },
+        "by" | "other" => "train",
+        "index" => "node",
+        _ => key,
     }
+}
+
+// Adds a field with the names that its number stands for.
+fn write_field(out: &mut String, scope: &Scope, key: &str, value: &str) -> Result<(), AllocError> {
+    match (key, number_of(value.as_bytes())) {
+        ("what", _) => out.push_str(value),
+        ("member", _) => write_member(out, value),
+        (_, None) => write_numbered(out, key, value),
+        (_, Some(number)) => {
+            let word = word_of(key, scope.points);
+            write_numbered(out, word, value)?;
+            write_names(out, scope, key, word, number)
+        }
+    }
+}
+
+// Adds a number after what it is called.
+fn write_numbered(out: &mut String, word: &str, number: &str) -> Result<(), AllocError> {
+    out.push_str(word)?;
+    out.push_str(" ")?;
+    out.push_str(number)
 }
 
 // Adds a member and its shape.
 fn write_member(out: &mut String, member: &str) -> Result<(), AllocError> {
+    out.push_str(member)?;
     match shape_of(member) {
-        Some(shape) => write!(out, "{member} ({shape})"),
-        None => out.push_str(member),
+        Some(shape) => write_in_brackets(out, shape),
+        None => Ok(()),
     }
 }
 
-// Adds one of two points or of two trains.
-fn write_pair(out: &mut String, scope: Scope, number: u32) -> Result<(), AllocError> {
-    if scope.points {
-        write_point(out, scope.called, number)
-    } else {
-        write_train(out, scope.called, number)
+fn write_in_brackets(out: &mut String, words: &str) -> Result<(), AllocError> {
+    out.push_str(" (")?;
+    out.push_str(words)?;
+    out.push_str(")")
+}
+
+// Adds what has a number.
+fn write_names(
+    out: &mut String,
+    scope: &Scope,
+    key: &str,
+    word: &str,
+    number: u32,
+) -> Result<(), AllocError> {
+    let index = number as usize;
+    match word {
+        "train" => write_name(out, scope.names.trains.get(index)),
+        "point" => write_name(out, scope.names.point(number)),
+        "place" => match scope.train {
+            Some(train) => write_point(out, &scope.rows, train, number),
+            None => Ok(()),
+        },
+        "section" => write_section_points(out, &scope.rows, number),
+        "connection" => match scope.rows.connections.get(index) {
+            Some(rule) => write_rule(out, scope, rule),
+            None => Ok(()),
+        },
+        "link" => write_link(out, scope.names.links, index),
+        "line" => out.push_str(" of the journal"),
+        _ => match (key, scope.rows.nodes.get(index)) {
+            ("index", Some(node)) => write_claim(out, scope, *node),
+            _ => Ok(()),
+        },
     }
 }
 
 // Adds the name, if there is one.
-fn write_name(out: &mut String, name: Option<&str>) -> Result<(), AllocError> {
+fn write_name(out: &mut String, name: Option<&String>) -> Result<(), AllocError> {
     match name {
         Some(name) => write!(out, " ({name:?})"),
         None => Ok(()),
     }
 }
 
-fn write_train(out: &mut String, called: &Called, train: u32) -> Result<(), AllocError> {
-    write!(out, "train {train}")?;
-    write_name(out, called.train(train))
-}
-
-fn write_point(out: &mut String, called: &Called, point: u32) -> Result<(), AllocError> {
-    write!(out, "point {point}")?;
-    write_name(out, called.point(point))
-}
-
-fn write_link(out: &mut String, called: &Called, link: u32) -> Result<(), AllocError> {
-    write!(out, "link {link}")?;
-    match called.link(link) {
+// Adds the names of the points that a link joins.
+fn write_link(out: &mut String, links: &[(String, String)], link: usize) -> Result<(), AllocError> {
+    match links.get(link) {
         Some((first, second)) => write!(out, " ({first:?}, {second:?})"),
         None => Ok(()),
     }
 }
 
-// Adds a place of the train that the line speaks of.
-fn write_place(out: &mut String, scope: Scope, place: u32) -> Result<(), AllocError> {
-    match (scope.table, scope.train) {
-        (Some(table), Some(train)) => write_place_of(out, scope.called, table, train, place),
-        _ => write!(out, "place {place}"),
+// Adds the name of the point at a place of a train, or that the train is out of the layout.
+fn write_point(out: &mut String, rows: &Rows, train: u32, place: u32) -> Result<(), AllocError> {
+    let name = rows.point(train, place);
+    if name.is_none() && rows.last_place(train) == Some(place as usize) {
+        return out.push_str(" (out of the layout)");
     }
+    write_name(out, name)
 }
 
-// Adds a train's place.
-fn write_place_of(
-    out: &mut String,
-    called: &Called,
-    table: u32,
-    train: u32,
-    place: u32,
-) -> Result<(), AllocError> {
+// Adds a place of a train.
+fn write_place(out: &mut String, rows: &Rows, train: u32, place: u32) -> Result<(), AllocError> {
     write!(out, "place {place}")?;
-    match called.point_at(table, train, place) {
-        Some(point) => write!(out, " ({point:?})"),
-        None => write_way_out(out, called.last_place(table, train) == Some(place as usize)),
-    }
-}
-
-// Adds that a train is out of the layout.
-fn write_way_out(out: &mut String, is_out: bool) -> Result<(), AllocError> {
-    if is_out {
-        out.push_str(" (out of the layout)")
-    } else {
-        Ok(())
-    }
-}
-
-fn write_section(out: &mut String, scope: Scope, section: u32) -> Result<(), AllocError> {
-    write!(out, "section {section}")?;
-    match scope.table {
-        Some(table) => write_section_points(out, scope.called, table, section),
-        None => Ok(()),
-    }
-}
-
-fn write_connection(out: &mut String, scope: Scope, connection: u32) -> Result<(), AllocError> {
-    write!(out, "connection {connection}")?;
-    let Some(table) = scope.table else {
-        return Ok(());
-    };
-    match scope.called.connection(table, connection) {
-        Some(rule) => write_rule(out, scope.called, table, rule),
-        None => Ok(()),
-    }
-}
-
-fn write_node(out: &mut String, scope: Scope, index: u32) -> Result<(), AllocError> {
-    write!(out, "node {index}")?;
-    let Some(table) = scope.table else {
-        return Ok(());
-    };
-    match scope.called.node(table, index) {
-        Some(node) => write_claim(out, scope.called, node),
-        None => Ok(()),
-    }
+    write_point(out, rows, train, place)
 }
 
 // Adds what a node says.
-fn write_claim(out: &mut String, called: &Called, node: Node) -> Result<(), AllocError> {
+fn write_claim(out: &mut String, scope: &Scope, node: Node) -> Result<(), AllocError> {
+    let trains = scope.names.trains;
     match node {
         Node::Split { train, place } => {
             out.push_str(" (")?;
-            write_train_name(out, called, train)?;
+            write_train(out, trains, train)?;
             write!(out, " up to place {place}, or beyond it)")
         }
         Node::Clash { first, second } => {
             out.push_str(" (")?;
-            write_train_name(out, called, first)?;
+            write_train(out, trains, first)?;
             out.push_str(" and ")?;
-            write_train_name(out, called, second)?;
+            write_train(out, trains, second)?;
             out.push_str(" are at the same point)")
         }
         Node::Overfull { section } => write!(out, " (section {section} is overfull)"),
         Node::Arrived => out.push_str(" (all trains have arrived)"),
         Node::Move { train } => {
             out.push_str(" (")?;
-            write_train_name(out, called, train)?;
+            write_train(out, trains, train)?;
             out.push_str(" has a move)")
         }
     }
 }
 
 // Adds what a connection says.
-fn write_rule(
-    out: &mut String,
-    called: &Called,
-    table: u32,
-    rule: Connection,
-) -> Result<(), AllocError> {
+fn write_rule(out: &mut String, scope: &Scope, rule: &Connection) -> Result<(), AllocError> {
+    let trains = scope.names.trains;
     out.push_str(" (")?;
-    write_train_name(out, called, rule.train())?;
+    write_train(out, trains, rule.train())?;
     out.push_str(" leaves ")?;
-    write_place_of(out, called, table, rule.train(), rule.place())?;
+    write_place(out, &scope.rows, rule.train(), rule.place())?;
     out.push_str(" after ")?;
-    write_train_name(out, called, rule.other())?;
+    write_train(out, trains, rule.other())?;
     out.push_str(" has reached ")?;
-    write_place_of(out, called, table, rule.other(), rule.reached())?;
+    write_place(out, &scope.rows, rule.other(), rule.reached())?;
     out.push_str(")")
 }
 
 /// Adds the name of a train, or its number where it has no name.
-pub(crate) fn write_train_name(
+pub(crate) fn write_train(
     out: &mut String,
-    called: &Called,
+    trains: &[String],
     train: u32,
 ) -> Result<(), AllocError> {
-    match called.train(train) {
-        Some(name) => out.push_str(name),
+    match trains.get(train as usize) {
+        Some(name) => out.push_str(name.as_str()),
         None => write!(out, "train {train}"),
-    }
-}
-
-/// Adds up to six of the points at which a train has a share of a section.
-pub(crate) fn write_section_points(
-    out: &mut String,
-    called: &Called,
-    table: u32,
-    section: u32,
-) -> Result<(), AllocError> {
-    let points = points_of_section(*out.allocator(), called, table, section)?;
-    let few = points.len().min(6);
-    let mut front = " (";
-    for point in &points[..few] {
-        out.push_str(front)?;
-        out.push_str(*point)?;
-        front = ", ";
-    }
-    match points.len() {
-        0 => Ok(()),
-        1..=6 => out.push_str(")"),
-        _ => out.push_str(" and others)"),
     }
 }

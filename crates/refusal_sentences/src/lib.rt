@@ -1,13 +1,13 @@
 //! Explains by names what `ats` answers: what holds each train in a state, and what each refusal means and what to do about it.
 #![tactic(auto)]
 
-mod called;
 mod explained;
 mod explaining;
 mod faults;
 mod fields;
 mod lines;
 mod meanings;
+mod names;
 mod places;
 mod refusals;
 mod section_points;

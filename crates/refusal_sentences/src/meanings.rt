@@ -1,26 +1,39 @@
 // What a line means, where, and what to do about it.
 
-use crate::called::Called;
-use crate::fields::{Scope, write_where};
-use crate::lines::Line;
-use std::alloc::{AllocError, Global};
+use crate::fields::{scope_of, write_where};
+use crate::lines::words_of;
+use crate::names::{members_of, names_of};
+use crate::refusals::{Refusal, refusal_of};
+use std::alloc::AllocError;
 
-/// What a line means for a document, in two or three lines; none if it is no line of `ats`.
-pub(crate) fn meaning_of(
-    alloc: Global,
+/// Adds what a line means for a document, in two or three lines; says whether it is a line of `ats`.
+pub(crate) fn write_meaning(
+    out: &mut String,
+    document: &[u8],
+    line: &str,
+) -> Result<bool, AllocError> {
+    let alloc = *out.allocator();
+    let words = words_of(alloc, line)?;
+    match refusal_of(words.as_str()) {
+        Some(refusal) => write_refusal(out, document, words.as_str(), line, refusal),
+        None => Ok(false),
+    }
+}
+
+// Adds what a refusal means.
+fn write_refusal(
+    out: &mut String,
     document: &[u8],
     words: &str,
-) -> Result<Option<String>, AllocError> {
-    let line = Line::read(alloc, words)?;
-    let Some(refusal) = line.refusal() else {
-        return Ok(None);
-    };
-    let called = Called::read(alloc, document)?;
-    let mut text = String::new(alloc);
-    write_line(&mut text, refusal.meaning)?;
-    write_where(&mut text, Scope::of(&line, &called), line.fields())?;
-    write_line(&mut text, refusal.advice)?;
-    Ok(Some(text))
+    line: &str,
+    refusal: Refusal,
+) -> Result<bool, AllocError> {
+    let members = members_of(*out.allocator(), document)?;
+    let scope = scope_of(names_of(&members), words, line);
+    write_line(out, refusal.meaning)?;
+    write_where(out, &scope, line)?;
+    write_line(out, refusal.advice)?;
+    Ok(true)
 }
 
 // Adds a sentence as a line.

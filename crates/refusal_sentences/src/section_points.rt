@@ -1,26 +1,21 @@
 // The points at which trains have shares of a section.
 
-use crate::called::Called;
+use crate::names::Rows;
 use std::alloc::{AllocError, Global};
 
-/// The points at which a train's share of a section is above 0, in the order of the missions.
-pub(crate) fn points_of_section<'a>(
-    alloc: Global,
-    called: &'a Called,
-    table: u32,
-    section: u32,
-) -> Result<Vec<&'a str>, AllocError> {
+// The points at which a train's share of a section is above 0, in the order of the missions.
+fn points_of<'a>(alloc: Global, rows: &Rows<'a>, section: u32) -> Result<Vec<&'a str>, AllocError> {
     let mut points = Vec::new(alloc);
-    if let Some(section) = called.section(table, section) {
-        for (changes, mission) in section.changes.iter().zip(called.missions(table)) {
-            add_points(&mut points, changes, mission)?;
+    if let Some(section) = rows.sections.get(section as usize) {
+        for (changes, mission) in section.changes.iter().zip(rows.missions) {
+            push_points(&mut points, changes, mission)?;
         }
     }
     Ok(points)
 }
 
 // Adds the points of a mission at which the share is above 0, each once.
-fn add_points<'a>(
+fn push_points<'a>(
     points: &mut Vec<&'a str>,
     changes: &[i32],
     mission: &'a [String],
@@ -28,16 +23,36 @@ fn add_points<'a>(
     let mut share: i32 = 0;
     for (change, point) in changes.iter().zip(mission) {
         share = share.saturating_add(*change);
-        if 0 < share {
-            add_once(points, point.as_str())?;
+        if 0 < share && !is_known(points, point.as_str()) {
+            points.push(point.as_str())?;
         }
     }
     Ok(())
 }
 
-fn add_once<'a>(points: &mut Vec<&'a str>, point: &'a str) -> Result<(), AllocError> {
-    if !points.iter().any(|known| *known == point) {
-        points.push(point)?;
+fn is_known(points: &[&str], point: &str) -> bool {
+    for known in points {
+        if *known == point {
+            return true;
+        }
     }
-    Ok(())
+    false
+}
+
+/// Adds up to six of the points at which a train has a share of a section.
+pub(crate) fn write_section_points(
+    out: &mut String,
+    rows: &Rows,
+    section: u32,
+) -> Result<(), AllocError> {
+    let points = points_of(*out.allocator(), rows, section)?;
+    for (index, point) in points.iter().enumerate().take(6) {
+        out.push_str(if index == 0 { " (" } else { ", " })?;
+        out.push_str(point)?;
+    }
+    match points.len() {
+        0 => Ok(()),
+        1..=6 => out.push_str(")"),
+        _ => out.push_str(" and others)"),
+    }
 }

@@ -1,85 +1,91 @@
 // The lines that name a state: one that is stuck, or the one that was next when the rounds were spent.
-ghost use Rattle.std.specs.Prelude.{◌≡◌, ℕ, IfOk, IfSome, decimal};
-ghost use Rattle.refusal_lines.specs.Makers.{places_words, stuck_words, rounds_words};
-ghost use Rattle.refusal_sentences.specs.StateLines.{NamesState, IsRoundsOf};
+ghost use Rattle.std.specs.Prelude.{◌≡◌, IsTrue, IfOk, IfSome};
+ghost use Rattle.refusal_lines.specs.Makers.{stuck_words, rounds_words};
+ghost use Rattle.refusal_sentences.specs.StateLines.{NamesState};
 
 use crate::places_of;
 use decimal_number::number_of;
+use rail_model::State;
+use refusal_lines::{push_rounds, push_stuck};
 use std::alloc::{AllocError, Global};
 
 /// A table, and a place for each train.
 #[derive(Drop)]
 pub(crate) struct Positions {
     pub table: u32,
-    pub places: Vec<u32>,
+    pub state: State,
 }
 
-// The number that a word is the text of.
-fn numeral(word: &str) -> Option<u32>
-    ensures { IfSome result (λ n. word.now ≡ decimal n) }
-{
-    number_of(word.as_bytes())
+// The number between two texts, or at the end behind the first one.
+fn number_after(words: &str, front: &str) -> Option<u32> {
+    let (_before, behind) = words.split_once(front)?;
+    match behind.split_once(' ') {
+        Some((number, _later)) => number_of(number.as_bytes()),
+        None => number_of(behind.as_bytes()),
+    }
 }
 
-// The table and the places that two words are the text of.
-fn positions_of(alloc: Global, table: &str, places: &str) -> Result<Option<Positions>, AllocError>
-    ensures { IfOk result (λ found. IfSome found (λ at. (table.now ≡ decimal at.table) × (places.now ≡ places_words at.places.items))) }
-{
-    let Some(table) = numeral(table) else {
+// The table and the places of a line that may name a state.
+fn positions_of(alloc: Global, words: &str) -> Result<Option<Positions>, AllocError> {
+    let Some((front, places)) = words.split_once(" at=") else {
+        return Ok(None);
+    };
+    let Some(table) = number_after(front, " table=") else {
         return Ok(None);
     };
     match places_of(alloc, places)? {
-        Some(places) => Ok(Some(Positions { table, places })),
+        Some(places) => Ok(Some(Positions {
+            table,
+            state: State::from(places),
+        })),
         None => Ok(None),
     }
 }
 
-// The state of a line such as `206 Stuck table=0 at=1,1`.
-fn stuck_state(alloc: Global, words: &str) -> Result<Option<Positions>, AllocError>
-    ensures { IfOk result (λ found. IfSome found (λ at. words.now ≡ stuck_words at.table at.places.items)) }
+// Whether the words are those of a table that is stuck in a state.
+fn is_stuck(alloc: Global, words: &str, table: u32, state: &State) -> Result<bool, AllocError>
+    ensures { IfOk result (λ is. IsTrue is → words.now ≡ stuck_words table state.now) }
 {
-    let Some(fields) = words.strip_prefix("206 Stuck table=") else {
-        return Ok(None);
-    };
-    match fields.split_once(" at=") {
-        Some((table, places)) => positions_of(alloc, table, places),
-        None => Ok(None),
-    }
+    let mut line = String::new(alloc);
+    push_stuck(&mut line, table, state)?;
+    Ok(line.as_str() == words)
 }
 
-// The state of `0 rounds=2 at=1,1`, the fields of a line such as `209 Rounds table=0 rounds=2 at=1,1`.
-fn rounds_fields(alloc: Global, table: &str, fields: &str) -> Result<Option<Positions>, AllocError>
-    ensures { IfOk result (λ found. IfSome found (λ at. IsRoundsOf table.now fields.now at.table at.places.items)) }
+// Whether the words are those of a table whose rounds were spent before a state.
+fn is_spent(
+    alloc: Global,
+    words: &str,
+    table: u32,
+    rounds: u32,
+    state: &State,
+) -> Result<bool, AllocError>
+    ensures { IfOk result (λ is. IsTrue is → words.now ≡ rounds_words table rounds state.now) }
 {
-    let Some((rounds, places)) = fields.split_once(" at=") else {
-        return Ok(None);
-    };
-    match numeral(rounds) {
-        Some(_) => positions_of(alloc, table, places),
-        None => Ok(None),
-    }
+    let mut line = String::new(alloc);
+    push_rounds(&mut line, table, rounds, state)?;
+    Ok(line.as_str() == words)
 }
 
-// The state of a line such as `209 Rounds table=0 rounds=2 at=1,1`.
-fn rounds_state(alloc: Global, words: &str) -> Result<Option<Positions>, AllocError>
-    ensures { IfOk result (λ found. IfSome found (λ at. (n : ℕ) × (words.now ≡ rounds_words at.table n at.places.items))) }
+// Whether the words are a line that names these positions.
+fn is_line_of(alloc: Global, words: &str, at: &Positions) -> Result<bool, AllocError>
+    ensures { IfOk result (λ is. IsTrue is → NamesState words.now at.now.table at.now.state) }
 {
-    let Some(fields) = words.strip_prefix("209 Rounds table=") else {
-        return Ok(None);
-    };
-    match fields.split_once(" rounds=") {
-        Some((table, others)) => rounds_fields(alloc, table, others),
-        None => Ok(None),
+    match number_after(words, " rounds=") {
+        Some(rounds) => is_spent(alloc, words, at.table, rounds, &at.state),
+        None => is_stuck(alloc, words, at.table, &at.state),
     }
 }
 
 /// The state that a line names, if it names one.
 pub(crate) fn state_of(alloc: Global, words: &str) -> Result<Option<Positions>, AllocError>
-    ensures { IfOk result (λ found. IfSome found (λ at. NamesState words.now at.table at.places.items)) }
+    ensures { IfOk result (λ found. IfSome found (λ at. NamesState words.now at.table at.state)) }
 {
-    let stuck = stuck_state(alloc, words)?;
-    match stuck {
-        Some(at) => Ok(Some(at)),
-        None => rounds_state(alloc, words),
+    let Some(at) = positions_of(alloc, words)? else {
+        return Ok(None);
+    };
+    if is_line_of(alloc, words, &at)? {
+        Ok(Some(at))
+    } else {
+        Ok(None)
     }
 }

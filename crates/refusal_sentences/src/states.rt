@@ -8,7 +8,6 @@ ghost use Rattle.state_sentences.specs.Tells.{Tells};
 ghost use Rattle.refusal_sentences.specs.Explains.{ExplainsState, ExplainsIn};
 
 use crate::Explained;
-use crate::called::Called;
 use crate::faults::{no_document_text, no_table_text, not_legal_text};
 use layout_json::{Doc, DocRefused, document, names_of, table_of, tables_of};
 use legal_state::judge;
@@ -39,8 +38,7 @@ fn explain_positions(
             Ok(Explained::State(text_of(alloc, &scene, table)?))
         }
         Err(cause) => {
-            let called = Called::read(alloc, bytes)?;
-            let text = not_legal_text(alloc, &called, table, places, cause)?;
+            let text = not_legal_text(alloc, bytes, table, places, cause)?;
             Ok(Explained::NotLegal { cause, text })
         }
     }
@@ -77,7 +75,7 @@ pub fn explain_state(
         Ok(doc) => explain_table(alloc, bytes, &doc, table, places),
         Err(DocRefused::Memory) => Err(AllocError),
         Err(refused) => {
-            let text = no_document_text(alloc, bytes, refused)?;
+            let text = no_document_text(alloc, bytes, &refused)?;
             Ok(Explained::NoDocument { refused, text })
         }
     }

@@ -11,7 +11,7 @@ returns-in-Some c =
     let words = c.words_of-words.result.now in
     let at = c.in-Some.at in
     let told = c.explain_state.result in
-    let named : NamesState words at.table at.places.items = rw c.in-Some.is at c.in_ok-at.ensures in
-    let explained : IfOk told (ExplainsState bytes at.table at.places.items) =
-    subst (λ (p : List ℕ). IfOk told (ExplainsState bytes at.table p)) c.deref.ensures.value c.explain_state.ensures in
-    told_if_ok bytes c.args.line.now words at.table at.places.items c.words_of-words.ensures named told explained
+    let named : NamesState words at.table at.state = rw c.in-Some.is at c.in_ok-at.ensures in
+    let explained : IfOk told (ExplainsState bytes at.table at.state) =
+    subst (λ (p : List ℕ). IfOk told (ExplainsState bytes at.table p)) c.as_slice.ensures c.explain_state.ensures in
+    told_if_ok bytes c.args.line.now words at.table at.state c.words_of-words.ensures named told explained

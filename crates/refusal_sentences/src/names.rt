@@ -1,0 +1,108 @@
+// What a document calls its trains, points, sections and links, whether or not `ats` takes the document.
+
+use document_shapes::{DocMembers, SectionMembers, ShapeRefused, TableMembers, read_document};
+use rail_model::{Connection, Node};
+use std::alloc::{AllocError, Global};
+
+/// The members of a document, if it has all of them in their shapes.
+pub(crate) fn members_of(alloc: Global, document: &[u8]) -> Result<Option<DocMembers>, AllocError> {
+    match read_document(alloc, document) {
+        Ok(members) => Ok(Some(members)),
+        Err(ShapeRefused::Memory) => Err(AllocError),
+        Err(_) => Ok(None),
+    }
+}
+
+/// The names of a document, and its tables.
+#[derive(Clone, Copy)]
+pub(crate) struct Names<'a> {
+    pub trains: &'a [String],
+    pub points: &'a [(String, u32)],
+    pub links: &'a [(String, String)],
+    pub tables: &'a [TableMembers],
+}
+
+/// The names of a document; none where it has no members.
+pub(crate) fn names_of(members: &Option<DocMembers>) -> Names<'_> {
+    match members {
+        Some(members) => Names {
+            trains: &members.trains,
+            points: &members.points,
+            links: &members.links,
+            tables: &members.tables,
+        },
+        None => Names {
+            trains: &[],
+            points: &[],
+            links: &[],
+            tables: &[],
+        },
+    }
+}
+
+impl<'a> Names<'a> {
+    /// The name of a point.
+    pub(crate) fn point(&self, point: u32) -> Option<&'a String> {
+        let (name, _zone) = self.points.get(point as usize)?;
+        Some(name)
+    }
+}
+
+/// The members of a table; those that it hasn't are empty.
+#[derive(Clone, Copy)]
+pub(crate) struct Rows<'a> {
+    pub missions: &'a [Vec<String>],
+    pub exits: &'a [bool],
+    pub sections: &'a [SectionMembers],
+    pub connections: &'a [Connection],
+    pub nodes: &'a [Node],
+}
+
+/// The members of a table; empty ones if there is no such table.
+pub(crate) fn rows_of(tables: &[TableMembers], table: u32) -> Rows<'_> {
+    match tables.get(table as usize) {
+        Some(table) => Rows {
+            missions: &table.missions,
+            exits: items_of(&table.exits),
+            sections: items_of(&table.sections),
+            connections: items_of(&table.connections),
+            nodes: items_of(&table.certificate),
+        },
+        None => no_rows(),
+    }
+}
+
+/// No members.
+pub(crate) fn no_rows<'a>() -> Rows<'a> {
+    Rows {
+        missions: &[],
+        exits: &[],
+        sections: &[],
+        connections: &[],
+        nodes: &[],
+    }
+}
+
+fn items_of<T>(list: &Option<Vec<T>>) -> &[T] {
+    match list {
+        Some(items) => items,
+        None => &[],
+    }
+}
+
+impl<'a> Rows<'a> {
+    /// The name of the point at a train's place.
+    pub(crate) fn point(&self, train: u32, place: u32) -> Option<&'a String> {
+        self.missions.get(train as usize)?.get(place as usize)
+    }
+
+    /// A train's last place.
+    pub(crate) fn last_place(&self, train: u32) -> Option<usize> {
+        let points = self.missions.get(train as usize)?.len();
+        if self.exits.get(train as usize) == Some(&true) {
+            Some(points)
+        } else {
+            points.checked_sub(1)
+        }
+    }
+}
