@@ -6,12 +6,73 @@ const ABOUT: &str = "Writes documents of ats from plans, and explains, checks an
 
 It reads standard input and writes standard output. What is wrong goes to standard error, a line each.";
 
+// An option: what its value is called, empty if it takes none, and the option that it can't stand with, if there is one.
+#[derive(Clone, Copy)]
+struct Choice {
+    name: &'static str,
+    value: &'static str,
+    help: &'static str,
+    without: &'static str,
+}
+
+const AT: Choice = Choice {
+    name: "at",
+    value: "PLACES",
+    help: "The place of each train, as 1,0,2",
+    without: "line",
+};
+
+const TABLE: Choice = Choice {
+    name: "table",
+    value: "NUMBER",
+    help: "The table, counted from 0 (default: 0)",
+    without: "",
+};
+
+const LINE: Choice = Choice {
+    name: "line",
+    value: "LINE",
+    help: "A line that `ats` wrote to standard error",
+    without: "table",
+};
+
+const BEFORE: Choice = Choice {
+    name: "before",
+    value: "FILE",
+    help: "A former document: lists its sections that are gone",
+    without: "",
+};
+
+const CSV: Choice = Choice {
+    name: "csv",
+    value: "",
+    help: "With commas instead of columns",
+    without: "",
+};
+
+const TRAIN: Choice = Choice {
+    name: "train",
+    value: "NAME",
+    help: "The train whose route is the axis of places (default: the longest route)",
+    without: "",
+};
+
+const AT_OR_START: Choice = Choice {
+    name: "at",
+    value: "PLACES",
+    help: "The place of each train, as 1,0,2 (default: the start)",
+    without: "",
+};
+
 /// The whole command.
 pub(crate) fn command<'a>(alloc: Global) -> Result<Command<'a>, AllocError> {
-    let command = start(alloc).subcommand(plan(alloc))?;
-    let command = command.subcommand(explain(alloc)?)?;
-    let command = command.subcommand(lint(alloc)?)?;
-    with_runs(alloc, command)
+    let about = "Reads a plan (TOML) and writes its document, for `ats make`";
+    let command = with_subcommand(alloc, start(alloc), "plan", about, &[])?;
+    let about = "Reads a document and explains a state, or a line of `ats`, by names";
+    let command = with_subcommand(alloc, command, "explain", about, &[AT, TABLE, LINE])?;
+    let about = "Reads a document and lists what has no effect or is likely a mistake";
+    let command = with_subcommand(alloc, command, "lint", about, &[BEFORE])?;
+    with_pictures(alloc, command)
 }
 
 // The command before any subcommand.
@@ -24,90 +85,51 @@ fn start<'a>(alloc: Global) -> Command<'a> {
         .disable_help_subcommand(true)
 }
 
-fn with_runs<'a>(alloc: Global, command: Command<'a>) -> Result<Command<'a>, AllocError> {
-    let command = command.subcommand(timetable(alloc)?)?;
-    let command = command.subcommand(graph(alloc)?)?;
-    command.subcommand(layout(alloc)?)
-}
-
-// A subcommand without options.
-fn leaf<'a>(alloc: Global, name: &'a str, about: &'a str) -> Command<'a> {
-    Command::new(alloc, name).about(about)
-}
-
-// An option that takes a value.
-fn option<'a>(alloc: Global, name: &'a str, value: &'a str, help: &'a str) -> Arg<'a> {
-    Arg::new(alloc, name)
-        .long(name)
-        .value_name(value)
-        .help(help)
-        .action(ArgAction::Set)
-}
-
-fn plan<'a>(alloc: Global) -> Command<'a> {
-    leaf(
-        alloc,
-        "plan",
-        "Reads a plan (TOML) and writes its document, for `ats make`",
-    )
-}
-
-fn explain<'a>(alloc: Global) -> Result<Command<'a>, AllocError> {
-    let about = "Reads a document and explains a state, or a line of `ats`, by names";
-    let at = option(alloc, "at", "PLACES", "The place of each train, as 1,0,2").conflicts_with(
-        "line",
-    )?;
-    let line = option(
-        alloc,
-        "line",
-        "LINE",
-        "A line that `ats` wrote to standard error",
-    )
-    .conflicts_with("table")?;
-    let command = leaf(alloc, "explain", about).arg(at)?;
-    let command = command.arg(table(alloc))?;
-    command.arg(line)
-}
-
-// The option that names a table.
-fn table<'a>(alloc: Global) -> Arg<'a> {
-    option(
-        alloc,
-        "table",
-        "NUMBER",
-        "The table, counted from 0 (default: 0)",
-    )
-}
-
-fn lint<'a>(alloc: Global) -> Result<Command<'a>, AllocError> {
-    let about = "Reads a document and lists what has no effect or is likely a mistake";
-    let help = "A former document: lists its sections that are gone";
-    leaf(alloc, "lint", about).arg(option(alloc, "before", "FILE", help))
-}
-
-fn timetable<'a>(alloc: Global) -> Result<Command<'a>, AllocError> {
+fn with_pictures<'a>(alloc: Global, command: Command<'a>) -> Result<Command<'a>, AllocError> {
     let about =
         "Reads a document, a line `journal` and what `ats sim` wrote; writes when each train arrives, leaves and waits";
-    let csv = Arg::new(alloc, "csv")
-        .long("csv")
-        .help("With commas instead of columns")
-        .action(ArgAction::SetTrue);
-    leaf(alloc, "timetable", about).arg(csv)
-}
-
-fn graph<'a>(alloc: Global) -> Result<Command<'a>, AllocError> {
+    let command = with_subcommand(alloc, command, "timetable", about, &[CSV])?;
     let about = "Reads what `timetable` reads; writes a picture (SVG) of the trains over time";
-    let help = "The train whose route is the axis of places (default: the longest route)";
-    leaf(alloc, "graph", about).arg(option(alloc, "train", "NAME", help))
+    let command = with_subcommand(alloc, command, "graph", about, &[TRAIN])?;
+    let about = "Reads a document and writes a picture (SVG) of its tracks, sections and trains";
+    with_subcommand(alloc, command, "layout", about, &[AT_OR_START, TABLE])
 }
 
-fn layout<'a>(alloc: Global) -> Result<Command<'a>, AllocError> {
-    let about = "Reads a document and writes a picture (SVG) of its tracks, sections and trains";
-    let at = option(
-        alloc,
-        "at",
-        "PLACES",
-        "The place of each train, as 1,0,2 (default: the start)",
-    );
-    leaf(alloc, "layout", about).arg(at)?.arg(table(alloc))
+// The command with one more subcommand, which has these options.
+fn with_subcommand<'a>(
+    alloc: Global,
+    command: Command<'a>,
+    name: &'static str,
+    about: &'static str,
+    choices: &[Choice],
+) -> Result<Command<'a>, AllocError> {
+    command.subcommand(leaf(alloc, name, about, choices)?)
+}
+
+// A subcommand with these options.
+fn leaf<'a>(
+    alloc: Global,
+    name: &'static str,
+    about: &'static str,
+    choices: &[Choice],
+) -> Result<Command<'a>, AllocError> {
+    let mut command = Command::new(alloc, name).about(about);
+    for choice in choices {
+        command = command.arg(option(alloc, choice)?)?;
+    }
+    Ok(command)
+}
+
+fn option<'a>(alloc: Global, choice: &Choice) -> Result<Arg<'a>, AllocError> {
+    let arg = Arg::new(alloc, choice.name)
+        .long(choice.name)
+        .help(choice.help);
+    if choice.value.is_empty() {
+        return Ok(arg.action(ArgAction::SetTrue));
+    }
+    let arg = arg.value_name(choice.value).action(ArgAction::Set);
+    if choice.without.is_empty() {
+        return Ok(arg);
+    }
+    arg.conflicts_with(choice.without)
 }
