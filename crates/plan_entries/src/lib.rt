@@ -3,14 +3,10 @@
 
 mod entries;
 mod faults;
-mod reading;
 mod source;
-mod values;
+mod types;
 
-pub use entries::{
-    Chain, ConnectionEntry, Entries, SectionEntry, TableEntry, TrainEntry, ZoneEntry,
-};
-pub use faults::{Fault, Faults, Subject, quoted};
-pub use reading::read_entries;
+pub use entries::{Entries, Entry, Kind, list_of, names_of, top};
+pub use faults::{Fault, Faults, Part, Subject};
 pub use source::Place;
-pub use values::{NamedNumber, NamedPlace, Numbers, Places};
+pub use types::check_types;

@@ -23,6 +23,11 @@ fn is_word_part(letter: char) -> bool {
     letter.is_ascii_alphanumeric() || letter == '_' || letter == '-'
 }
 
+// Whether a key or a name ends at this character.
+fn is_gap(letter: char) -> bool {
+    !is_word_part(letter)
+}
+
 // The name in the brackets that a line begins with; empty if it begins with none.
 fn header_of(line: &str) -> &str {
     let Some(rest) = line.trim_start().strip_prefix("[") else {
@@ -50,11 +55,7 @@ fn is_part_of(part: &str, header: &str) -> bool {
 // Whether a line begins with a key, or is the header of its table.
 fn begins_with(line: &str, key: &str) -> bool {
     let line = line.trim_start();
-    let first = line
-        .strip_prefix("\"")
-        .unwrap_or(line)
-        .split(|letter: char| !is_word_part(letter))
-        .next();
+    let first = line.strip_prefix("\"").unwrap_or(line).split(is_gap).next();
     if first == Some(key) {
         return true;
     }
@@ -68,9 +69,7 @@ fn begins_with(line: &str, key: &str) -> bool {
 fn has_word(line: &str, word: &str) -> bool {
     line.split('"').any(|piece| piece == word)
         || line.split('\'').any(|piece| piece == word)
-        || line
-            .split(|letter: char| !is_word_part(letter))
-            .any(|piece| piece == word)
+        || line.split(is_gap).any(|piece| piece == word)
 }
 
 impl<'a> Source<'a> {

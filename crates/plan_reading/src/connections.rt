@@ -1,9 +1,9 @@
 // Who waits for whom in a table.
-use crate::names::{tell_of, train_of};
+use crate::names::{find, tell_of, tell_words};
 use crate::routes::{Scope, place_of};
 use plan_document::Wait;
-use plan_entries::{ConnectionEntry, Faults};
-use std::alloc::{AllocError, Global};
+use plan_entries::{Entries, Entry, Faults};
+use std::alloc::AllocError;
 
 const MOST_CONNECTIONS: usize = 32;
 
@@ -12,126 +12,73 @@ fn number(of: usize) -> u32 {
     u32::try_from(of).unwrap_or(0)
 }
 
-// The text of a key, if there is one.
-fn text(name: &Option<String>) -> Option<&str> {
-    match name {
-        Some(name) => Some(name.as_str()),
-        None => None,
-    }
+// The train at a key; one that isn't there is reported.
+fn train_at(faults: &mut Faults, entry: &Entry, key: &str, scope: &Scope) -> Option<usize> {
+    let name = entry.text(key)?;
+    find(faults, &entry.subject, key, "train", name, scope.trains)
+}
+
+// The place at a key on the route of a train; one that isn't there is reported.
+fn place_at(
+    faults: &mut Faults,
+    entry: &Entry,
+    key: &str,
+    scope: &Scope,
+    train: Option<usize>,
+) -> Option<usize> {
+    let name = entry.text(key)?;
+    place_of(faults, &entry.subject, key, name, scope, train?)
 }
 
 // Tells a place that a train doesn't leave, since its route ends there.
-fn check_leaves(
-    alloc: Global,
-    faults: &mut Faults,
-    entry: &ConnectionEntry,
-    name: &str,
-    scope: &Scope,
-    train: usize,
-    place: usize,
-) -> Result<(), AllocError> {
+fn check_leaves(faults: &mut Faults, entry: &Entry, scope: &Scope, train: usize, place: usize) {
     let last = scope.route(train).len() <= place.saturating_add(1);
-    if last && !scope.exits(train) {
+    if last
+        && !scope.exits(train)
+        && let Some(name) = entry.text("leaves")
+    {
         let words = " is never left: the route of the train ends there";
-        return tell_of(alloc, faults, &entry.subject, "leaves", name, words);
+        tell_of(faults, &entry.subject, "leaves", name, words);
     }
-    Ok(())
-}
-
-// The place that the train of a connection may not leave.
-fn left_place(
-    alloc: Global,
-    faults: &mut Faults,
-    entry: &ConnectionEntry,
-    scope: &Scope,
-    train: Option<usize>,
-) -> Result<usize, AllocError> {
-    let (Some(name), Some(train)) = (text(&entry.leaves), train) else {
-        return Ok(0);
-    };
-    match place_of(alloc, faults, &entry.subject, "leaves", name, scope, train)? {
-        Some(place) => {
-            check_leaves(alloc, faults, entry, name, scope, train, place)?;
-            Ok(place)
-        }
-        None => Ok(0),
-    }
-}
-
-// The place that the other train of a connection has to reach.
-fn reached_place(
-    alloc: Global,
-    faults: &mut Faults,
-    entry: &ConnectionEntry,
-    scope: &Scope,
-    after: Option<usize>,
-) -> Result<usize, AllocError> {
-    let (Some(name), Some(after)) = (text(&entry.reached), after) else {
-        return Ok(0);
-    };
-    let place = place_of(alloc, faults, &entry.subject, "reached", name, scope, after)?;
-    Ok(place.unwrap_or(0))
 }
 
 // A connection of a table; what is wrong with it is reported.
-fn wait(
-    alloc: Global,
-    faults: &mut Faults,
-    entry: &ConnectionEntry,
-    scope: &Scope,
-) -> Result<Wait, AllocError> {
-    let train = train_of(
-        alloc,
-        faults,
-        &entry.subject,
-        "train",
-        text(&entry.train),
-        scope.trains,
-    )?;
-    let after = train_of(
-        alloc,
-        faults,
-        &entry.subject,
-        "after",
-        text(&entry.after),
-        scope.trains,
-    )?;
+fn wait(faults: &mut Faults, entry: &Entry, scope: &Scope) -> Wait {
+    let train = train_at(faults, entry, "train", scope);
+    let after = train_at(faults, entry, "after", scope);
     if train.is_some() && train == after {
-        faults.tell(
-            &entry.subject,
-            "after",
-            "",
-            &["a train doesn't wait for itself"],
-        )?;
+        let words = "a train doesn't wait for itself";
+        tell_words(faults, &entry.subject, "after", words);
     }
-    let leaves = left_place(alloc, faults, entry, scope, train)?;
-    let reached = reached_place(alloc, faults, entry, scope, after)?;
-    Ok(Wait {
+    let leaves = place_at(faults, entry, "leaves", scope, train);
+    if let Some(train) = train
+        && let Some(place) = leaves
+    {
+        check_leaves(faults, entry, scope, train, place);
+    }
+    let reached = place_at(faults, entry, "reached", scope, after);
+    Wait {
         train: number(train.unwrap_or(0)),
-        leaves: number(leaves),
+        leaves: number(leaves.unwrap_or(0)),
         after: number(after.unwrap_or(0)),
-        reached: number(reached),
-    })
+        reached: number(reached.unwrap_or(0)),
+    }
 }
 
-/// The connections of a table; what is wrong with them is reported.
-pub(crate) fn waits(
-    alloc: Global,
+/// Adds the connections of a table; what is wrong with them is reported.
+pub(crate) fn add_waits(
     faults: &mut Faults,
-    entries: &[ConnectionEntry],
+    entries: &Entries,
     scope: &Scope,
-) -> Result<Vec<Wait>, AllocError> {
-    let mut found = Vec::new(alloc);
-    for entry in entries.iter().take(MOST_CONNECTIONS) {
-        found.push(wait(alloc, faults, entry, scope)?)?;
+    waits: &mut Vec<Wait>,
+) -> Result<(), AllocError> {
+    let count = entries.values.len();
+    for index in 0..count.min(MOST_CONNECTIONS) {
+        waits.push(wait(faults, &entries.entry(index), scope))?;
     }
-    if let Some(entry) = entries.get(MOST_CONNECTIONS) {
-        faults.tell(
-            &entry.subject,
-            "",
-            "",
-            &["this is one connection too many: 32 are the most of a table"],
-        )?;
+    if MOST_CONNECTIONS < count {
+        let words = "this is one connection too many: 32 are the most of a table";
+        tell_words(faults, &entries.entry(MOST_CONNECTIONS).subject, "", words);
     }
-    Ok(found)
+    Ok(())
 }

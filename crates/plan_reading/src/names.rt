@@ -1,22 +1,42 @@
 // Names, and what to write in place of one that isn't known.
-use plan_entries::{Faults, Subject, quoted};
+use plan_entries::{Faults, Part, Subject};
 use std::alloc::{AllocError, Global};
+use toml::Value;
 
 // A distance between names that aren't alike.
 const FAR: usize = 1000;
 
+/// The text of a value that is one; else it is empty.
+pub(crate) fn text_of(value: &Value) -> &str {
+    match value.as_str() {
+        Some(text) => text,
+        None => "",
+    }
+}
+
 /// Whether a text has the form of a name: 1 to 16 letters, digits and `_`.
 pub(crate) fn is_name(text: &str) -> bool {
-    !text.is_empty()
-        && text.len() <= 16
-        && text
-            .bytes()
-            .all(|byte| byte.is_ascii_alphanumeric() || byte == b'_')
+    for byte in text.bytes() {
+        if !byte.is_ascii_alphanumeric() && byte != b'_' {
+            return false;
+        }
+    }
+    !text.is_empty() && text.len() <= 16
+}
+
+/// The number of a name among these.
+pub(crate) fn number_of(known: &[&str], name: &str) -> Option<usize> {
+    for (index, one) in known.iter().enumerate() {
+        if *one == name {
+            return Some(index);
+        }
+    }
+    None
 }
 
 /// Whether a name is one of these.
-pub(crate) fn is_known(known: &[String], name: &str) -> bool {
-    known.iter().any(|one| one.as_str() == name)
+pub(crate) fn is_known(known: &[&str], name: &str) -> bool {
+    number_of(known, name).is_some()
 }
 
 // By how many letters two names differ; far if hardly any are the same.
@@ -35,98 +55,124 @@ fn distance(alloc: Global, name: &str, known: &str) -> Result<usize, AllocError>
     })
 }
 
-// The name that is most like this one, if one differs in at most two letters.
-fn nearest<'a>(
-    alloc: Global,
-    name: &str,
-    known: &'a [String],
-) -> Result<Option<&'a str>, AllocError> {
+// The number of the name that is most like this one, if one differs in at most two letters.
+fn nearest(alloc: Global, name: &str, known: &[&str]) -> Result<Option<usize>, AllocError> {
     let mut least = 3usize;
     let mut found = None;
-    for one in known {
-        let edits = distance(alloc, name, one.as_str())?;
+    for (index, one) in known.iter().enumerate() {
+        let edits = distance(alloc, name, one)?;
         if edits < least {
             least = edits;
-            found = Some(one.as_str());
+            found = Some(index);
         }
     }
     Ok(found)
 }
 
-/// The first ten of these names, with commas between them.
-pub(crate) fn listed(alloc: Global, names: &[String]) -> Result<String, AllocError> {
-    let mut out = String::new(alloc);
-    for (index, name) in names.iter().take(10).enumerate() {
-        if 0 < index {
-            out.push_str(", ")?;
-        }
-        out.push_str(name.as_str())?;
-    }
-    if 10 < names.len() {
-        out.push_str(" ..")?;
-    }
-    Ok(out)
-}
-
-// What may have been meant by a name that isn't one of these.
-fn hint(alloc: Global, kind: &str, name: &str, known: &[String]) -> Result<String, AllocError> {
-    match nearest(alloc, name, known)? {
-        Some(near) => format!(in alloc; "; did you mean \"{near}\"?"),
-        None => {
-            let known = listed(alloc, known)?;
-            format!(in alloc; "; the {kind}s are {known}")
-        }
-    }
-}
-
-/// Tells that there is no point, or no train, of a name.
-pub(crate) fn tell_no(
-    alloc: Global,
+// Tells that there is no point, or no train, of a name.
+fn tell_no<'x>(
     faults: &mut Faults,
     subject: &Subject,
     key: &str,
-    kind: &str,
-    name: &str,
-    known: &[String],
-) -> Result<(), AllocError> {
-    let shown = quoted(alloc, name)?;
-    let hint = hint(alloc, kind, name, known)?;
-    faults.tell(
-        subject,
-        key,
-        name,
-        &["no ", kind, " ", shown.as_str(), hint.as_str()],
-    )
-}
-
-/// Tells something of a name: what comes before it, and what behind it.
-pub(crate) fn tell_of(
-    alloc: Global,
-    faults: &mut Faults,
-    subject: &Subject,
-    key: &str,
-    name: &str,
-    behind: &str,
-) -> Result<(), AllocError> {
-    let shown = quoted(alloc, name)?;
-    faults.tell(subject, key, name, &[shown.as_str(), behind])
-}
-
-/// The number of the train of a name, if it is given; a name that no train has is reported.
-pub(crate) fn train_of(
-    alloc: Global,
-    faults: &mut Faults,
-    subject: &Subject,
-    key: &str,
-    name: Option<&str>,
-    trains: &[String],
-) -> Result<Option<usize>, AllocError> {
-    let Some(name) = name else {
-        return Ok(None);
+    kind: &'x str,
+    name: &'x str,
+    known: &'x [&'x str],
+) {
+    let near = match nearest(faults.alloc(), name, known) {
+        Ok(Some(index)) => known.get(index),
+        Ok(None) => None,
+        Err(AllocError) => return faults.lose(),
     };
-    let found = trains.iter().position(|train| train.as_str() == name);
-    if found.is_none() {
-        tell_no(alloc, faults, subject, key, "train", name, trains)?;
+    match near {
+        Some(near) => tell_near(faults, subject, key, kind, name, near),
+        None => tell_list(faults, subject, key, kind, name, known),
     }
-    Ok(found)
+}
+
+// Tells that there is no such name, but one that is like it.
+fn tell_near<'x>(
+    faults: &mut Faults,
+    subject: &Subject,
+    key: &str,
+    kind: &'x str,
+    name: &'x str,
+    near: &'x str,
+) {
+    let parts = [
+        Part::Words("no "),
+        Part::Words(kind),
+        Part::Words(" "),
+        Part::Name(name),
+        Part::Words("; did you mean \""),
+        Part::Words(near),
+        Part::Words("\"?"),
+    ];
+    faults.tell(subject, key, name, &parts);
+}
+
+// Tells that there is no such name, and those that there are.
+fn tell_list<'x>(
+    faults: &mut Faults,
+    subject: &Subject,
+    key: &str,
+    kind: &'x str,
+    name: &'x str,
+    known: &'x [&'x str],
+) {
+    let parts = [
+        Part::Words("no "),
+        Part::Words(kind),
+        Part::Words(" "),
+        Part::Name(name),
+        Part::Words("; the "),
+        Part::Words(kind),
+        Part::Words("s are "),
+        Part::List(known),
+    ];
+    faults.tell(subject, key, name, &parts);
+}
+
+/// Tells something of a name, which comes before the other words.
+pub(crate) fn tell_of<'x>(
+    faults: &mut Faults,
+    subject: &Subject,
+    key: &str,
+    name: &'x str,
+    behind: &'x str,
+) {
+    faults.tell(subject, key, name, &[Part::Name(name), Part::Words(behind)]);
+}
+
+/// Tells a number that is out of range.
+pub(crate) fn tell_number(
+    faults: &mut Faults,
+    subject: &Subject,
+    key: &str,
+    name: &str,
+    words: &str,
+    number: i64,
+) {
+    let parts = [Part::Words(words), Part::Number(number)];
+    faults.tell(subject, key, name, &parts);
+}
+
+/// Tells something in these words alone.
+pub(crate) fn tell_words(faults: &mut Faults, subject: &Subject, key: &str, words: &str) {
+    faults.tell(subject, key, "", &[Part::Words(words)]);
+}
+
+/// The number of a name among those of a kind; one that isn't among them is reported.
+pub(crate) fn find(
+    faults: &mut Faults,
+    subject: &Subject,
+    key: &str,
+    kind: &'static str,
+    name: &str,
+    known: &[&str],
+) -> Option<usize> {
+    let found = number_of(known, name);
+    if found.is_none() {
+        tell_no(faults, subject, key, kind, name, known);
+    }
+    found
 }

@@ -1,13 +1,12 @@
 // Places on routes, by the names of their points.
-use crate::names::{is_known, tell_no, tell_of};
-use plan_entries::{Faults, Subject, quoted};
-use std::alloc::{AllocError, Global};
+use crate::names::find;
+use plan_entries::{Faults, Part, Subject};
 
 /// What the names in a table stand for: points, trains, and the route of each train under the table.
 #[derive(Clone, Copy)]
 pub(crate) struct Scope<'a> {
-    pub points: &'a [String],
-    pub trains: &'a [String],
+    pub points: &'a [&'a str],
+    pub trains: &'a [&'a str],
     pub routes: &'a [Vec<String>],
     pub exits: &'a [bool],
     pub table: usize,
@@ -25,7 +24,7 @@ impl<'a> Scope<'a> {
     /// The name of a train; empty for one that isn't there.
     pub fn train(&self, train: usize) -> &'a str {
         match self.trains.get(train) {
-            Some(name) => name.as_str(),
+            Some(name) => name,
             None => "",
         }
     }
@@ -41,17 +40,6 @@ impl<'a> Scope<'a> {
     /// Whether a train exits behind its route.
     pub fn exits(&self, train: usize) -> bool {
         self.exits.get(train).copied().unwrap_or(false)
-    }
-
-    // What messages call the route of a train.
-    fn route_words(&self, alloc: Global, train: usize) -> Result<String, AllocError> {
-        let name = quoted(alloc, self.train(train))?;
-        let table = self.table;
-        if table == 0 {
-            format!(in alloc; " the route of train {name}")
-        } else {
-            format!(in alloc; " the route of train {name} in table {table}")
-        }
     }
 }
 
@@ -103,69 +91,63 @@ pub(crate) fn find_place(route: &[String], name: &str) -> Spot {
 }
 
 /// Tells that a point comes more than once on a train's route.
-pub(crate) fn tell_several(
-    alloc: Global,
+pub(crate) fn tell_several<'x>(
     faults: &mut Faults,
     subject: &Subject,
     key: &str,
-    name: &str,
-    scope: &Scope,
+    name: &'x str,
+    scope: &Scope<'x>,
     train: usize,
-) -> Result<(), AllocError> {
-    let shown = quoted(alloc, name)?;
-    let route = scope.route_words(alloc, train)?;
-    faults.tell(
-        subject,
-        key,
-        name,
-        &[
-            shown.as_str(),
-            " comes more than once on",
-            route.as_str(),
-            ": write #1, #2 .. behind it",
-        ],
-    )
+) {
+    let parts = [
+        Part::Name(name),
+        Part::Words(" comes more than once on the route of train "),
+        Part::Name(scope.train(train)),
+        Part::InTable(scope.table),
+        Part::Words(": write #1, #2 .. behind it"),
+    ];
+    faults.tell(subject, key, name, &parts);
 }
 
 /// Tells that a name stands nowhere on a train's route.
-pub(crate) fn tell_nowhere(
-    alloc: Global,
+pub(crate) fn tell_nowhere<'x>(
     faults: &mut Faults,
     subject: &Subject,
     key: &str,
-    name: &str,
-    scope: &Scope,
+    name: &'x str,
+    scope: &Scope<'x>,
     train: usize,
-) -> Result<(), AllocError> {
-    let point = point_of(name);
-    if !is_known(scope.points, point) {
-        return tell_no(alloc, faults, subject, key, "point", point, scope.points);
+) {
+    if find(faults, subject, key, "point", point_of(name), scope.points).is_none() {
+        return;
     }
-    let route = scope.route_words(alloc, train)?;
-    tell_of(
-        alloc,
-        faults,
-        subject,
-        key,
-        name,
-        format!(in alloc; " is not on{route}")?.as_str(),
-    )
+    let parts = [
+        Part::Name(name),
+        Part::Words(" is not on the route of train "),
+        Part::Name(scope.train(train)),
+        Part::InTable(scope.table),
+    ];
+    faults.tell(subject, key, name, &parts);
 }
 
 /// The place of a name on a train's route; a name that isn't one place is reported.
-pub(crate) fn place_of(
-    alloc: Global,
+pub(crate) fn place_of<'x>(
     faults: &mut Faults,
     subject: &Subject,
     key: &str,
-    name: &str,
-    scope: &Scope,
+    name: &'x str,
+    scope: &Scope<'x>,
     train: usize,
-) -> Result<Option<usize>, AllocError> {
+) -> Option<usize> {
     match find_place(scope.route(train), name) {
-        Spot::At(place) => return Ok(Some(place)),
-        Spot::Nowhere => tell_nowhere(alloc, faults, subject, key, name, scope, train)?,
-        Spot::Several => tell_several(alloc, faults, subject, key, name, scope, train)?,
+        Spot::At(place) => Some(place),
+        Spot::Nowhere => {
+            tell_nowhere(faults, subject, key, name, scope, train);
+            None
+        }
+        Spot::Several => {
+            tell_several(faults, subject, key, name, scope, train);
+            None
+        }
     }
-    Ok(None)
 }

@@ -1,10 +1,11 @@
 // The sections of a table.
-use crate::names::{is_known, tell_no, train_of};
+use crate::names::{find, is_known, tell_number, tell_words, text_of};
 use crate::routes::{Scope, Spot, find_place, point_of, tell_nowhere, tell_several};
-use crate::trains::copied_names;
+use crate::trains::push_names;
 use plan_document::{Holding, SectionPlan, share_at};
-use plan_entries::{Faults, NamedPlace, Numbers, Places, SectionEntry, Subject, quoted};
+use plan_entries::{Entries, Entry, Faults, Part, Subject};
 use std::alloc::{AllocError, Global};
+use toml::{Table, Value};
 
 const MOST_SECTIONS: usize = 64;
 
@@ -20,62 +21,45 @@ const NOTHING: Holding = Holding {
 };
 
 // The limit of a section; one that is out of range is reported.
-fn limit_of(alloc: Global, faults: &mut Faults, entry: &SectionEntry) -> Result<u32, AllocError> {
-    let Some(number) = entry.limit else {
-        return Ok(MOST_LIMIT);
+fn limit_of(faults: &mut Faults, entry: &Entry) -> u32 {
+    let Some(number) = entry.number("limit") else {
+        return MOST_LIMIT;
     };
     match u32::try_from(number) {
-        Ok(limit) if limit <= MOST_LIMIT => Ok(limit),
+        Ok(limit) if limit <= MOST_LIMIT => limit,
         _ => {
-            let words = format!(in alloc; "a limit is 0 to 128, and this is {number}")?;
-            faults.tell(&entry.subject, "limit", "", &[words.as_str()])?;
-            Ok(MOST_LIMIT)
+            let words = "a limit is 0 to 128, and this is ";
+            tell_number(faults, &entry.subject, "limit", "", words, number);
+            MOST_LIMIT
         }
     }
 }
 
 // Tells each point of a list that isn't known.
-fn check_points(
+fn check_points(faults: &mut Faults, subject: &Subject, names: &[Value], points: &[&str]) {
+    for name in names {
+        find(faults, subject, "points", "point", text_of(name), points);
+    }
+}
+
+// Adds the points of a section: all, if only its stretch is given.
+fn add_points(
     alloc: Global,
     faults: &mut Faults,
-    subject: &Subject,
-    names: &[String],
-    points: &[String],
+    entry: &Entry,
+    scope: &Scope,
+    plan: &mut SectionPlan,
 ) -> Result<(), AllocError> {
-    for name in names {
-        if !points.iter().any(|point| point.as_str() == name.as_str()) {
-            tell_no(
-                alloc,
-                faults,
-                subject,
-                "points",
-                "point",
-                name.as_str(),
-                points,
-            )?;
+    if let Some(points) = entry.names("points") {
+        check_points(faults, &entry.subject, points, scope.points);
+        return push_names(&mut plan.points, alloc, points);
+    }
+    if entry.has_places("from") || entry.has_places("to") {
+        for point in scope.points {
+            plan.points.push(String::from_str(alloc, point)?)?;
         }
     }
     Ok(())
-}
-
-// The points of a section: all, if only its stretch is given.
-fn points_of(
-    alloc: Global,
-    faults: &mut Faults,
-    entry: &SectionEntry,
-    scope: &Scope,
-) -> Result<Vec<String>, AllocError> {
-    match &entry.points {
-        Some(points) => {
-            check_points(alloc, faults, &entry.subject, points, scope.points)?;
-            copied_names(alloc, points)
-        }
-        None => if entry.from.is_some() || entry.to.is_some() {
-            copied_names(alloc, scope.points)
-        } else {
-            Ok(Vec::new(alloc))
-        },
-    }
 }
 
 // A weight, if it is one.
@@ -87,214 +71,161 @@ fn weight_in(number: i64) -> Option<u8> {
 }
 
 // Tells a weight that is out of range.
-fn check_weight(
-    alloc: Global,
-    faults: &mut Faults,
-    subject: &Subject,
-    name: &str,
-    number: i64,
-) -> Result<(), AllocError> {
-    if weight_in(number).is_some() {
-        return Ok(());
+fn check_weight(faults: &mut Faults, subject: &Subject, name: &str, number: i64) {
+    if weight_in(number).is_none() {
+        let words = "a weight is 0 to 4, and this is ";
+        tell_number(faults, subject, "weight", name, words, number);
     }
-    let words = format!(in alloc; "a weight is 0 to 4, and this is {number}")?;
-    faults.tell(subject, "weight", name, &[words.as_str()])
 }
 
-// Tells what is wrong with the weights of a section.
-fn check_weights(
-    alloc: Global,
-    faults: &mut Faults,
-    subject: &Subject,
-    weights: &Numbers,
-    trains: &[String],
-) -> Result<(), AllocError> {
-    if let Some(number) = weights.all {
-        check_weight(alloc, faults, subject, "", number)?;
+// Tells what is wrong with the weights of trains. A weight without a name is for all.
+fn check_weights(faults: &mut Faults, subject: &Subject, weights: &Table, trains: &[&str]) {
+    for (name, value) in weights {
+        if let Some(number) = value.as_integer() {
+            if !name.is_empty() {
+                find(faults, subject, "weight", "train", name.as_str(), trains);
+            }
+            check_weight(faults, subject, name.as_str(), number);
+        }
     }
-    for weight in &weights.named {
-        let name = weight.name.as_str();
-        train_of(alloc, faults, subject, "weight", Some(name), trains)?;
-        check_weight(alloc, faults, subject, name, weight.value)?;
-    }
-    Ok(())
 }
 
-// Tells each train of a list that isn't known.
-fn check_only(
-    alloc: Global,
-    faults: &mut Faults,
-    subject: &Subject,
-    only: &[String],
-    trains: &[String],
-) -> Result<(), AllocError> {
-    for name in only {
-        train_of(alloc, faults, subject, "only", Some(name.as_str()), trains)?;
+// Tells what is wrong with the weight of a section.
+fn check_section_weight(faults: &mut Faults, entry: &Entry, trains: &[&str]) {
+    match entry.value("weight") {
+        Some(Value::Integer(number)) => check_weight(faults, &entry.subject, "", *number),
+        Some(Value::Table(weights)) => check_weights(faults, &entry.subject, weights, trains),
+        _ => {}
     }
-    Ok(())
+}
+
+// Tells each train of the section's list that isn't known.
+fn check_only(faults: &mut Faults, entry: &Entry, trains: &[&str]) {
+    if let Some(only) = entry.names("only") {
+        for name in only {
+            find(
+                faults,
+                &entry.subject,
+                "only",
+                "train",
+                text_of(name),
+                trains,
+            );
+        }
+    }
 }
 
 // Whether a section concerns a train.
-fn is_concerned(entry: &SectionEntry, train: &str) -> bool {
-    match &entry.only {
-        Some(only) => only.iter().any(|name| name.as_str() == train),
-        None => true,
+fn is_concerned(entry: &Entry, train: &str) -> bool {
+    let Some(only) = entry.names("only") else {
+        return true;
+    };
+    for name in only {
+        if text_of(name) == train {
+            return true;
+        }
+    }
+    false
+}
+
+// The weight for all trains: 1, if none is given.
+fn usual_weight(entry: &Entry) -> i64 {
+    match entry.number("weight") {
+        Some(number) => number,
+        None => entry.number_for("weight", "").unwrap_or(1),
     }
 }
 
-// The weight of a train: its own, or that for all, or 1.
-fn weight_of(entry: &SectionEntry, train: &str) -> u8 {
-    let Some(weights) = &entry.weight else {
-        return 1;
-    };
-    let own = weights
-        .named
-        .iter()
-        .find(|weight| weight.name.as_str() == train);
-    let number = match own {
-        Some(weight) => weight.value,
-        None => weights.all.unwrap_or(1),
+// The weight of a train: its own, or that for all.
+fn weight_of(entry: &Entry, train: &str) -> u8 {
+    let number = match entry.number_for("weight", train) {
+        Some(own) => own,
+        None => usual_weight(entry),
     };
     weight_in(number).unwrap_or(0)
 }
 
-// Tells an end of a stretch to which no train of the section comes.
-fn check_end(
-    alloc: Global,
-    faults: &mut Faults,
-    entry: &SectionEntry,
-    key: &str,
-    name: &str,
-    scope: &Scope,
-) -> Result<(), AllocError> {
-    let point = point_of(name);
-    if !scope.points.iter().any(|known| known.as_str() == point) {
-        return tell_no(
-            alloc,
-            faults,
-            &entry.subject,
-            key,
-            "point",
-            point,
-            scope.points,
-        );
-    }
+// Whether a train of the section comes to a place.
+fn has_comer(entry: &Entry, name: &str, scope: &Scope) -> bool {
     for train in 0..scope.trains.len() {
         let comes = !matches!(find_place(scope.route(train), name), Spot::Nowhere);
         if comes && is_concerned(entry, scope.train(train)) {
-            return Ok(());
+            return true;
         }
     }
-    let shown = quoted(alloc, name)?;
-    faults.tell(
+    false
+}
+
+// Tells an end of a stretch to which no train of the section comes.
+fn check_end(faults: &mut Faults, entry: &Entry, key: &str, name: &str, scope: &Scope) {
+    let point = find(
+        faults,
         &entry.subject,
         key,
-        name,
-        &["no train of this section comes to ", shown.as_str()],
-    )
+        "point",
+        point_of(name),
+        scope.points,
+    );
+    if point.is_some() && !has_comer(entry, name, scope) {
+        let parts = [
+            Part::Words("no train of this section comes to "),
+            Part::Name(name),
+        ];
+        faults.tell(&entry.subject, key, name, &parts);
+    }
 }
 
 // Tells an end of one train's stretch to which it doesn't come. On its route of a further table it need not.
 fn check_own_end(
-    alloc: Global,
     faults: &mut Faults,
-    entry: &SectionEntry,
+    subject: &Subject,
     key: &str,
-    end: &NamedPlace,
+    train: &str,
+    place: &str,
     scope: &Scope,
-) -> Result<(), AllocError> {
-    let train = end.name.as_str();
-    let place = end.place.as_str();
-    let Some(train) = train_of(
-        alloc,
-        faults,
-        &entry.subject,
-        key,
-        Some(train),
-        scope.trains,
-    )?
-    else {
-        return Ok(());
+) {
+    let Some(train) = find(faults, subject, key, "train", train, scope.trains) else {
+        return;
     };
     let is_due = scope.table == 0 || !is_known(scope.points, point_of(place));
-    match find_place(scope.route(train), place) {
-        Spot::Nowhere if is_due => {
-            tell_nowhere(alloc, faults, &entry.subject, key, place, scope, train)
+    if is_due && matches!(find_place(scope.route(train), place), Spot::Nowhere) {
+        tell_nowhere(faults, subject, key, place, scope, train);
+    }
+}
+
+// Tells what is wrong with the ends of trains' stretches.
+fn check_own_ends(faults: &mut Faults, subject: &Subject, key: &str, ends: &Table, scope: &Scope) {
+    for (train, value) in ends {
+        if let Some(place) = value.as_str() {
+            check_own_end(faults, subject, key, train.as_str(), place, scope);
         }
-        _ => Ok(()),
     }
 }
 
 // Tells what is wrong with an end of the stretches of a section.
-fn check_ends(
-    alloc: Global,
-    faults: &mut Faults,
-    entry: &SectionEntry,
-    key: &str,
-    ends: &Places,
-    scope: &Scope,
-) -> Result<(), AllocError> {
-    if let Some(name) = &ends.all {
-        check_end(alloc, faults, entry, key, name.as_str(), scope)?;
-    }
-    for end in &ends.named {
-        check_own_end(alloc, faults, entry, key, end, scope)?;
-    }
-    Ok(())
-}
-
-// Tells what is wrong with the names and numbers of a section.
-fn check_entry(
-    alloc: Global,
-    faults: &mut Faults,
-    entry: &SectionEntry,
-    scope: &Scope,
-) -> Result<(), AllocError> {
-    if let Some(weights) = &entry.weight {
-        check_weights(alloc, faults, &entry.subject, weights, scope.trains)?;
-    }
-    if let Some(only) = &entry.only {
-        check_only(alloc, faults, &entry.subject, only, scope.trains)?;
-    }
-    if let Some(from) = &entry.from {
-        check_ends(alloc, faults, entry, "from", from, scope)?;
-    }
-    if let Some(to) = &entry.to {
-        check_ends(alloc, faults, entry, "to", to, scope)?;
-    }
-    Ok(())
-}
-
-// The end of a train's stretch: its own, or that for all.
-fn end_for<'a>(ends: &'a Option<Places>, train: &str) -> Option<&'a str> {
-    let Some(ends) = ends else {
-        return None;
-    };
-    match ends.named.iter().find(|end| end.name.as_str() == train) {
-        Some(own) => Some(own.place.as_str()),
-        None => match &ends.all {
-            Some(name) => Some(name.as_str()),
-            None => None,
-        },
+fn check_ends(faults: &mut Faults, entry: &Entry, key: &str, scope: &Scope) {
+    match entry.value(key) {
+        Some(Value::String(name)) => check_end(faults, entry, key, name.as_str(), scope),
+        Some(Value::Table(ends)) => check_own_ends(faults, &entry.subject, key, ends, scope),
+        _ => {}
     }
 }
 
-// Where an end of a stretch is on a train's route; one that isn't a single place is reported.
+// Where an end of a stretch is on a train's route, if it is there; one that isn't a single place is reported.
 fn end_of(
-    alloc: Global,
     faults: &mut Faults,
-    subject: &Subject,
+    entry: &Entry,
     key: &str,
     name: &str,
     scope: &Scope,
     train: usize,
-) -> Result<Option<usize>, AllocError> {
+) -> Option<usize> {
     match find_place(scope.route(train), name) {
-        Spot::At(place) => Ok(Some(place)),
-        Spot::Nowhere => Ok(None),
+        Spot::At(place) => Some(place),
+        Spot::Nowhere => None,
         Spot::Several => {
-            tell_several(alloc, faults, subject, key, name, scope, train)?;
-            Ok(None)
+            tell_several(faults, &entry.subject, key, name, scope, train);
+            None
         }
     }
 }
@@ -302,49 +233,33 @@ fn end_of(
 // What a train that a section concerns holds of it. Its stretch goes from its place at `from` until before its place at
 // `to`: without a `from` it begins with the route, and without a `to`, or where the train doesn't come to it, it ends with
 // the route. A train that doesn't come to `from` holds nothing.
-fn concerned_holding(
-    alloc: Global,
-    faults: &mut Faults,
-    entry: &SectionEntry,
-    scope: &Scope,
-    train: usize,
-) -> Result<Holding, AllocError> {
-    let subject = &entry.subject;
+fn concerned_holding(faults: &mut Faults, entry: &Entry, scope: &Scope, train: usize) -> Holding {
     let name = scope.train(train);
-    let from = match end_for(&entry.from, name) {
-        Some(name) => end_of(alloc, faults, subject, "from", name, scope, train)?,
+    let from = match entry.place_for("from", name) {
+        Some(place) => end_of(faults, entry, "from", place, scope, train),
         None => Some(0),
     };
-    let until = match end_for(&entry.to, name) {
-        Some(name) => end_of(alloc, faults, subject, "to", name, scope, train)?,
+    let until = match entry.place_for("to", name) {
+        Some(place) => end_of(faults, entry, "to", place, scope, train),
         None => None,
     };
     match from {
-        Some(from) => Ok(Holding {
+        Some(from) => Holding {
             weight: weight_of(entry, name),
             from,
             until: until.unwrap_or(scope.route(train).len()),
-        }),
-        None => Ok(NOTHING),
+        },
+        None => NOTHING,
     }
 }
 
-// What each train holds of a section.
-fn holdings(
-    alloc: Global,
-    faults: &mut Faults,
-    entry: &SectionEntry,
-    scope: &Scope,
-) -> Result<Vec<Holding>, AllocError> {
-    let mut found = Vec::new(alloc);
-    for train in 0..scope.trains.len() {
-        if is_concerned(entry, scope.train(train)) {
-            found.push(concerned_holding(alloc, faults, entry, scope, train)?)?;
-        } else {
-            found.push(NOTHING)?;
-        }
+// What a train holds of a section.
+fn holding(faults: &mut Faults, entry: &Entry, scope: &Scope, train: usize) -> Holding {
+    if is_concerned(entry, scope.train(train)) {
+        concerned_holding(faults, entry, scope, train)
+    } else {
+        NOTHING
     }
-    Ok(found)
 }
 
 // The most that a train takes of a section at a place of its route.
@@ -358,22 +273,41 @@ fn most_share(section: &SectionPlan, route: &[String], train: usize) -> u8 {
 }
 
 // Tells each train that alone takes more of a section than its limit.
-fn check_alone(
-    alloc: Global,
-    faults: &mut Faults,
-    subject: &Subject,
-    section: &SectionPlan,
-    scope: &Scope,
-) -> Result<(), AllocError> {
+fn check_alone(faults: &mut Faults, subject: &Subject, section: &SectionPlan, scope: &Scope) {
     for train in 0..scope.trains.len() {
-        let share = most_share(section, scope.route(train), train);
-        let limit = section.limit;
-        if limit < u32::from(share) {
-            let name = quoted(alloc, scope.train(train))?;
-            let words = format!(in alloc; "train {name} alone takes {share} of {limit}")?;
-            faults.tell(subject, "limit", "", &[words.as_str()])?;
+        let share = u32::from(most_share(section, scope.route(train), train));
+        if section.limit < share {
+            let parts = [
+                Part::Words("train "),
+                Part::Name(scope.train(train)),
+                Part::Words(" alone takes "),
+                Part::Number(i64::from(share)),
+                Part::Words(" of "),
+                Part::Number(i64::from(section.limit)),
+            ];
+            faults.tell(subject, "limit", "", &parts);
         }
     }
+}
+
+// Fills in a section of a table; what is wrong with it is reported.
+fn fill(
+    alloc: Global,
+    faults: &mut Faults,
+    entry: &Entry,
+    scope: &Scope,
+    section: &mut SectionPlan,
+) -> Result<(), AllocError> {
+    check_section_weight(faults, entry, scope.trains);
+    check_only(faults, entry, scope.trains);
+    check_ends(faults, entry, "from", scope);
+    check_ends(faults, entry, "to", scope);
+    section.limit = limit_of(faults, entry);
+    add_points(alloc, faults, entry, scope, section)?;
+    for train in 0..scope.trains.len() {
+        section.holdings.push(holding(faults, entry, scope, train))?;
+    }
+    check_alone(faults, &entry.subject, section, scope);
     Ok(())
 }
 
@@ -381,87 +315,112 @@ fn check_alone(
 fn section(
     alloc: Global,
     faults: &mut Faults,
-    entry: &SectionEntry,
+    entry: &Entry,
     scope: &Scope,
 ) -> Result<SectionPlan, AllocError> {
-    check_entry(alloc, faults, entry, scope)?;
-    let limit = limit_of(alloc, faults, entry)?;
-    let points = points_of(alloc, faults, entry, scope)?;
-    let holdings = holdings(alloc, faults, entry, scope)?;
-    let section = SectionPlan {
-        limit,
-        points,
-        holdings,
+    let mut section = SectionPlan {
+        limit: 0,
+        points: Vec::new(alloc),
+        holdings: Vec::new(alloc),
     };
-    check_alone(alloc, faults, &entry.subject, &section, scope)?;
+    fill(alloc, faults, entry, scope, &mut section)?;
     Ok(section)
 }
 
-/// The sections of a table; what is wrong with them is reported.
-pub(crate) fn sections(
+/// Adds the sections of a table; what is wrong with them is reported.
+pub(crate) fn add_sections(
     alloc: Global,
     faults: &mut Faults,
-    entries: &[SectionEntry],
+    entries: &Entries,
     scope: &Scope,
-) -> Result<Vec<SectionPlan>, AllocError> {
-    let mut found = Vec::new(alloc);
-    for entry in entries.iter().take(MOST_SECTIONS) {
-        found.push(section(alloc, faults, entry, scope)?)?;
+    sections: &mut Vec<SectionPlan>,
+) -> Result<(), AllocError> {
+    let count = entries.values.len();
+    for index in 0..count.min(MOST_SECTIONS) {
+        sections.push(section(alloc, faults, &entries.entry(index), scope)?)?;
     }
-    if let Some(entry) = entries.get(MOST_SECTIONS) {
-        faults.tell(
-            &entry.subject,
-            "",
-            "",
-            &["this is one section too many: 64 are the most of a table"],
-        )?;
+    if MOST_SECTIONS < count {
+        let words = "this is one section too many: 64 are the most of a table";
+        tell_words(faults, &entries.entry(MOST_SECTIONS).subject, "", words);
     }
-    Ok(found)
+    Ok(())
 }
 
-// What the trains take of a section at their starts, in words, and in all.
-fn taken_at(
-    alloc: Global,
-    section: &SectionPlan,
-    scope: &Scope,
-    starts: &[Option<usize>],
-) -> Result<(String, u32), AllocError> {
-    let mut words = String::new(alloc);
-    let mut taken = 0u32;
-    for train in 0..scope.trains.len() {
-        let Some(start) = starts.get(train).copied().flatten() else {
-            continue;
-        };
-        let share = share_at(
+// What a train takes of a section at its start.
+fn share_of(section: &SectionPlan, scope: &Scope, train: usize, starts: &[Option<usize>]) -> u8 {
+    match starts.get(train).copied().flatten() {
+        Some(start) => share_at(
             &section.points,
             &section.holding(train),
             scope.route(train),
             start,
-        );
+        ),
+        None => 0,
+    }
+}
+
+// What the trains take of a section at their starts.
+fn taken_at(section: &SectionPlan, scope: &Scope, starts: &[Option<usize>]) -> u32 {
+    let mut taken = 0u32;
+    for train in 0..scope.trains.len() {
+        let share = share_of(section, scope, train, starts);
+        taken = taken.saturating_add(u32::from(share));
+    }
+    taken
+}
+
+// Adds what each train takes of a section at its start, in words.
+fn push_taken(
+    words: &mut String,
+    section: &SectionPlan,
+    scope: &Scope,
+    starts: &[Option<usize>],
+) -> Result<(), AllocError> {
+    for train in 0..scope.trains.len() {
+        let share = share_of(section, scope, train, starts);
         if 0 < share {
             let name = scope.train(train);
             write!(words, ", {name} {share}")?;
         }
-        taken = taken.saturating_add(u32::from(share));
     }
-    Ok((words, taken))
+    Ok(())
+}
+
+// Tells that a section is over its limit where the trains start.
+fn tell_taken(
+    faults: &mut Faults,
+    subject: &Subject,
+    section: &SectionPlan,
+    taken: u32,
+    shares: &str,
+) {
+    let parts = [
+        Part::Words("at the start "),
+        Part::Number(i64::from(taken)),
+        Part::Words(" of "),
+        Part::Number(i64::from(section.limit)),
+        Part::Words(" are taken"),
+        Part::Words(shares),
+    ];
+    faults.tell(subject, "limit", "", &parts);
 }
 
 /// Tells each section that is over its limit where the trains start.
 pub(crate) fn check_taken(
     alloc: Global,
     faults: &mut Faults,
-    entries: &[SectionEntry],
+    entries: &Entries,
     sections: &[SectionPlan],
     scope: &Scope,
     starts: &[Option<usize>],
 ) -> Result<(), AllocError> {
-    for (entry, section) in entries.iter().zip(sections) {
-        let (words, taken) = taken_at(alloc, section, scope, starts)?;
-        let limit = section.limit;
-        if limit < taken {
-            let words = format!(in alloc; "at the start {taken} of {limit} are taken{words}")?;
-            faults.tell(&entry.subject, "limit", "", &[words.as_str()])?;
+    for (index, section) in sections.iter().enumerate() {
+        let taken = taken_at(section, scope, starts);
+        if section.limit < taken {
+            let mut shares = String::new(alloc);
+            push_taken(&mut shares, section, scope, starts)?;
+            let subject = entries.entry(index).subject;
+            tell_taken(faults, &subject, section, taken, shares.as_str());
         }
     }
     Ok(())

@@ -1,205 +1,227 @@
 // The tables of a plan, and the plan as a whole.
-use crate::connections::waits;
-use crate::ground::{Ground, Link, ground_of, zones_of};
+use crate::connections::add_waits;
+use crate::ground::{Ground, greatest};
+use crate::names::{tell_number, tell_words};
 use crate::routes::Scope;
-use crate::sections::{check_taken, sections};
-use crate::trains::{
-    check_changes, check_ends, check_starts, missions_of, names_of, services, starts,
-};
+use crate::sections::{add_sections, check_taken};
+use crate::trains::{Roster, add_trains, check_ends, check_starts, starts};
 use plan_document::{Plan, TablePlan};
-use plan_entries::{ConnectionEntry, Entries, Faults, SectionEntry, TableEntry, TrainEntry};
+use plan_entries::{Entries, Entry, Faults, Kind, list_of};
 use std::alloc::{AllocError, Global};
+use toml::{Table, Value};
 
 const MOST_TABLES: usize = 16;
 
 const MOST_AFTER: u32 = 1_000_000;
 
-// The changes of trains that a table makes: none, if it is the first.
-fn changes_of<'e>(own: Option<&'e TableEntry>) -> &'e [TrainEntry] {
+// A further table: its entry, and its number, counted from 0.
+#[derive(Clone, Copy)]
+struct Own<'t> {
+    entry: Entry<'t>,
+    index: usize,
+}
+
+// The entries of a kind that hold in a table: its own, or those of the first.
+fn entries_in<'t>(top: &'t Table, own: Option<Own<'t>>, kind: Kind) -> Entries<'t> {
+    if let Some(own) = own
+        && let Some(keys) = own.entry.keys
+        && let Some(Value::Array(_)) = keys.get(kind.word())
+    {
+        return list_of(keys, Some(own.index), kind);
+    }
+    list_of(top, None, kind)
+}
+
+// The trains of a table.
+fn roster_of<'t>(top: &'t Table, own: Option<Own<'t>>) -> Roster<'t> {
     match own {
-        Some(own) => own.trains.as_slice(),
-        None => &[],
+        Some(own) => Roster::new(top, own.entry.keys, Some(own.index)),
+        None => Roster::new(top, None, None),
     }
-}
-
-// The sections of a table: its own, or those of the first.
-fn sections_of<'e>(entries: &'e Entries, own: Option<&'e TableEntry>) -> &'e [SectionEntry] {
-    if let Some(own) = own
-        && let Some(sections) = &own.sections
-    {
-        return sections.as_slice();
-    }
-    entries.sections.as_slice()
-}
-
-// The connections of a table: its own, or those of the first.
-fn connections_of<'e>(entries: &'e Entries, own: Option<&'e TableEntry>) -> &'e [ConnectionEntry] {
-    if let Some(own) = own
-        && let Some(connections) = &own.connections
-    {
-        return connections.as_slice();
-    }
-    entries.connections.as_slice()
 }
 
 // After how many moves a table is due; a number that is out of range is reported.
-fn after_of(
-    alloc: Global,
-    faults: &mut Faults,
-    own: Option<&TableEntry>,
-) -> Result<u32, AllocError> {
+fn after_of(faults: &mut Faults, own: Option<Own>) -> u32 {
     let Some(own) = own else {
-        return Ok(0);
+        return 0;
     };
-    let Some(number) = own.after else {
-        return Ok(0);
+    let Some(number) = own.entry.number("after") else {
+        return 0;
     };
     match u32::try_from(number) {
-        Ok(after) if after <= MOST_AFTER => Ok(after),
+        Ok(after) if after <= MOST_AFTER => after,
         _ => {
-            let words = format!(in alloc;
-                "a table is due after 0 to 1000000 moves, and this is {number}"
-            )?;
-            faults.tell(&own.subject, "after", "", &[words.as_str()])?;
-            Ok(0)
+            let words = "a table is due after 0 to 1000000 moves, and this is ";
+            tell_number(faults, &own.entry.subject, "after", "", words, number);
+            0
         }
     }
+}
+
+// Fills in a table that has its trains; what is wrong with it is reported.
+fn fill_table(
+    alloc: Global,
+    faults: &mut Faults,
+    top: &Table,
+    own: Option<Own>,
+    ground: &Ground,
+    plan: &mut TablePlan,
+) -> Result<(), AllocError> {
+    let roster = roster_of(top, own);
+    add_trains(alloc, faults, &roster, ground, plan)?;
+    let scope = Scope {
+        points: &ground.points,
+        trains: &ground.trains,
+        routes: &plan.routes,
+        exits: &plan.exits,
+        table: match own {
+            Some(own) => own.index.saturating_add(1),
+            None => 0,
+        },
+    };
+    check_ends(faults, &roster, &scope);
+    let sections = entries_in(top, own, Kind::Section);
+    add_sections(alloc, faults, &sections, &scope, &mut plan.sections)?;
+    let waits = entries_in(top, own, Kind::Connection);
+    add_waits(faults, &waits, &scope, &mut plan.waits)?;
+    plan.after = after_of(faults, own);
+    Ok(())
 }
 
 // The plan of a table; what is wrong with it is reported.
 fn table_plan(
     alloc: Global,
     faults: &mut Faults,
-    entries: &Entries,
-    number: usize,
-    own: Option<&TableEntry>,
-    points: &[String],
-    trains: &[String],
+    top: &Table,
+    own: Option<Own>,
+    ground: &Ground,
 ) -> Result<TablePlan, AllocError> {
-    let changes = changes_of(own);
-    check_changes(alloc, faults, changes, trains)?;
-    let services = services(alloc, entries, changes)?;
-    let missions = missions_of(alloc, faults, &services, points)?;
-    let scope = Scope {
-        points,
-        trains,
-        routes: &missions.routes,
-        exits: &missions.exits,
-        table: number,
+    let mut plan = TablePlan {
+        routes: Vec::new(alloc),
+        exits: Vec::new(alloc),
+        times: Vec::new(alloc),
+        sections: Vec::new(alloc),
+        waits: Vec::new(alloc),
+        after: 0,
     };
-    check_ends(alloc, faults, &services, &scope)?;
-    let sections = sections(alloc, faults, sections_of(entries, own), &scope)?;
-    let waits = waits(alloc, faults, connections_of(entries, own), &scope)?;
-    let after = after_of(alloc, faults, own)?;
-    Ok(TablePlan {
-        routes: missions.routes,
-        exits: missions.exits,
-        times: missions.times,
-        sections,
-        waits,
-        after,
-    })
+    fill_table(alloc, faults, top, own, ground, &mut plan)?;
+    Ok(plan)
 }
 
-// The plans of the tables after the first.
-fn further_tables(
+// Adds the plans of the tables after the first.
+fn add_tables(
     alloc: Global,
     faults: &mut Faults,
-    entries: &Entries,
-    points: &[String],
-    trains: &[String],
-    tables: &mut Vec<TablePlan>,
+    top: &Table,
+    ground: &Ground,
+    plan: &mut Plan,
 ) -> Result<(), AllocError> {
-    for (index, own) in entries.tables.iter().take(MOST_TABLES - 1).enumerate() {
-        let number = index.saturating_add(1);
-        tables.push(table_plan(alloc, faults, entries, number, Some(own), points, trains)?)?;
+    let tables = list_of(top, None, Kind::Table);
+    let count = tables.values.len();
+    for index in 0..count.min(MOST_TABLES - 1) {
+        let own = Own {
+            entry: tables.entry(index),
+            index,
+        };
+        plan.tables
+            .push(table_plan(alloc, faults, top, Some(own), ground)?)?;
     }
-    if let Some(own) = entries.tables.get(MOST_TABLES - 1) {
-        faults.tell(
-            &own.subject,
-            "",
-            "",
-            &["this is one table too many: 16 are the most, with the first"],
-        )?;
+    if MOST_TABLES <= count {
+        let words = "this is one table too many: 16 are the most, with the first";
+        tell_words(faults, &tables.entry(MOST_TABLES - 1).subject, "", words);
     }
     Ok(())
 }
 
-// Where the trains start, under the first table; what is wrong with it is reported.
-fn starts_of(
+// Adds where the trains start, under the first table; what is wrong with it is reported.
+fn add_starts(
     alloc: Global,
     faults: &mut Faults,
-    entries: &Entries,
+    top: &Table,
+    ground: &Ground,
     first: &TablePlan,
-    points: &[String],
-    trains: &[String],
-) -> Result<Vec<u32>, AllocError> {
+    places: &mut Vec<u32>,
+) -> Result<(), AllocError> {
     let scope = Scope {
-        points,
-        trains,
+        points: &ground.points,
+        trains: &ground.trains,
         routes: &first.routes,
         exits: &first.exits,
         table: 0,
     };
-    let starts = starts(alloc, faults, &entries.trains, &scope)?;
-    check_starts(alloc, faults, &entries.trains, &scope, &starts)?;
-    check_taken(
-        alloc,
-        faults,
-        &entries.sections,
-        &first.sections,
-        &scope,
-        &starts,
-    )?;
-    starts
-        .iter()
-        .map(|start| u32::try_from(start.unwrap_or(0)).unwrap_or(0))
-        .collect(alloc)
-}
-
-// The links as pairs of names.
-fn pairs_of(alloc: Global, links: Vec<Link>) -> Result<Vec<(String, String)>, AllocError> {
-    let mut found = Vec::new(alloc);
-    for link in links {
-        let Link { one, other } = link;
-        found.push((one, other))?;
+    let trains = list_of(top, None, Kind::Train);
+    let starts = starts(alloc, faults, &trains, &scope)?;
+    check_starts(faults, &trains, &scope, &starts);
+    let sections = list_of(top, None, Kind::Section);
+    check_taken(alloc, faults, &sections, &first.sections, &scope, &starts)?;
+    for start in &starts {
+        places.push(u32::try_from(start.unwrap_or(0)).unwrap_or(0))?;
     }
-    Ok(found)
+    Ok(())
 }
 
-// The points with their zones.
-fn zoned(
-    alloc: Global,
-    points: Vec<String>,
-    zones: &[u32],
-) -> Result<Vec<(String, u32)>, AllocError> {
-    let mut found = Vec::new(alloc);
-    for (index, point) in points.into_iter().enumerate() {
-        found.push((point, zones.get(index).copied().unwrap_or(0)))?;
+// Adds what is named.
+fn add_names(alloc: Global, ground: &Ground, plan: &mut Plan) -> Result<(), AllocError> {
+    for train in &ground.trains {
+        plan.trains.push(String::from_str(alloc, train)?)?;
     }
-    Ok(found)
+    for (index, point) in ground.points.iter().enumerate() {
+        let zone = ground.zones.get(index).copied().flatten().unwrap_or(0);
+        plan.points.push((String::from_str(alloc, point)?, zone))?;
+    }
+    Ok(())
 }
 
-/// The plan that entries make; what is wrong with it is reported.
-pub(crate) fn plan_of(
+// Adds the links, by the names of their points.
+fn add_links(alloc: Global, ground: &Ground, plan: &mut Plan) -> Result<(), AllocError> {
+    for link in &ground.links {
+        let one = String::from_str(alloc, link.one)?;
+        let other = String::from_str(alloc, link.other)?;
+        plan.links.push((one, other))?;
+    }
+    Ok(())
+}
+
+// Fills in a plan; what is wrong with it is reported.
+fn fill(
     alloc: Global,
     faults: &mut Faults,
-    entries: &Entries,
-) -> Result<Plan, AllocError> {
-    let trains = names_of(alloc, faults, &entries.trains)?;
-    let Ground { points, links } = ground_of(alloc, faults, entries)?;
-    let zones = zones_of(alloc, faults, &entries.zones, &points)?;
-    let first = table_plan(alloc, faults, entries, 0, None, &points, &trains)?;
-    let start = starts_of(alloc, faults, entries, &first, &points, &trains)?;
-    let mut tables = Vec::new(alloc);
-    tables.push(first)?;
-    further_tables(alloc, faults, entries, &points, &trains, &mut tables)?;
-    Ok(Plan {
-        links: pairs_of(alloc, links)?,
-        zones: zones.iter().copied().max().unwrap_or(0).saturating_add(1),
-        points: zoned(alloc, points, &zones)?,
-        trains,
-        start,
-        tables,
-    })
+    top: &Table,
+    ground: &Ground,
+    plan: &mut Plan,
+) -> Result<(), AllocError> {
+    let first = table_plan(alloc, faults, top, None, ground)?;
+    add_starts(alloc, faults, top, ground, &first, &mut plan.start)?;
+    plan.tables.push(first)?;
+    add_tables(alloc, faults, top, ground, plan)?;
+    add_names(alloc, ground, plan)?;
+    add_links(alloc, ground, plan)
+}
+
+// What a plan names: its trains, points and links, and the zones of its points.
+fn ground_of<'t>(
+    alloc: Global,
+    faults: &mut Faults,
+    top: &'t Table,
+) -> Result<Ground<'t>, AllocError> {
+    let mut ground = Ground::new(alloc);
+    ground.add_trains(faults, &list_of(top, None, Kind::Train))?;
+    ground.add_points(faults, top)?;
+    ground.add_zones(faults, top)?;
+    Ok(ground)
+}
+
+/// The plan that a table of keys makes; what is wrong with it is reported.
+pub(crate) fn plan_of(alloc: Global, faults: &mut Faults, top: &Table) -> Result<Plan, AllocError> {
+    let ground = ground_of(alloc, faults, top)?;
+    let mut plan = Plan {
+        points: Vec::new(alloc),
+        links: Vec::new(alloc),
+        zones: greatest(&ground.zones).saturating_add(1),
+        trains: Vec::new(alloc),
+        start: Vec::new(alloc),
+        tables: Vec::new(alloc),
+    };
+    fill(alloc, faults, top, &ground, &mut plan)?;
+    Ok(plan)
 }

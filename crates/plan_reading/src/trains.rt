@@ -1,224 +1,131 @@
 // The trains of a plan under each of its tables.
-use crate::ground::top;
-use crate::names::{is_known, is_name, tell_of, train_of};
+use crate::ground::{Ground, MOST_TRAINS};
+use crate::names::{find, tell_of, tell_words, text_of};
 use crate::routes::{Scope, place_of};
 use crate::times::{check_times, times_of};
-use plan_entries::{Entries, Faults, Numbers, Subject, TrainEntry, quoted};
-use rail_model::TrainTimes;
+use plan_document::TablePlan;
+use plan_entries::{Entries, Entry, Faults, Kind, Part, Subject, list_of};
 use std::alloc::{AllocError, Global};
-
-const MOST_TRAINS: usize = 32;
+use toml::{Table, Value};
 
 const MOST_PLACES: usize = 128;
 
-/// What a table says of the trains: for each its route, whether it exits, and its times.
-#[derive(Drop)]
-pub(crate) struct Missions {
-    pub routes: Vec<Vec<String>>,
-    pub exits: Vec<bool>,
-    pub times: Vec<TrainTimes>,
+/// The trains of the first table, and what this one changes of them.
+#[derive(Clone, Copy)]
+pub(crate) struct Roster<'t> {
+    pub firsts: Entries<'t>,
+    pub changes: Option<Entries<'t>>,
 }
 
 /// A train under a table: as the first table has it, and what this one changes.
 #[derive(Clone, Copy)]
-pub(crate) struct Service<'e> {
-    pub first: &'e TrainEntry,
-    pub change: Option<&'e TrainEntry>,
+struct Service<'t> {
+    first: Entry<'t>,
+    change: Option<Entry<'t>>,
 }
 
-// A text again.
-fn copied(alloc: Global, text: &str) -> Result<String, AllocError> {
-    String::from_str(alloc, text)
-}
-
-/// Names again.
-pub(crate) fn copied_names(alloc: Global, names: &[String]) -> Result<Vec<String>, AllocError> {
-    let mut found = Vec::new(alloc);
-    for name in names {
-        found.push(copied(alloc, name.as_str())?)?;
-    }
-    Ok(found)
-}
-
-// Tells a train whose name is none, or is taken.
-fn check_name(
-    alloc: Global,
-    faults: &mut Faults,
-    subject: &Subject,
-    name: &str,
-    taken: &[String],
-) -> Result<(), AllocError> {
-    if !is_name(name) {
-        return tell_of(
-            alloc,
-            faults,
-            subject,
-            "name",
-            name,
-            " is no name: 1 to 16 of A-Z, a-z, 0-9 and _",
-        );
-    }
-    if is_known(taken, name) {
-        return tell_of(
-            alloc,
-            faults,
-            subject,
-            "name",
-            name,
-            " is the name of an earlier train too",
-        );
-    }
-    Ok(())
-}
-
-/// The names of the trains; empty for one that has none.
-pub(crate) fn names_of(
-    alloc: Global,
-    faults: &mut Faults,
-    trains: &[TrainEntry],
-) -> Result<Vec<String>, AllocError> {
-    let mut found = Vec::new(alloc);
-    for train in trains.iter().take(MOST_TRAINS) {
-        let name = match &train.name {
-            Some(name) => {
-                check_name(alloc, faults, &train.subject, name.as_str(), &found)?;
-                copied(alloc, name.as_str())?
-            }
-            None => String::new(alloc),
-        };
-        found.push(name)?;
-    }
-    if trains.is_empty() && faults.is_empty() {
-        faults.tell(&top(alloc, ""), "", "", &["there is no train"])?;
-    }
-    if let Some(train) = trains.get(MOST_TRAINS) {
-        faults.tell(
-            &train.subject,
-            "",
-            "",
-            &["this is one train too many: 32 are the most"],
-        )?;
-    }
-    Ok(found)
-}
-
-impl<'e> Service<'e> {
-    /// The route of the train; empty if none is known.
-    pub fn route(&self) -> &'e [String] {
+impl<'t> Service<'t> {
+    // The names of the route; none if it isn't known.
+    fn route(&self) -> &'t [Value] {
         if let Some(change) = self.change
-            && let Some(route) = &change.route
+            && let Some(route) = change.names("route")
         {
-            return route.as_slice();
+            return route;
         }
-        match &self.first.route {
-            Some(route) => route.as_slice(),
-            None => &[],
-        }
+        self.first.names("route").unwrap_or(&[])
     }
 
-    /// Whether the train exits behind its route.
-    pub fn exits(&self) -> bool {
+    // Whether the train exits behind its route.
+    fn exits(&self) -> bool {
         if let Some(change) = self.change
-            && let Some(exits) = change.exit
+            && let Some(exits) = change.flag("exit")
         {
             return exits;
         }
-        self.first.exit.unwrap_or(false)
+        self.first.flag("exit").unwrap_or(false)
     }
 
     // The times of the train.
-    fn times(&self) -> Option<&'e Numbers> {
+    fn times(&self) -> Option<&'t Value> {
         if let Some(change) = self.change
-            && let Some(times) = &change.times
+            && let Some(times) = change.value("times")
         {
             return Some(times);
         }
-        self.first.times.as_ref()
+        self.first.value("times")
     }
 
-    /// What faults of the train under this table are about.
-    pub fn subject(&self) -> &'e Subject {
+    // The entry that faults of the train under this table are about.
+    fn entry(&self) -> Entry<'t> {
         match self.change {
-            Some(change) => &change.subject,
-            None => &self.first.subject,
+            Some(change) => change,
+            None => self.first,
         }
     }
 }
 
-// What a further table changes of a train.
-fn change_of<'e>(changes: &'e [TrainEntry], name: &str) -> Option<&'e TrainEntry> {
-    changes.iter().find(|change| matches!(&change.name, Some(known) if known.as_str() == name))
+// The first of these changes that is one of this train.
+fn change_of<'t>(changes: &Entries<'t>, name: &str) -> Option<usize> {
+    for index in 0..changes.values.len() {
+        if changes.entry(index).text("name") == Some(name) {
+            return Some(index);
+        }
+    }
+    None
 }
 
-/// The trains under a table that makes these changes.
-pub(crate) fn services<'e>(
-    alloc: Global,
-    entries: &'e Entries,
-    changes: &'e [TrainEntry],
-) -> Result<Vec<Service<'e>>, AllocError> {
-    let mut found = Vec::new(alloc);
-    for first in entries.trains.iter().take(MOST_TRAINS) {
-        let change = match &first.name {
-            Some(name) => change_of(changes, name.as_str()),
-            None => None,
+impl<'t> Roster<'t> {
+    /// The trains under the first table, or under a further one, which has these keys.
+    pub fn new(top: &'t Table, own: Option<&'t Table>, table: Option<usize>) -> Roster<'t> {
+        Roster {
+            firsts: list_of(top, None, Kind::Train),
+            changes: match own {
+                Some(own) => Some(list_of(own, table, Kind::Train)),
+                None => None,
+            },
+        }
+    }
+
+    // What this table changes of a train.
+    fn change(&self, first: &Entry) -> Option<Entry<'t>> {
+        let changes = self.changes?;
+        let index = change_of(&changes, first.text("name")?)?;
+        Some(changes.entry(index))
+    }
+
+    // A train under this table.
+    fn service(&self, train: usize) -> Service<'t> {
+        let first = self.firsts.entry(train);
+        Service {
+            first,
+            change: self.change(&first),
+        }
+    }
+
+    /// Tells changes of trains that aren't there, or that are changed already.
+    pub fn check_changes(&self, faults: &mut Faults, trains: &[&str]) {
+        let Some(changes) = self.changes else {
+            return;
         };
-        found.push(Service { first, change })?;
+        for index in 0..changes.values.len() {
+            let change = changes.entry(index);
+            if let Some(name) = change.text("name") {
+                find(faults, &change.subject, "name", "train", name, trains);
+                if change_of(&changes, name) != Some(index) {
+                    let words = " is changed twice by this table";
+                    tell_of(faults, &change.subject, "name", name, words);
+                }
+            }
+        }
     }
-    Ok(found)
-}
-
-// Tells changes of trains that aren't there, or that are changed already.
-fn check_change(
-    alloc: Global,
-    faults: &mut Faults,
-    change: &TrainEntry,
-    before: &[TrainEntry],
-    trains: &[String],
-) -> Result<(), AllocError> {
-    let Some(name) = &change.name else {
-        return Ok(());
-    };
-    train_of(
-        alloc,
-        faults,
-        &change.subject,
-        "name",
-        Some(name.as_str()),
-        trains,
-    )?;
-    if change_of(before, name.as_str()).is_some() {
-        tell_of(
-            alloc,
-            faults,
-            &change.subject,
-            "name",
-            name.as_str(),
-            " is changed twice by this table",
-        )?;
-    }
-    Ok(())
-}
-
-/// Tells what is wrong with the names of the trains that a table changes.
-pub(crate) fn check_changes(
-    alloc: Global,
-    faults: &mut Faults,
-    changes: &[TrainEntry],
-    trains: &[String],
-) -> Result<(), AllocError> {
-    for (index, change) in changes.iter().enumerate() {
-        let before = changes.get(..index).unwrap_or(&[]);
-        check_change(alloc, faults, change, before, trains)?;
-    }
-    Ok(())
 }
 
 // Tells a route that is empty or too long.
-fn check_route(alloc: Global, faults: &mut Faults, service: &Service) -> Result<(), AllocError> {
+fn check_route(faults: &mut Faults, service: &Service) {
     let length = service.route().len();
-    let known = service.subject();
-    if length == 0 && service.first.route.is_some() {
-        return faults.tell(known, "route", "", &["the route is empty"]);
+    let known = service.entry().subject;
+    if length == 0 && service.first.names("route").is_some() {
+        return tell_words(faults, &known, "route", "the route is empty");
     }
     let places = if service.exits() {
         length.saturating_add(1)
@@ -226,85 +133,73 @@ fn check_route(alloc: Global, faults: &mut Faults, service: &Service) -> Result<
         length
     };
     if MOST_PLACES < places {
-        let words = format!(in alloc;
-            "the route has {places} places, with that behind an exit: 128 are the most"
-        )?;
-        return faults.tell(known, "route", "", &[words.as_str()]);
+        let parts = [
+            Part::Words("the route has "),
+            Part::Count(places),
+            Part::Words(" places, with that behind an exit: 128 are the most"),
+        ];
+        faults.tell(&known, "route", "", &parts);
+    }
+}
+
+/// Adds names.
+pub(crate) fn push_names(
+    names: &mut Vec<String>,
+    alloc: Global,
+    values: &[Value],
+) -> Result<(), AllocError> {
+    for value in values {
+        names.push(String::from_str(alloc, text_of(value))?)?;
     }
     Ok(())
 }
 
-// Tells what is wrong with an entry of a train, whose route under the table is this.
-fn check_entry(
-    alloc: Global,
-    faults: &mut Faults,
-    entry: &TrainEntry,
-    points: &[String],
-    route: &[String],
-) -> Result<(), AllocError> {
-    match &entry.times {
-        Some(times) => check_times(alloc, faults, &entry.subject, times, points, route),
-        None => Ok(()),
-    }
+// Names again.
+fn copied(alloc: Global, values: &[Value]) -> Result<Vec<String>, AllocError> {
+    let mut names = Vec::new(alloc);
+    push_names(&mut names, alloc, values)?;
+    Ok(names)
 }
 
-// Tells what is wrong with a train under a table.
-fn check_service(
+// Adds to a table what it says of a train; what is wrong with it is reported.
+fn add_train(
     alloc: Global,
     faults: &mut Faults,
     service: &Service,
-    points: &[String],
+    points: &[&str],
+    plan: &mut TablePlan,
 ) -> Result<(), AllocError> {
-    check_route(alloc, faults, service)?;
-    match service.change {
-        Some(change) => check_entry(alloc, faults, change, points, service.route()),
-        None => check_entry(alloc, faults, service.first, points, service.route()),
-    }
+    check_route(faults, service);
+    let exits = service.exits();
+    let route = copied(alloc, service.route())?;
+    check_times(faults, &service.entry(), points, &route);
+    plan.times
+        .push(times_of(alloc, service.times(), &route, exits)?)?;
+    plan.routes.push(route)?;
+    plan.exits.push(exits)?;
+    Ok(())
 }
 
-/// What a table says of the trains; what is wrong with it is reported.
-pub(crate) fn missions_of(
+/// Adds to a table what it says of the trains; what is wrong with it is reported.
+pub(crate) fn add_trains(
     alloc: Global,
     faults: &mut Faults,
-    services: &[Service],
-    points: &[String],
-) -> Result<Missions, AllocError> {
-    let mut found = Missions {
-        routes: Vec::new(alloc),
-        exits: Vec::new(alloc),
-        times: Vec::new(alloc),
-    };
-    for service in services {
-        check_service(alloc, faults, service, points)?;
-        let route = service.route();
-        found.routes.push(copied_names(alloc, route)?)?;
-        found.exits.push(service.exits())?;
-        found
-            .times
-            .push(times_of(alloc, service.times(), route, service.exits())?)?;
+    roster: &Roster,
+    ground: &Ground,
+    plan: &mut TablePlan,
+) -> Result<(), AllocError> {
+    roster.check_changes(faults, &ground.trains);
+    for train in 0..ground.trains.len() {
+        add_train(alloc, faults, &roster.service(train), &ground.points, plan)?;
     }
-    Ok(found)
+    Ok(())
 }
 
 // The place at which a train starts, if it is right.
-fn start_of(
-    alloc: Global,
-    faults: &mut Faults,
-    entry: &TrainEntry,
-    scope: &Scope,
-    train: usize,
-) -> Result<Option<usize>, AllocError> {
-    match &entry.start {
-        Some(name) => place_of(
-            alloc,
-            faults,
-            &entry.subject,
-            "start",
-            name.as_str(),
-            scope,
-            train,
-        ),
-        None => Ok(Some(0)),
+fn start_of(faults: &mut Faults, entry: &Entry, scope: &Scope, train: usize) -> Option<usize> {
+    match entry.text("start") {
+        Some(name) => place_of(faults, &entry.subject, "start", name, scope, train),
+        None => Some(0),
     }
 }
 
@@ -312,115 +207,111 @@ fn start_of(
 pub(crate) fn starts(
     alloc: Global,
     faults: &mut Faults,
-    trains: &[TrainEntry],
+    trains: &Entries,
     scope: &Scope,
 ) -> Result<Vec<Option<usize>>, AllocError> {
     let mut found = Vec::new(alloc);
-    for (train, entry) in trains.iter().take(MOST_TRAINS).enumerate() {
-        found.push(start_of(alloc, faults, entry, scope, train)?)?;
+    for train in 0..scope.trains.len() {
+        found.push(start_of(faults, &trains.entry(train), scope, train))?;
     }
     Ok(found)
 }
 
 // The point of a train's place, if it has one there.
-fn point_at<'a>(scope: &Scope<'a>, train: usize, place: Option<usize>) -> Option<&'a str> {
-    match scope.route(train).get(place?) {
+fn point_at<'a>(scope: &Scope<'a>, train: usize, starts: &[Option<usize>]) -> Option<&'a str> {
+    let place = starts.get(train).copied().flatten()?;
+    match scope.route(train).get(place) {
         Some(point) => Some(point.as_str()),
         None => None,
+    }
+}
+
+// Tells that a train is at the same point as another.
+fn tell_same<'x>(
+    faults: &mut Faults,
+    subject: &Subject,
+    key: &str,
+    verb: &'x str,
+    point: &'x str,
+    other: &'x str,
+) {
+    let parts = [
+        Part::Words(verb),
+        Part::Name(point),
+        Part::Words(", as train "),
+        Part::Name(other),
+        Part::Words(" does"),
+    ];
+    faults.tell(subject, key, "", &parts);
+}
+
+// Tells each earlier train at whose start another starts too.
+fn check_start(
+    faults: &mut Faults,
+    entry: &Entry,
+    later: usize,
+    scope: &Scope,
+    starts: &[Option<usize>],
+) {
+    let Some(here) = point_at(scope, later, starts) else {
+        return;
+    };
+    let key = match entry.text("start") {
+        Some(_) => "start",
+        None => "route",
+    };
+    for earlier in 0..later {
+        if point_at(scope, earlier, starts) == Some(here) {
+            let other = scope.train(earlier);
+            tell_same(faults, &entry.subject, key, "starts at ", here, other);
+        }
     }
 }
 
 /// Tells each train that starts at the point of an earlier one.
 pub(crate) fn check_starts(
-    alloc: Global,
     faults: &mut Faults,
-    trains: &[TrainEntry],
+    trains: &Entries,
     scope: &Scope,
     starts: &[Option<usize>],
-) -> Result<(), AllocError> {
-    for (later, entry) in trains.iter().take(MOST_TRAINS).enumerate() {
-        for earlier in 0..later {
-            let here = point_at(scope, later, starts.get(later).copied().flatten());
-            let there = point_at(scope, earlier, starts.get(earlier).copied().flatten());
-            if here.is_some() && here == there {
-                let key = if entry.start.is_some() {
-                    "start"
-                } else {
-                    "route"
-                };
-                tell_same(
-                    alloc,
-                    faults,
-                    &entry.subject,
-                    key,
-                    "starts at ",
-                    here,
-                    scope.train(earlier),
-                )?;
-            }
-        }
+) {
+    for later in 0..scope.trains.len() {
+        check_start(faults, &trains.entry(later), later, scope, starts);
     }
-    Ok(())
-}
-
-// Tells that a train is at the same point as another.
-fn tell_same(
-    alloc: Global,
-    faults: &mut Faults,
-    subject: &Subject,
-    key: &str,
-    verb: &str,
-    point: Option<&str>,
-    other: &str,
-) -> Result<(), AllocError> {
-    let point = quoted(alloc, point.unwrap_or(""))?;
-    let other = quoted(alloc, other)?;
-    faults.tell(
-        subject,
-        key,
-        "",
-        &[verb, point.as_str(), ", as train ", other.as_str(), " does"],
-    )
 }
 
 // The point at which a train ends for good: none, if it exits.
-fn end_of<'e>(service: &Service<'e>) -> Option<&'e str> {
-    if service.exits() {
+fn end_of<'a>(scope: &Scope<'a>, train: usize) -> Option<&'a str> {
+    if scope.exits(train) {
         return None;
     }
-    match service.route().last() {
+    match scope.route(train).last() {
         Some(point) => Some(point.as_str()),
         None => None,
     }
 }
 
-// Whether a table says anything of one of two trains that differs from the first table.
-fn is_new(table: usize, one: &Service, other: &Service) -> bool {
-    table == 0 || one.change.is_some() || other.change.is_some()
+// Tells each earlier train that ends where another ends too, if this table says anything new of one of them.
+fn check_end(faults: &mut Faults, roster: &Roster, later: usize, scope: &Scope) {
+    let Some(here) = end_of(scope, later) else {
+        return;
+    };
+    let service = roster.service(later);
+    let subject = service.entry().subject;
+    let is_new = scope.table == 0 || service.change.is_some();
+    for earlier in 0..later {
+        if end_of(scope, earlier) == Some(here)
+            && (is_new || roster.service(earlier).change.is_some())
+        {
+            let verb = "without an exit it ends at ";
+            tell_same(faults, &subject, "route", verb, here, scope.train(earlier));
+        }
+    }
 }
 
 /// Tells each train that ends at the point where an earlier one ends, if neither exits.
-pub(crate) fn check_ends(
-    alloc: Global,
-    faults: &mut Faults,
-    services: &[Service],
-    scope: &Scope,
-) -> Result<(), AllocError> {
-    for (later, service) in services.iter().enumerate() {
-        for (earlier, other) in services.iter().take(later).enumerate() {
-            let here = end_of(service);
-            if here.is_some() && here == end_of(other) && is_new(scope.table, service, other) {
-                tell_same(
-                    alloc,
-                    faults,
-                    service.subject(),
-                    "route",
-                    "without an exit it ends at ",
-                    here,
-                    scope.train(earlier),
-                )?;
-            }
-        }
+pub(crate) fn check_ends(faults: &mut Faults, roster: &Roster, scope: &Scope) {
+    for later in 0..scope.trains.len() {
+        check_end(faults, roster, later, scope);
     }
-    Ok(())
 }
