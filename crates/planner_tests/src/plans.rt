@@ -1,28 +1,11 @@
 // Plans, and the documents or the faults that they are answered with.
-use crate::rows::play_all;
+use crate::rows::{answers, play_all};
+use std::alloc::{AllocError, Global};
+use std::process::Abort;
 use std::test::Fail;
 
 // Words, a plan and an answer each: a document, or a line for each mistake.
 const PLANS: &str = r##"plan
-[[train]]
-name = "T0"
-route = ["A", "M", "N", "B"]
-
-[[train]]
-name = "T1"
-route = ["C", "N", "M", "D"]
-
-[[section]]
-name = "corridor"
-limit = 1
-points = ["M", "N"]
-
-[[table]]
-after = 1000001
-----
-line 15: table 1: a table is due after 0 to 1000000 moves, and this is 1000001
-====
-plan
 [[train]]
 name = "T0"
 route = ["A", "M", "B", "M", "C"]
@@ -38,98 +21,6 @@ after = "T0"
 reached = "M"
 ----
 line 13: connection 0: "M" comes more than once on the route of train "T0": write #1, #2 .. behind it
-====
-plan
-[[train]]
-name = "T0"
-route = ["A", "M", "N", "platform number 2"]
-
-[[train]]
-name = "T1"
-route = ["C", "N", "M", "D"]
-
-[[section]]
-name = "corridor"
-limit = 1
-points = ["M", "N"]
-----
-line 3: train "T0": "platform number 2" is no name: 1 to 16 of A-Z, a-z, 0-9 and _
-====
-plan
-[[train]]
-name = "T0"
-route = ["A", "M", "N", "B"]
-
-[[train]]
-name = "T-1"
-route = ["C", "N", "M", "D"]
-
-[[section]]
-name = "corridor"
-limit = 1
-points = ["M", "N"]
-----
-line 6: train "T-1": "T-1" is no name: 1 to 16 of A-Z, a-z, 0-9 and _
-====
-plan
-[[train]]
-name = "T0"
-route = ["A", "M", "N", "B"]
-
-[[train]]
-name = "T1"
-route = ["C", "N", "M", "D"]
-
-[[section]]
-name = "corridor"
-limit = 1
-points = ["M", "N"]
-
-[[connection]]
-train = "T1"
-leaves = "D"
-after = "T0"
-reached = "N"
-----
-line 16: connection 0: "D" is never left: the route of the train ends there
-====
-plan
-[[train]]
-name = "T0"
-route = ["A", "M", "N", "B"]
-
-[[train]]
-name = "T1"
-route = ["C", "N", "M", "D"]
-
-[[section]]
-name = "corridor"
-limit = 1
-points = ["M", "N"]
-
-[[connection]]
-train = "T1"
-leaves = "C"
-after = "T1"
-reached = "N"
-----
-line 17: connection 0: a train doesn't wait for itself
-====
-plan
-[[train]]
-name = "T0"
-route = ["A", "M", "N", "B"]
-
-[[train]]
-name = "T1"
-route = []
-
-[[section]]
-name = "corridor"
-limit = 1
-points = ["M", "N"]
-----
-line 7: train "T1": the route is empty
 ====
 plan
 [[train]]
@@ -240,104 +131,6 @@ route = ["A", "M", "N", "B"]
 
 [[train]]
 name = "T1"
-route = ["C", "N", "M", "D"]
-
-[[section]]
-name = "corridor"
-limit = 1
-points = ["M", "N"]
-
-[[connection]]
-train = "T1"
-leave = "C"
-leaves = "C"
-after = "T0"
-reached = "N"
-----
-line 16: connection 0: no key "leave"; the keys are train, leaves, after, reached
-====
-plan
-[[train]]
-name = "T0"
-route = ["A", "M", "N", "B"]
-
-[[train]]
-name = "T1"
-route = ["C", "N", "M", "D"]
-
-[[section]]
-name = "corridor"
-limit = 1
-points = ["M", "N"]
-weights = 2
-----
-line 13: section "corridor": no key "weights"; the keys are name, limit, points, weight, only, from, to
-====
-plan
-[[train]]
-name = "T0"
-route = ["A", "M", "N", "B"]
-
-[[train]]
-name = "T1"
-route = ["C", "N", "M", "D"]
-
-[[section]]
-name = "corridor"
-limit = 1
-points = ["M", "N"]
-
-[[table]]
-after = 4
-zones = 2
-----
-line 16: table 1: no key "zones"; the keys are after, train, section, connection
-====
-plan
-[[train]]
-name = "T0"
-route = ["A", "M", "N", "B"]
-
-[[train]]
-name = "T1"
-route = ["C", "N", "M", "D"]
-
-[[section]]
-name = "corridor"
-limit = 1
-points = ["M", "N"]
-
-[[table]]
-after = 4
-[[table.train]]
-name = "T1"
-start = "C"
-----
-line 18: table 1, train "T1": no key "start"; the keys are name, route, exit, times
-====
-plan
-[[train]]
-name = "T0"
-route = ["A", "M", "N", "B"]
-
-[[train]]
-name = "T1"
-route = ["C", "N", "M", "D"]
-
-[[sections]]
-name = "corridor"
-limit = 1
-points = ["M", "N"]
-----
-line 9: no key "sections"; the keys are lines, zones, train, section, connection, table
-====
-plan
-[[train]]
-name = "T0"
-route = ["A", "M", "N", "B"]
-
-[[train]]
-name = "T1"
 exits = true
 route = ["C", "N", "M", "D"]
 
@@ -347,124 +140,6 @@ limit = 1
 points = ["M", "N"]
 ----
 line 7: train "T1": no key "exits"; the keys are name, route, start, exit, times
-====
-plan
-[[train]]
-name = "T0"
-route = ["A", "M", "N", "B"]
-
-[[train]]
-name = "T1"
-route = ["C", "N", "M", "D"]
-
-[[section]]
-name = "corridor"
-limit = 129
-points = ["M", "N"]
-----
-line 11: section "corridor": a limit is 0 to 128, and this is 129
-====
-plan
-[[train]]
-name = "T0"
-route = ["A", "M", "N", "B"]
-
-[[train]]
-name = "T1"
-route = ["C", "N", "M", "D"]
-
-[[section]]
-name = "corridor"
-limit = 1
-points = ["M", "N"]
-
-[[table]]
-[[table.train]]
-name = "T1"
-exit = true
-----
-line 14: table 1: "after" is missing
-====
-plan
-[[train]]
-name = "T0"
-route = ["A", "M", "N", "B"]
-
-[[train]]
-name = "T1"
-route = ["C", "N", "M", "D"]
-
-[[section]]
-name = "corridor"
-limit = 1
-points = ["M", "N"]
-
-[[connection]]
-----
-line 14: connection 0: "train" is missing
-line 14: connection 0: "leaves" is missing
-line 14: connection 0: "after" is missing
-line 14: connection 0: "reached" is missing
-====
-plan
-[[train]]
-name = "T0"
-route = ["A", "M", "N", "B"]
-
-[[train]]
-name = "T1"
-route = ["C", "N", "M", "D"]
-
-[[section]]
-name = "corridor"
-points = ["M", "N"]
-----
-line 9: section "corridor": "limit" is missing
-====
-plan
-[[train]]
-name = "T0"
-route = ["A", "M", "N", "B"]
-
-[[train]]
-route = ["C", "N", "M", "D"]
-
-[[section]]
-name = "corridor"
-limit = 1
-points = ["M", "N"]
-----
-line 5: train 1: "name" is missing
-====
-plan
-[[train]]
-name = "T0"
-route = ["A", "M", "N", "B"]
-
-[[train]]
-name = "T1"
-route = ["C", "N", "M", "D"]
-
-[[section]]
-name = "corridor"
-limit = 1
-----
-line 9: section "corridor": "points" is missing
-====
-plan
-[[train]]
-name = "T0"
-route = ["A", "M", "N", "B"]
-
-[[train]]
-name = "T1"
-
-[[section]]
-name = "corridor"
-limit = 1
-points = ["M", "N"]
-----
-line 5: train "T1": "route" is missing
 ====
 plan
 [[train]]
@@ -504,44 +179,6 @@ route = ["A", "M", "N", "B"]
 
 [[train]]
 name = "T1"
-route = ["C", "N", "M", "D"]
-
-[[section]]
-name = "corridor"
-limit = 1
-points = ["M", "N"]
-
-[[connection]]
-train = "T1"
-leaves = "C"
-after = "T0"
-reached = "Nn"
-----
-line 18: connection 0: no point "Nn"; did you mean "N"?
-====
-plan
-[[train]]
-name = "T0"
-route = ["A", "M", "N", "B"]
-
-[[train]]
-name = "T1"
-route = ["C", "N", "M", "D"]
-
-[[section]]
-name = "corridor"
-limit = 1
-points = ["Mm", "N"]
-----
-line 12: section "corridor": no point "Mm"; did you mean "M"?
-====
-plan
-[[train]]
-name = "T0"
-route = ["A", "M", "N", "B"]
-
-[[train]]
-name = "T1"
 start = "Q7"
 route = ["C", "N", "M", "D"]
 
@@ -568,90 +205,6 @@ limit = 1
 points = ["M", "N"]
 ----
 line 7: train "T1": no point "Nn"; did you mean "N"?
-====
-plan
-[[train]]
-name = "T0"
-route = ["A", "M", "N", "B"]
-
-[[train]]
-name = "T1"
-route = ["C", "N", "M", "D"]
-
-[[section]]
-name = "corridor"
-limit = 1
-points = ["M", "N"]
-
-[zones]
-"0" = ["A", "B", "C", "D"]
-"1" = ["M", "North"]
-----
-line 16: no point "North"; the points are A, M, N, B, C, D
-====
-plan
-[[train]]
-name = "T0"
-route = ["A", "M", "N", "B"]
-
-[[train]]
-name = "T1"
-route = ["C", "N", "N", "M", "D"]
-
-[[section]]
-name = "corridor"
-limit = 1
-points = ["M", "N"]
-----
-line 7: train "T1": "N" comes twice in a row
-====
-plan
-[[train]]
-name = "T0"
-route = ["A", "M", "N", "B"]
-
-[[train]]
-name = "T1"
-route = ["C", "N", "M", "B"]
-
-[[section]]
-name = "corridor"
-limit = 1
-points = ["M", "N"]
-----
-line 7: train "T1": without an exit it ends at "B", as train "T0" does
-====
-plan
-[[train]]
-name = "T0"
-route = ["A", "M", "N", "B"]
-
-[[train]]
-name = "T0"
-route = ["C", "N", "M", "D"]
-
-[[section]]
-name = "corridor"
-limit = 1
-points = ["M", "N"]
-----
-line 6: train "T0": "T0" is the name of an earlier train too
-====
-plan
-[[train]]
-name = "T0"
-route = ["A", "M", "N", "B"]
-
-[[train]]
-name = "T1"
-route = ["A", "N", "M", "D"]
-
-[[section]]
-name = "corridor"
-limit = 1
-points = ["M", "N"]
-----
-line 7: train "T1": starts at "A", as train "T0" does
 ====
 plan
 [[train]]
@@ -750,84 +303,6 @@ route = ["A", "M", "N", "B"]
 
 [[train]]
 name = "T1"
-route = ["C", "N", "M", "D"]
-
-[[section]]
-name = "corridor"
-limit = 1
-points = ["M", "N"]
-
-[[connection]]
-train = "X1"
-leaves = "C"
-after = "T0"
-reached = "N"
-----
-line 15: connection 0: no train "X1"; did you mean "T1"?
-====
-plan
-[[train]]
-name = "T0"
-route = ["A", "M", "N", "B"]
-
-[[train]]
-name = "T1"
-route = ["C", "N", "M", "D"]
-
-[[section]]
-name = "corridor"
-limit = 1
-points = ["M", "N"]
-only = ["T0", "express"]
-----
-line 13: section "corridor": no train "express"; the trains are T0, T1
-====
-plan
-[[train]]
-name = "T0"
-route = ["A", "M", "N", "B"]
-
-[[train]]
-name = "T1"
-route = ["C", "N", "M", "D"]
-
-[[section]]
-name = "corridor"
-limit = 1
-points = ["M", "N"]
-
-[[table]]
-after = 4
-[[table.train]]
-name = "t1"
-exit = true
-----
-line 17: table 1, train "t1": no train "t1"; did you mean "T1"?
-====
-plan
-[[train]]
-name = "T0"
-route = ["A", "M", "N", "B"]
-
-[[train]]
-name = "T1"
-route = ["C", "N", "M", "D"]
-
-[[section]]
-name = "corridor"
-limit = 1
-points = ["M", "N"]
-weight = { T9 = 1 }
-----
-line 13: section "corridor": no train "T9"; did you mean "T0"?
-====
-plan
-[[train]]
-name = "T0"
-route = ["A", "M", "N", "B"]
-
-[[train]]
-name = "T1"
 exit = "yes"
 route = ["C", "N", "M", "D"]
 
@@ -839,60 +314,13 @@ points = ["M", "N"]
 line 7: train "T1": "exit" takes true or false, and this is of type string
 ====
 plan
-[[train]]
-name = "T0"
-route = ["A", "M", "N", "B"]
-
-[[train]]
-name = "T1"
-route = ["C", "N", "M", "D"]
-
-[[section]]
-name = "corridor"
-limit = "one"
-points = ["M", "N"]
-----
-line 11: section "corridor": "limit" takes a whole number, and this is of type string
-====
-plan
-[[train]]
-name = "T0"
-route = ["A", "M", "N", "B"]
-
-[[train]]
-name = "T1"
-route = "C N M D"
-
-[[section]]
-name = "corridor"
-limit = 1
-points = ["M", "N"]
-----
-line 7: train "T1": "route" takes a list of names, and this is of type string
-====
-plan
-[[train]]
-name = "T0"
-route = ["A", "M", "N", "B"]
-
-[[train]]
-name = "T1"
-route = ["C", "N", 5, "D"]
-
-[[section]]
-name = "corridor"
-limit = 1
-points = ["M", "N"]
-----
-line 7: train "T1": "route" takes a list of names, and this is of type integer
-====
-plan
 train = "T0"
 ----
 line 1: "train" takes a list of tables, and this is of type string
-====
-plan
-[[train]]
+"##;
+
+// A plan without a mistake.
+const CORRIDOR: &str = r##"[[train]]
 name = "T0"
 route = ["A", "M", "N", "B"]
 
@@ -904,107 +332,265 @@ route = ["C", "N", "M", "D"]
 name = "corridor"
 limit = 1
 points = ["M", "N"]
-weight = { T1 = "2" }
+"##;
+
+// The corridor with some of its lines changed, by their numbers, or with more lines after them; and the mistakes that are told.
+const CHANGES: &str = r##"13:
+14: [[table]]
+15: after = 1000001
+----
+line 15: table 1: a table is due after 0 to 1000000 moves, and this is 1000001
+====
+3: route = ["A", "M", "N", "platform number 2"]
+----
+line 3: train "T0": "platform number 2" is no name: 1 to 16 of A-Z, a-z, 0-9 and _
+====
+6: name = "T-1"
+----
+line 6: train "T-1": "T-1" is no name: 1 to 16 of A-Z, a-z, 0-9 and _
+====
+13:
+14: [[connection]]
+15: train = "T1"
+16: leaves = "D"
+17: after = "T0"
+18: reached = "N"
+----
+line 16: connection 0: "D" is never left: the route of the train ends there
+====
+13:
+14: [[connection]]
+15: train = "T1"
+16: leaves = "C"
+17: after = "T1"
+18: reached = "N"
+----
+line 17: connection 0: a train doesn't wait for itself
+====
+7: route = []
+----
+line 7: train "T1": the route is empty
+====
+13:
+14: [[connection]]
+15: train = "T1"
+16: leave = "C"
+17: leaves = "C"
+18: after = "T0"
+19: reached = "N"
+----
+line 16: connection 0: no key "leave"; the keys are train, leaves, after, reached
+====
+13: weights = 2
+----
+line 13: section "corridor": no key "weights"; the keys are name, limit, points, weight, only, from, to
+====
+13:
+14: [[table]]
+15: after = 4
+16: zones = 2
+----
+line 16: table 1: no key "zones"; the keys are after, train, section, connection
+====
+13:
+14: [[table]]
+15: after = 4
+16: [[table.train]]
+17: name = "T1"
+18: start = "C"
+----
+line 18: table 1, train "T1": no key "start"; the keys are name, route, exit, times
+====
+9: [[sections]]
+----
+line 9: no key "sections"; the keys are lines, zones, train, section, connection, table
+====
+11: limit = 129
+----
+line 11: section "corridor": a limit is 0 to 128, and this is 129
+====
+13:
+14: [[table]]
+15: [[table.train]]
+16: name = "T1"
+17: exit = true
+----
+line 14: table 1: "after" is missing
+====
+13:
+14: [[connection]]
+----
+line 14: connection 0: "train" is missing
+line 14: connection 0: "leaves" is missing
+line 14: connection 0: "after" is missing
+line 14: connection 0: "reached" is missing
+====
+11:
+----
+line 9: section "corridor": "limit" is missing
+====
+6:
+----
+line 5: train 1: "name" is missing
+====
+12:
+----
+line 9: section "corridor": "points" is missing
+====
+7:
+----
+line 5: train "T1": "route" is missing
+====
+13:
+14: [[connection]]
+15: train = "T1"
+16: leaves = "C"
+17: after = "T0"
+18: reached = "Nn"
+----
+line 18: connection 0: no point "Nn"; did you mean "N"?
+====
+12: points = ["Mm", "N"]
+----
+line 12: section "corridor": no point "Mm"; did you mean "M"?
+====
+13:
+14: [zones]
+15: "0" = ["A", "B", "C", "D"]
+16: "1" = ["M", "North"]
+----
+line 16: no point "North"; the points are A, M, N, B, C, D
+====
+7: route = ["C", "N", "N", "M", "D"]
+----
+line 7: train "T1": "N" comes twice in a row
+====
+7: route = ["C", "N", "M", "B"]
+----
+line 7: train "T1": without an exit it ends at "B", as train "T0" does
+====
+6: name = "T0"
+----
+line 6: train "T0": "T0" is the name of an earlier train too
+====
+7: route = ["A", "N", "M", "D"]
+----
+line 7: train "T1": starts at "A", as train "T0" does
+====
+13:
+14: [[connection]]
+15: train = "X1"
+16: leaves = "C"
+17: after = "T0"
+18: reached = "N"
+----
+line 15: connection 0: no train "X1"; did you mean "T1"?
+====
+13: only = ["T0", "express"]
+----
+line 13: section "corridor": no train "express"; the trains are T0, T1
+====
+13:
+14: [[table]]
+15: after = 4
+16: [[table.train]]
+17: name = "t1"
+18: exit = true
+----
+line 17: table 1, train "t1": no train "t1"; did you mean "T1"?
+====
+13: weight = { T9 = 1 }
+----
+line 13: section "corridor": no train "T9"; did you mean "T0"?
+====
+11: limit = "one"
+----
+line 11: section "corridor": "limit" takes a whole number, and this is of type string
+====
+7: route = "C N M D"
+----
+line 7: train "T1": "route" takes a list of names, and this is of type string
+====
+7: route = ["C", "N", 5, "D"]
+----
+line 7: train "T1": "route" takes a list of names, and this is of type integer
+====
+13: weight = { T1 = "2" }
 ----
 line 13: section "corridor": "weight" takes whole numbers, and this is of type string
 ====
-plan
-[[train]]
-name = "T0"
-route = ["A", "M", "N", "B"]
-
-[[train]]
-name = "T1"
-route = ["C", "N", "M", "D"]
-
-[[section]]
-name = "corridor"
-limit = 1
-points = ["M", "N"]
-weight = { T1 = 2 }
+13: weight = { T1 = 2 }
 ----
 line 11: section "corridor": train "T1" alone takes 2 of 1
 ====
-plan
-[[train]]
-name = "T0"
-route = ["A", "M", "N", "B"]
-
-[[train]]
-name = "T1"
-route = ["C", "N", "M", "D"]
-
-[[section]]
-name = "corridor"
-limit = 1
-points = ["M", "N"]
-weight = { T0 = 5, T1 = -1 }
+13: weight = { T0 = 5, T1 = -1 }
 ----
 line 13: section "corridor": a weight is 0 to 4, and this is 5
 line 13: section "corridor": a weight is 0 to 4, and this is -1
 ====
-plan
-[[train]]
-name = "T0"
-route = ["A", "M", "N", "B"]
-
-[[train]]
-name = "T1"
-route = ["C", "N", "M", "D"]
-
-[[section]]
-name = "corridor"
-limit = 1
-points = ["M", "N"]
-
-[zones]
-"2" = ["A"]
+13:
+14: [zones]
+15: "2" = ["A"]
 ----
 line 14: zone 1 has no point, and zone 2 has
 ====
-plan
-[[train]]
-name = "T0"
-route = ["A", "M", "N", "B"]
-
-[[train]]
-name = "T1"
-route = ["C", "N", "M", "D"]
-
-[[section]]
-name = "corridor"
-limit = 1
-points = ["M", "N"]
-
-[zones]
-"16" = ["A"]
-"west" = ["B"]
+13:
+14: [zones]
+15: "16" = ["A"]
+16: "west" = ["B"]
 ----
 line 15: "16" is no zone: they are numbered from 0 to 15
 line 16: "west" is no zone: they are numbered from 0 to 15
 ====
-plan
-[[train]]
-name = "T0"
-route = ["A", "M", "N", "B"]
-
-[[train]]
-name = "T1"
-route = ["C", "N", "M", "D"]
-
-[[section]]
-name = "corridor"
-limit = 1
-points = ["M", "N"]
-
-[zones]
-"0" = ["A", "B", "M"]
-"1" = ["C", "D", "M"]
+13:
+14: [zones]
+15: "0" = ["A", "B", "M"]
+16: "1" = ["C", "D", "M"]
 ----
 line 16: "M" is in a zone already
 "##;
 
+// What the lines of this number become.
+fn change_at(changes: &str, number: usize) -> Option<&str> {
+    for change in changes.lines() {
+        let (at, text) = change.split_once(':')?;
+        if at.parse::<usize>() == Ok(number) {
+            return Some(text.trim_start());
+        }
+    }
+    None
+}
+
+// The corridor with these changes.
+fn changed(alloc: Global, changes: &str) -> Result<String, AllocError> {
+    let mut plan = String::new(alloc);
+    let mut lines = CORRIDOR.lines();
+    for number in 1..20 {
+        let line = lines.next();
+        if let Some(text) = change_at(changes, number).or(line) {
+            plan.push_str(text)?;
+            plan.push('\n')?;
+        }
+    }
+    Ok(plan)
+}
+
+// Whether the changed corridor is answered as its row says.
+fn play_changed(rt: &impl Abort, alloc: Global, row: &str) -> Result<(), Fail> {
+    let (changes, says) = row.split_once("\n----\n").ok_or("an answer")?;
+    let plan = changed(alloc, changes)?;
+    answers(rt, alloc, "plan", plan.as_str(), says)
+}
+
 #[test]
 fn plans_are_answered_as_their_rows_say(rt: HostRuntime) -> Result<(), Fail> {
     play_all(&rt, rt.alloc(), PLANS)
+}
+
+#[test]
+fn mistakes_are_told_with_their_lines(rt: HostRuntime) -> Result<(), Fail> {
+    for row in CHANGES.split("\n====\n") {
+        play_changed(&rt, rt.alloc(), row)?;
+    }
+    Ok(())
 }

@@ -16,6 +16,17 @@ pub(crate) fn play_all(rt: &impl Abort, alloc: Global, rows: &str) -> Result<(),
 fn play(rt: &impl Abort, alloc: Global, row: &str) -> Result<(), Fail> {
     let (line, rest) = row.split_once("\n").ok_or("words")?;
     let (input, says) = rest.split_once("----").ok_or("an answer")?;
+    answers(rt, alloc, line, input, says)
+}
+
+/// Plays one row: words, an input and the answer.
+pub(crate) fn answers(
+    rt: &impl Abort,
+    alloc: Global,
+    line: &str,
+    input: &str,
+    says: &str,
+) -> Result<(), Fail> {
     let said = answer(alloc, line, input)?;
     assert_eq!(rt; said.as_str().trim_end(), says.trim());
     Ok(())
