@@ -1,8 +1,12 @@
 // The rounds of a repair.
-ghost use Rattle.std.specs.Prelude.{◌≡◌, ◌+◌, ◌≤◌, IfOk, length};
+ghost use Rattle.std.specs.Prelude.{◌≡◌, ◌+◌, ◌≤◌, ℕ, All, IfOk, length};
 ghost use Rattle.rail_model.specs.State.{Legal};
-ghost use Rattle.forbidden_states.specs.Forbid.{marked as marked_of};
+ghost use Rattle.cert_maker.specs.Draft.{IsDraft};
+ghost use Rattle.cert_maker.specs.Rule.{Makes};
+ghost use Rattle.cert_maker.specs.declared.made.Made.TheVariants.{Stuck as stuck_at};
+ghost use Rattle.forbidden_states.specs.Forbid.{AreStays, marked as marked_of};
 ghost use Rattle.section_repair.specs.Repairs.{treated as treated_of, Repairs};
+ghost use Rattle.section_repair.specs.Rounds.{IsUnderWay, Leads};
 ghost use Rattle.section_repair.specs.Claims.{LosesNothing, IsExact, DoomsAlike};
 
 use crate::Repair;
@@ -33,43 +37,144 @@ fn treated(
     settled(alloc, sections, stays)
 }
 
-// The answer: round by round a section more, over the draft of the round before, until a certificate, the budget, the rounds or the room end it.
+// A round under a budget: the sections so far and their table, after `used` states were treated; and the table of the
+// round before, with what is left of its nodes.
+#[derive(Drop)]
+struct Round {
+    sections: Vec<Stays>,
+    table: Table,
+    former: Table,
+    draft: Draft,
+    budget: u32,
+    used: u32,
+}
+
+// What a round leads to.
+#[derive(Drop)]
+enum Turn {
+    Next(Round),
+    End(Repair),
+}
+
+// The first round, of no sections. No nodes are left of a round before.
+fn first_round(alloc: Global, missions: Missions, budget: u32) -> Result<Round, AllocError>
+    ensures under_way { IfOk result (IsUnderWay missions) }
+    ensures budget { IfOk result (λ round. round.budget ≡ budget) }
+    ensures unused { IfOk result (λ round. round.used ≡ 0) }
+{
+    let sections = Vec::new(alloc);
+    let table = marked(alloc, missions, &sections)?;
+    let former = copy_table(alloc, &table)?;
+    let draft = Draft::empty(alloc, &former)?;
+    Ok(Round {
+        sections,
+        table,
+        former,
+        draft,
+        budget,
+        used: 0,
+    })
+}
+
+// The table of the same missions with these sections.
+fn table_with(alloc: Global, table: &Table, sections: &[Stays]) -> Result<Table, AllocError>
+    requires stays { All (AreStays (length table.now.missions)) sections.now }
+    requires few { length sections.now ≤ 64 }
+    ensures { IfOk result (λ next. next ≡ marked_of table.now.missions sections.now) }
+{
+    let missions = copy_missions(alloc, table)?;
+    marked(alloc, missions, sections)
+}
+
+// What a round leads to that found this stuck state, with the nodes that are left of its table.
+fn treat(
+    alloc: Global,
+    round: Round,
+    draft: Draft,
+    at: State,
+    rounds: u32,
+) -> Result<Turn, AllocError>
+    requires under_way { IsUnderWay round.table.missions round }
+    requires within { round.used ≤ rounds }
+    requires stuck { Makes round.table round.budget (stuck_at at) }
+    requires legal { Legal round.table at }
+    requires draft { IsDraft round.table draft }
+    ensures { IfOk result (Leads round.table.missions round.budget rounds round.used) }
+{
+    let Round {
+        sections,
+        table: former,
+        budget,
+        used,
+        ..
+    } = round;
+    if used == rounds {
+        return Ok(Turn::End(Repair::Rounds {
+            table: former,
+            rounds,
+            at,
+        }));
+    }
+    let sections = treated(alloc, &former, sections, &at)?;
+    if sections.len() > MOST_SECTIONS {
+        let count = sections.len() as u32;
+        return Ok(Turn::End(Repair::Many {
+            table: former,
+            count,
+        }));
+    }
+    let table = table_with(alloc, &former, &sections)?;
+    Ok(Turn::Next(Round {
+        sections,
+        table,
+        former,
+        draft,
+        budget,
+        used: used + 1,
+    }))
+}
+
+// Plays a round: a certificate, the budget, the rounds or the room end it, or it treats one more state.
+fn play(alloc: Global, round: Round, rounds: u32) -> Result<Turn, AllocError>
+    requires some { 1 ≤ round.budget }
+    requires most { round.budget ≤ 1000000 }
+    requires under_way { IsUnderWay round.table.missions round }
+    requires within { round.used ≤ rounds }
+    ensures { IfOk result (Leads round.table.missions round.budget rounds round.used) }
+{
+    let Remade { made, draft } = remake(
+        alloc,
+        &round.table,
+        round.budget,
+        &round.former,
+        &round.draft,
+    )?;
+    match made {
+        Made::Cert(cert) => Ok(Turn::End(Repair::Done {
+            table: round.table,
+            cert,
+            rounds: round.used,
+        })),
+        Made::Spent { nodes } => Ok(Turn::End(Repair::Spent {
+            table: round.table,
+            nodes,
+        })),
+        Made::Stuck(at) => treat(alloc, round, draft, at, rounds),
+    }
+}
+
+// The answer: round by round a section more, until a round ends it.
 fn answer(alloc: Global, missions: Missions, budget: u32, rounds: u32) -> Result<Repair, AllocError>
     requires some { 1 ≤ budget }
     requires most { budget ≤ 1000000 }
     ensures { IfOk result (Repairs missions budget rounds) }
 {
-    let mut sections = Vec::new(alloc);
-    let mut table = marked(alloc, missions, &sections)?;
-    let mut former = copy_table(alloc, &table)?;
-    let mut draft = Draft::empty(alloc, &former)?;
-    let mut used = 0;
-    'rounds: loop {
-        let Remade { made, draft: next } = remake(alloc, &table, budget, &former, &draft)?;
-        let at = match made {
-            Made::Cert(cert) => {
-                return Ok(Repair::Done {
-                    table,
-                    cert,
-                    rounds: used,
-                });
-            }
-            Made::Spent { nodes } => return Ok(Repair::Spent { table, nodes }),
-            Made::Stuck(at) => at,
-        };
-        if used == rounds {
-            return Ok(Repair::Rounds { table, rounds, at });
+    let mut round = first_round(alloc, missions, budget)?;
+    loop {
+        match play(alloc, round, rounds)? {
+            Turn::End(repair) => return Ok(repair),
+            Turn::Next(next) => round = next,
         }
-        sections = treated(alloc, &table, sections, &at)?;
-        if sections.len() > MOST_SECTIONS {
-            let count = sections.len() as u32;
-            return Ok(Repair::Many { table, count });
-        }
-        let missions = copy_missions(alloc, &table)?;
-        former = table;
-        draft = next;
-        table = marked(alloc, missions, &sections)?;
-        used += 1;
     }
 }
 

@@ -1,16 +1,13 @@
-use Rattle.std.proofs.Common.{◌≡◌, ◌≤◌, ◌-◌, ℕ, List, length}
-use Rattle.cert_maker.specs.Draft.{IsDraft}
-use Rattle.section_repair.specs.Repairs.{IsReached}
+use Rattle.std.proofs.Common.{◌≡◌, ◌≤◌, ◌-◌}
+use Rattle.section_repair.specs.Rounds.{IsUnderWay}
 use Rattle.section_repair.proofs.rounds.answer.Given as goal
 
-abbrev pub invariant-rounds : goal.invariant-rounds
-invariant-rounds l = record {
-  reached : (states : List (List ℕ)) × IsReached l.fn.missions l.budget states l.sections.items l.table × (l.used ≡ length states);
-  within : l.used ≤ l.rounds;
-  draft : IsDraft l.former l.draft;
-  missions : l.former.missions ≡ l.table.missions;
-  connections : l.former.connections ≡ l.table.connections;
+abbrev pub invariant-loop-repair : goal.invariant-loop-repair
+invariant-loop-repair l = record {
+  under_way : IsUnderWay l.fn.missions l.round;
+  budget : l.round.budget ≡ l.budget;
+  within : l.round.used ≤ l.rounds;
 }
 
-abbrev pub decreases-rounds : goal.decreases-rounds
-decreases-rounds l = l.rounds - l.used
+abbrev pub decreases-loop-repair : goal.decreases-loop-repair
+decreases-loop-repair l = l.rounds - l.round.used
