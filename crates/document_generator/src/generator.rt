@@ -2,6 +2,7 @@
 ghost use Rattle.std.specs.Prelude.{◌≡◌, ◌≤◌, ◌++◌, ◌∷◌, [], Ok, IfOk, OnOk, flat_map, map, replicate, string_bytes};
 ghost use Rattle.document_shapes.specs.Raw.{members_of};
 ghost use Rattle.document_shapes.specs.Seen.{names_seen, seen_document, seen_table};
+ghost use Rattle.document_shapes.specs.Written.{text_of};
 ghost use Rattle.document_generator.specs.Generated as whole;
 ghost use Rattle.document_generator.specs.Generated.{generated, document_of, table_of, train_names};
 ghost use Rattle.document_generator.specs.Pairs.{all_pairs};
@@ -100,8 +101,23 @@ fn document(alloc: Global, count: u32, pairs: &[Pair]) -> Result<DocMembers, All
     })
 }
 
-/// The text of the document that is generated from a seed for `trains` trains, at most 32: compact JSON in version 1, with
-/// one table, due after 0 moves, whose certificate is empty.
+/// The members of the document that is generated from a seed for `trains` trains, at most 32: in version 1, with one table,
+/// due after 0 moves, whose certificate is empty. The text of these members reads as them.
+///
+/// # Errors
+///
+/// Out of memory.
+pub fn generate_members(alloc: Global, seed: u32, trains: u32) -> Result<DocMembers, AllocError>
+    requires { trains ≤ 32 }
+    ensures members { IfOk result (λ d. seen_document d ≡ document_of trains (all_pairs seed trains)) }
+    ensures reads_back { IfOk result (λ d. members_of (text_of (seen_document d)) ≡ Ok (seen_document d)) }
+{
+    let pairs = draw_pairs(alloc, seed, trains)?;
+    document(alloc, trains, &pairs)
+}
+
+/// The text of the members of the document that is generated from a seed for `trains` trains, at most 32: compact JSON, as
+/// [`write_document`] has it.
 ///
 /// # Errors
 ///
@@ -111,7 +127,6 @@ pub fn generate(alloc: Global, seed: u32, trains: u32) -> Result<Vec<u8>, AllocE
     ensures text { IfOk result (λ b. b.items ≡ generated seed trains) }
     ensures reads_back { IfOk result (λ b. members_of b.items ≡ Ok (document_of trains (all_pairs seed trains))) }
 {
-    let pairs = draw_pairs(alloc, seed, trains)?;
-    let document = document(alloc, trains, &pairs)?;
-    write_document(alloc, &document)
+    let members = generate_members(alloc, seed, trains)?;
+    write_document(alloc, &members)
 }

@@ -10,4 +10,4 @@ mod sections;
 mod ways;
 
 pub use draws::Draws;
-pub use generator::generate;
+pub use generator::{generate, generate_members};

@@ -27,12 +27,14 @@ use Rattle.document_shapes.proofs.EachLemmas.{in_turn-ok, each-good}
 use Rattle.document_shapes.proofs.Versions.{read-version}
 use Rattle.layout_json.specs.Doc.{Doc, DocTable, IsDoc}
 use Rattle.layout_json.specs.Keeps.{Keeps, IsTaken, Untimed, timed, doc_of_parts}
+use Rattle.layout_json.specs.Members.{members_in}
 use Rattle.layout_json.specs.Reading.{doc_of, doc_from, first_table}
 use Rattle.layout_json.specs.Tables.{refused_as, marks_of, exits_or_none, doc_table_of}
 use Rattle.layout_json.specs.Start.{out_of_range, meets, first_meeting, over_limit, illegality, start_refusal}
 use Rattle.layout_json.specs.declared.refused.DocRefused.TheVariants as refused
 use Rattle.layout_json.proofs.DocBack.{IsChecked, doc-keeps}
 use Rattle.layout_json.proofs.DocMade.{names-are}
+use Rattle.layout_json.proofs.NamedLemmas.{members-are-read}
 use Rattle.layout_json.proofs.StartLemmas.{together}
 use Rattle.layout_json.proofs.TableBack.{IsTableOf, doc_table-made, refused_as-ok}
 use Rattle.layout_json.proofs.Taken.{makes}
@@ -121,19 +123,28 @@ read-keeps m D read h =
     } in
     subst (λ v. Keeps v L N ts xs D.start) made.version_is (subst (λ p. Keeps m.version L N ts xs p) made.start_is (doc-keeps m L N ts xs checked))
 
--- a document that bytes are
+-- A document that is formed, and of whose own members nothing is refused.
 pub record IsFormed (D : Doc) : Type 0 where
   pub is : IsDoc D
   pub taken : IsTaken D
   pub first : 1 ≤ D.version
   pub last : D.version ≤ 3
 
+formed-from : (m : DocMembers) (D : Doc) → IsRead m → doc_from m ≡ Ok D → IsFormed D
+formed-from m D read h =
+    let keeps = read-keeps m D read h in
+    let same : doc_of_parts D.version D.layout (record { points = point_names D.layout; trains = D.trains }) (map untimed D.tables) (map (λ t. t.times) D.tables) D.start ≡ D =
+    ap (λ ts. record D { tables = ts }) (again-timed D.tables) in
+    record { is = subst IsDoc same keeps.is; taken = subst IsTaken same keeps.taken; first = keeps.first; last = keeps.last }
+
+-- a document that bytes are
 pub read-is-formed : (bytes : List ℕ) (D : Doc) → doc_of bytes ≡ Ok D → IsFormed D
 unfolding doc_of
 read-is-formed bytes D h =
     let given = in_turn-ok (refused_as refused.Shape (members_of bytes)) doc_from D h in
     let read = read-version bytes given.value (refused_as-ok refused.Shape (members_of bytes) given.value given.first) in
-    let keeps = read-keeps given.value D read given.behind in
-    let same : doc_of_parts D.version D.layout (record { points = point_names D.layout; trains = D.trains }) (map untimed D.tables) (map (λ t. t.times) D.tables) D.start ≡ D =
-    ap (λ ts. record D { tables = ts }) (again-timed D.tables) in
-    record { is = subst IsDoc same keeps.is; taken = subst IsTaken same keeps.taken; first = keeps.first; last = keeps.last }
+    formed-from given.value D read given.behind
+
+-- a document that is taken
+pub taken-is-formed : (D : Doc) → IsTaken D → 1 ≤ D.version → D.version ≤ 3 → IsFormed D
+taken-is-formed D taken first last = formed-from (members_in D) D (members-are-read D first last) taken

@@ -18,3 +18,4 @@ pub mod Remade
 pub mod MigratedLemmas
 pub mod FormedDoc
 pub mod Offered
+pub mod Recertified

@@ -1,9 +1,12 @@
-// A document: its parts, and how they are read.
-ghost use Rattle.std.specs.Prelude.{◌≡◌, ◌<◌, ◌≤◌, length};
+// A document: its parts, how they are read, and how its certificates are exchanged.
+ghost use Rattle.std.specs.Prelude.{◌≡◌, ◌<◌, ◌≤◌, ℕ, List, IfOk, OnOk, length};
 ghost use Rattle.layout_json.specs.Doc.{IsDoc, names_of, times_of, doc_table, table_at, nodes_at};
-ghost use Rattle.layout_json.specs.Keeps.{Keeps, IsTaken, doc_of_parts};
+ghost use Rattle.layout_json.specs.Keeps.{Keeps, IsTaken, doc_of_parts, timed};
+ghost use Rattle.layout_json.specs.Replaced.{each_with, recertified, certified};
 
+use cert_tree::{Cert, preorder};
 use rail_model::{Layout, Names, Node, State, Table, Times};
+use std::alloc::{AllocError, Global};
 use std::marker::Model;
 
 // A table without its travel times.
@@ -49,6 +52,13 @@ impl Untimed {
         ensures { result.now ≡ self.now.nodes }
     {
         &self.nodes
+    }
+
+    // Puts these nodes in place of its own.
+    fn set_nodes(&mut self, nodes: Vec<Node>)
+        ensures { self.new ≡ record self.old { nodes = nodes.items } }
+    {
+        self.nodes = nodes;
     }
 }
 
@@ -186,4 +196,33 @@ pub fn nodes_of(doc: &Doc, table: u32) -> &[Node]
     ensures formed { IsDoc doc.now }
 {
     untimed_of(doc, table).nodes()
+}
+
+// Puts the nodes of these certificates, one for each table, in place of the tables' own.
+fn recertify(alloc: Global, tables: &mut [Untimed], certs: &[Cert]) -> Result<(), AllocError>
+    requires { length certs.now ≡ length tables.old }
+    ensures { OnOk result ((times : List (List (List ℕ))) → timed tables.new times ≡ each_with recertified (timed tables.old times) certs.now) }
+{
+    for (number, table) in tables.iter_mut().enumerate() {
+        table.set_nodes(preorder(alloc, &certs[number])?);
+    }
+    Ok(())
+}
+
+/// The document with these certificates, one for each table, in place of its own; all else is equal. The only error is
+/// that there is no memory.
+pub fn with_certificates(alloc: Global, doc: Doc, certs: &[Cert]) -> Result<Doc, AllocError>
+    requires { length certs.now ≡ length doc.tables }
+    ensures { IfOk result (λ d. d ≡ certified doc certs.now) }
+{
+    let Doc {
+        version,
+        layout,
+        names,
+        mut tables,
+        times,
+        start,
+    } = doc;
+    recertify(alloc, &mut tables, certs)?;
+    Ok(Doc::new(version, layout, names, tables, times, start))
 }

@@ -15,9 +15,10 @@ mod writing;
 
 pub use doc::{
     Doc, after_of, layout_of, names_of, nodes_of, start_of, table_of, tables_of, times_of, version,
+    with_certificates,
 };
 pub use laws::{light_sections_are_taken, read_documents_are_formed};
-pub use reading::document;
+pub use reading::{document, document_from};
 pub use refused::DocRefused;
 pub use remaking::{write_certified, write_migrated, write_replaced};
 pub use rereading::{migrate, replaced};

@@ -1,4 +1,4 @@
-// Documents read.
+// Documents read, and made of their members.
 ghost use Rattle.std.specs.Prelude.{◌≡◌, ◌<◌, ℕ, List, All, IfOk, OnOk, length, map, string_bytes, Ok};
 ghost use Rattle.rail_model.specs.State.{Legal};
 ghost use Rattle.rail_model.specs.Table.{IsTable, trains};
@@ -9,6 +9,7 @@ ghost use Rattle.mission_table.specs.Roster.{trains_from};
 ghost use Rattle.mission_table.specs.Seen.{names_seen};
 ghost use Rattle.document_shapes.specs.Raw.{members_of, IsRead};
 ghost use Rattle.document_shapes.specs.Seen.{seen_document, seen_table};
+ghost use Rattle.document_shapes.specs.Written.{text_of};
 ghost use Rattle.layout_json.specs.Doc.{doc_table};
 ghost use Rattle.layout_json.specs.Members.{members_in};
 ghost use Rattle.layout_json.specs.Reading.{doc_of, doc_from, tables_refusal};
@@ -112,4 +113,16 @@ pub fn document(alloc: Global, bytes: &[u8]) -> Result<Doc, DocRefused>
     ensures { Answers DocRefused.Memory (λ d. d) result (doc_of bytes.now) }
 {
     checked(alloc, read_members(alloc, bytes)?)
+}
+
+/// The document that the text of these members is, made of them with no text between.
+///
+/// # Errors
+///
+/// As [`document`] has them for that text.
+pub fn document_from(alloc: Global, members: DocMembers) -> Result<Doc, DocRefused>
+    requires { members_of (text_of (seen_document members)) ≡ Ok (seen_document members) }
+    ensures { Answers DocRefused.Memory (λ d. d) result (doc_of (text_of (seen_document members))) }
+{
+    checked(alloc, members)
 }
