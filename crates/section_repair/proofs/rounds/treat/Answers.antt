@@ -12,7 +12,7 @@ table_with-requires-clause-stays c =
     let reached = c.requires.under_way.reached in
     let next = c.in_ok-sections.sections.items in
     let further = round_of round.table.missions round.budget reached.0 round.sections.items round.table c.args.at next (found c.args.at)
-      reached.1 c.requires.stuck refl c.in_ok-sections.ensures.treated in
+    reached.1 c.requires.stuck refl c.in_ok-sections.ensures.treated in
     subst (λ (l : List (List Stay)). All (AreStays (length round.table.missions)) l) (sym c.deref.ensures.value) (next-stays further)
 
 pub returns : goal.returns
@@ -22,7 +22,7 @@ returns c =
     let reached = c.requires.under_way.reached in
     let next = c.in_ok-sections.sections.items in
     let further = round_of round.table.missions round.budget reached.0 round.sections.items round.table at next (found at)
-      reached.1 c.requires.stuck refl c.in_ok-sections.ensures.treated in
+    reached.1 c.requires.stuck refl c.in_ok-sections.ensures.treated in
     let made : c.in_ok-table.table ≡ marked round.table.missions next =
     c.in_ok-table.ensures ∙ ap (marked round.table.missions) c.deref.ensures.value in (
       record {
