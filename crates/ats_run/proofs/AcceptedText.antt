@@ -70,7 +70,7 @@ all_accepted f D xs x trees one_each counted spelled =
 
 -- ---- other certificates
 
-certified_accepted : (D : Doc) (budget : ℕ) (trees : List Tree) → budget ≤ 1000000 → AreMade (tables_in D) budget trees → AreAccepted (certified D trees) trees
+pub certified_accepted : (D : Doc) (budget : ℕ) (trees : List Tree) → budget ≤ 1000000 → AreMade (tables_in D) budget trees → AreAccepted (certified D trees) trees
 certified_accepted D budget trees most are =
     let one_each : length trees ≡ length D.tables = are.one_each ∙ table_count D in
     all_accepted recertified D trees arrived trees one_each one_each

@@ -48,18 +48,15 @@ run_leads D trees input from doc accepted read is = record {
       (D, read, runs D trees crew end written doc accepted (subst (λ (s : Plain). Ends D crew s end) is ends) printed);
 }
 
-pub drill_leads : (D : Doc) (trees : List Tree) (input : List ℕ) (from : Plain) → IsDoc D → AreAccepted D trees → doc_of input ≡ Ok D → from ≡ plain_after D []
-    → length D.tables ≡ 1 → LeadsTo PrintsCounts (λ crew written. IsDocWith input (λ E. IsDrilled E crew written)) D trees from
-drill_leads D trees input from doc accepted read is one = record {
+pub drill_leads : (D : Doc) (trees : List Tree) (from : Plain) → IsDoc D → AreAccepted D trees → from ≡ plain_after D [] → length D.tables ≡ 1
+    → LeadsTo PrintsCounts (λ crew written. IsDrilled D crew written) D trees from
+drill_leads D trees from doc accepted is one = record {
   formed = doc;
   keeps = begun_keeps D from doc is;
   few = accepted.are.one_each;
-  leads = λ crew end written ends keeps printed. (
-    D,
-    read,
-    drilled D trees crew end (with_counts end.lines) (length D.trains) (nodes_below trees (length trees)) written doc one accepted keeps
-        (subst (λ (s : Plain). Ends D crew s end) is ends) refl refl refl printed,
-  );
+  leads = λ crew end written ends keeps printed.
+      drilled D trees crew end (with_counts end.lines) (length D.trains) (nodes_below trees (length trees)) written doc one accepted keeps
+      (subst (λ (s : Plain). Ends D crew s end) is ends) refl refl refl printed;
 }
 
 pub front_leads : (D : Doc) (trees : List Tree) (input document given : List ℕ) (front : Journal) (from : Plain) → IsDoc D → AreAccepted D trees

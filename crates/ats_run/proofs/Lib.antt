@@ -9,6 +9,7 @@ mod Cutting
 mod Derived
 mod Drilled
 mod Finished
+mod Forward
 mod Generated
 mod GoodJournals
 mod Inputs
@@ -26,6 +27,7 @@ mod RunRows
 mod Runs
 mod Samples
 pub mod Simulated
+mod SmallNodes
 mod TableRows
 mod Writing
 pub mod Woven

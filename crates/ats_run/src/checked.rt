@@ -62,8 +62,8 @@ pub fn check_document(
     Ok(Checked { doc, certs, tables })
 }
 
-// The tables of a document, if each accepts its certificate.
-fn accept_all(
+/// The tables of a document, if each accepts its certificate.
+pub(crate) fn accept_all(
     rt: &(impl Threads + Sync),
     alloc: Global,
     doc: &Doc,

@@ -1,9 +1,9 @@
 // Runs of generated documents, and what is counted of them.
-ghost use Rattle.std.specs.Prelude.{◌≡◌, ◌⊎◌, ◌≤◌, List, length, IfOk, IfErr, string_bytes};
+ghost use Rattle.std.specs.Prelude.{◌≡◌, ◌⊎◌, ◌≤◌, length, IfOk, IfErr, string_bytes};
 ghost use Rattle.document_generator.specs.Generated.{generated};
 ghost use Rattle.layout_json.specs.Doc.{offers_of};
-ghost use Rattle.ats_run.specs.Command.{IsDocWith, RefusesMake, IsDrilledInput};
-ghost use Rattle.ats_run.specs.Complete.{IsAcceptedInput};
+ghost use Rattle.ats_run.specs.Certificates.{AreAccepted};
+ghost use Rattle.ats_run.specs.Command.{RefusesMake, IsDrilledInput};
 ghost use Rattle.ats_run.specs.Generating.{IsDrilled, drill_text, full_budget};
 ghost use Rattle.ats_run.specs.Tasks.{TaskLeads, PrintsCounts};
 ghost use Rattle.plain_yard.specs.Keeps.{Keeps};
@@ -11,10 +11,12 @@ ghost use Rattle.ats_run.specs.declared.failure.Failure.TheVariants.{Memory as N
 
 use crate::Failure;
 use crate::check::nodes;
-use crate::checked::{Checked, check_document};
-use crate::generate::generate;
+use crate::checked::{Checked, accept_all};
+use crate::generate::{FULL_BUDGET, generated_document};
+use crate::make::make_all;
 use crate::tasks::Task;
-use layout_json::{names_of, start_of};
+use cert_tree::Cert;
+use layout_json::{Doc, names_of, start_of, with_certificates};
 use move_journal::Journal;
 use plain_yard::begin;
 use rail_model::PlainState;
@@ -33,20 +35,28 @@ pub(crate) fn begin_drill(
 
     ensures unmade { IfErr result (λ e. (e ≡ NoMemory) ⊎ RefusesMake (generated seed trains) full_budget e) }
 {
-    let document = generate(alloc, seed, trains)?;
-    begin_document(rt, alloc, &document)
+    let doc = generated_document(alloc, seed, trains)?;
+    let certs = make_all(alloc, &doc, FULL_BUDGET)?;
+    let doc = with_certificates(alloc, doc, &certs)?;
+    begin_document(rt, alloc, doc, certs)
 }
 
 // The run of a document whose one table accepts its certificate, at its start. The only error is that there is no memory.
-fn begin_document(rt: &(impl Threads + Sync), alloc: Global, input: &[u8]) -> Result<Task, Failure>
-    requires one_table { IsDocWith input.now (λ D. length D.tables ≡ 1) }
-    requires accepted { IsAcceptedInput input.now }
-    ensures leads { IfOk result (TaskLeads PrintsCounts (λ crew written. IsDocWith input.now (λ D. IsDrilled D crew written))) }
+fn begin_document(
+    rt: &(impl Threads + Sync),
+    alloc: Global,
+    doc: Doc,
+    certs: Vec<Cert>,
+) -> Result<Task, Failure>
+    requires one_table { length doc.tables ≡ 1 }
+    requires accepted { AreAccepted doc certs.items }
+    ensures leads { IfOk result (TaskLeads PrintsCounts (λ crew written. IsDrilled doc crew written)) }
 
     ensures memory { IfErr result (λ e. e ≡ NoMemory) }
 {
-    let checked = check_document(rt, alloc, input)?;
-    let from = begin(alloc, start_of(&checked.doc))?;
+    let tables = accept_all(rt, alloc, &doc, &certs)?;
+    let from = begin(alloc, start_of(&doc))?;
+    let checked = Checked { doc, certs, tables };
     Ok(Task::Goes { checked, from })
 }
 

@@ -1,17 +1,35 @@
 // Documents that are generated of a seed.
-ghost use Rattle.std.specs.Prelude.{◌≡◌, ◌⊎◌, ◌≤◌, length, IfOk, IfErr};
+ghost use Rattle.std.specs.Prelude.{◌≡◌, ◌⊎◌, ◌≤◌, Ok, length, IfOk, IfErr};
 ghost use Rattle.document_generator.specs.Generated.{generated};
-ghost use Rattle.ats_run.specs.Command.{IsDocWith, RefusesMake};
+ghost use Rattle.layout_json.specs.Reading.{doc_of};
+ghost use Rattle.ats_run.specs.Command.{IsDocWith, RefusesDocument, RefusesMake};
 ghost use Rattle.ats_run.specs.Generating.{full_budget};
 ghost use Rattle.ats_run.specs.Making.{IsMade};
 ghost use Rattle.ats_run.specs.declared.failure.Failure.TheVariants.{Memory as NoMemory};
 
 use crate::Failure;
-use crate::make::make;
-use document_generator::generate as generate_document;
+use crate::make::text_with_certificates;
+use document_generator::generate_members;
+use layout_json::{Doc, DocRefused, document_from};
 use std::alloc::Global;
 
-const FULL_BUDGET: u32 = 1_000_000;
+/// How many nodes the certificate of a generated document may have.
+pub(crate) const FULL_BUDGET: u32 = 1_000_000;
+
+/// The document generated of a seed for a number of trains, whose certificate is empty.
+pub(crate) fn generated_document(alloc: Global, seed: u32, trains: u32) -> Result<Doc, Failure>
+    requires { trains ≤ 32 }
+    ensures document { IfOk result (λ doc. doc_of (generated seed trains) ≡ Ok doc) }
+
+    ensures refused { IfErr result (λ e. (e ≡ NoMemory) ⊎ RefusesDocument (generated seed trains) e) }
+{
+    let members = generate_members(alloc, seed, trains)?;
+    match document_from(alloc, members) {
+        Ok(doc) => Ok(doc),
+        Err(DocRefused::Memory) => Err(Failure::Memory),
+        Err(refused) => Err(Failure::Document(refused)),
+    }
+}
 
 /// The text of the document generated of a seed for a number of trains, with its certificate.
 pub fn generate(alloc: Global, seed: u32, trains: u32) -> Result<Vec<u8>, Failure>
@@ -21,6 +39,6 @@ pub fn generate(alloc: Global, seed: u32, trains: u32) -> Result<Vec<u8>, Failur
 
     ensures unmade { IfErr result (λ e. (e ≡ NoMemory) ⊎ RefusesMake (generated seed trains) full_budget e) }
 {
-    let document = generate_document(alloc, seed, trains)?;
-    make(alloc, &document, FULL_BUDGET)
+    let doc = generated_document(alloc, seed, trains)?;
+    text_with_certificates(alloc, &doc, FULL_BUDGET)
 }

@@ -28,12 +28,27 @@ pub fn make(alloc: Global, input: &[u8], budget: u32) -> Result<Vec<u8>, Failure
     ensures unmade { IfErr result (λ e. (e ≡ NoMemory) ⊎ RefusesMake input.now budget e) }
 {
     let doc = read_document(alloc, input)?;
-    let certs = make_all(alloc, &doc, budget)?;
-    Ok(write_certified(alloc, &doc, &certs)?)
+    text_with_certificates(alloc, &doc, budget)
 }
 
-// A certificate for each table of a document.
-fn make_all(alloc: Global, doc: &Doc, budget: u32) -> Result<Vec<Cert>, Failure>
+/// The text of a document with a certificate made for each of its tables, of at most `budget` nodes.
+pub(crate) fn text_with_certificates(
+    alloc: Global,
+    doc: &Doc,
+    budget: u32,
+) -> Result<Vec<u8>, Failure>
+    requires some { 1 ≤ budget }
+    requires most { budget ≤ 1000000 }
+    ensures made { IfOk result (λ text. IsMade doc.now budget text.items) }
+
+    ensures unmade { IfErr result (λ e. (e ≡ NoMemory) ⊎ FailsToMake (tables_in doc.now) budget e) }
+{
+    let certs = make_all(alloc, doc, budget)?;
+    Ok(write_certified(alloc, doc, &certs)?)
+}
+
+/// A certificate for each table of a document.
+pub(crate) fn make_all(alloc: Global, doc: &Doc, budget: u32) -> Result<Vec<Cert>, Failure>
     requires some { 1 ≤ budget }
     requires most { budget ≤ 1000000 }
     ensures made { IfOk result (λ certs. AreMade (tables_in doc.now) budget certs.items) }

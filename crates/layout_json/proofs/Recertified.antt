@@ -1,17 +1,15 @@
 -- A document whose certificates are exchanged in place.
-use Rattle.std.proofs.Common.{◌≡◌, ◌∙◌, ℕ, zero, suc, ◌+◌, ◌<◌, ◌≤◌, List, [], ◌∷◌, ◌++◌, length, get_or, set, take, drop, refl, sym, ap, ap₂, subst, arith, inl, inr, length-set, get_or-set_same, get_or-set_other, append-nil, take_all, drop_of_length-le}
+use Rattle.std.proofs.Common.{◌≡◌, ◌∙◌, ℕ, suc, ◌+◌, ◌<◌, ◌≤◌, List, [], ◌∷◌, ◌++◌, length, get_or, set, take, drop, refl, sym, ap, ap₂, subst, arith, inl, inr, length-set, get_or-set_same, get_or-set_other, append-nil, take_all, drop_of_length-le}
 use Rattle.std.proofs.lemmas.Bool.{cases_eq}
 use Rattle.std.proofs.lemmas.List.{get_or_default}
 use Rattle.rail_model.specs.Certificate.{Tree, preorder, arrived}
-use Rattle.rail_model.specs.declared.types.Node.{Node}
 use Rattle.rail_model.specs.Layout.{Layout}
 use Rattle.rail_model.specs.Names.{Names}
-use Rattle.layout_json.specs.Doc.{Doc, DocTable, IsDoc}
+use Rattle.layout_json.specs.Doc.{DocTable, IsDoc}
 use Rattle.layout_json.specs.Keeps.{Keeps, IsTaken, Untimed, timed, doc_of_parts}
 use Rattle.layout_json.specs.Replaced.{each_with, recertified, certified}
 use Rattle.layout_json.proofs.FormedDoc.{taken-is-formed}
 use Rattle.layout_json.proofs.Remade.{certified-is-taken}
-use Rattle.layout_json.proofs.Timed.{length-timed}
 
 abbrev no_untimed : Untimed
 no_untimed = record { table = record { missions = []; sections = []; connections = [] }; after = 0; nodes = [] }

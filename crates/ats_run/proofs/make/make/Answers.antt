@@ -1,15 +1,6 @@
-use Rattle.std.proofs.Common.{ap}
-use Rattle.layout_json.specs.Replaced.{certified}
-use Rattle.ats_run.proofs.AcceptedText.{made_text}
+use Rattle.std.proofs.lemmas.Result.{IfOk-weaker}
 use Rattle.ats_run.proofs.make.make.Goals as goal
 
 pub returns-clause-made : goal.returns-clause-made
 returns-clause-made c =
-    let D = c.in_ok-doc.doc in
-    let trees = c.in_ok-certs.certs.items in
-    let made = c.in_ok-certs.ensures.made in
-    let is = ap (certified D) c.deref.ensures.value in (
-      D,
-      c.in_ok-doc.ensures.document,
-      (trees, made, made_text D _ c.args.budget trees _ c.requires.most made is c.in_ok-write_certified.ensures.text c.in_ok-write_certified.ensures.reads_back),
-    )
+    IfOk-weaker c.text_with_certificates.result _ _ (λ text made. (c.in_ok-doc.doc, c.in_ok-doc.ensures.document, made)) c.text_with_certificates.ensures.made

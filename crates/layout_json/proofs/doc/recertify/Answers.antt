@@ -1,4 +1,4 @@
-use Rattle.std.proofs.Common.{◌≡◌, ◌∙◌, ◌<◌, length, get_or, arith}
+use Rattle.std.proofs.Common.{◌∙◌, ◌<◌, length, get_or, arith}
 use Rattle.std.proofs.lemmas.List.{get_or_default}
 use Rattle.rail_model.specs.Certificate.{arrived}
 use Rattle.layout_json.proofs.Recertified.{one-renewed, timed-renewed}
