@@ -1,129 +1,150 @@
 // The entries of a plan: what its text says, before its names are known.
-use crate::{Place, Subject};
 use toml::{Table, Value};
 
-/// A kind of entries, which stand in a list.
+/// A part of a plan: the keys at its top, the table of its zones, or a list of entries.
 #[derive(Clone, Copy)]
 pub enum Kind {
+    Top,
+    Zones,
     Train,
     Section,
     Connection,
     Table,
 }
 
+/// The entries of a list.
+#[derive(Clone, Copy)]
+pub struct Entries<'t> {
+    pub kind: Kind,
+    /// The further table that they belong to, counted from 0, if they belong to one.
+    pub table: Option<usize>,
+    pub values: &'t [Value],
+}
+
+/// An entry, or a part that is no list. Where something is told of a key of it, or of a name below the key, they are there too.
+#[derive(Clone, Copy)]
+pub struct Entry<'t> {
+    pub kind: Kind,
+    /// The further table that the entry belongs to, counted from 0, if it belongs to one.
+    pub table: Option<usize>,
+    /// Which of the entries of its list it is, counted from 0.
+    pub index: usize,
+    /// Its keys; none, if it is no table of keys.
+    pub keys: Option<&'t Table>,
+    pub key: &'t str,
+    pub name: &'t str,
+}
+
 impl Kind {
-    /// The key of the list, which is what messages call an entry.
+    /// The key of the list, which is what messages call an entry; empty for the keys at the top.
     pub fn word(self) -> &'static str {
         match self {
+            Kind::Top => "",
+            Kind::Zones => "zones",
             Kind::Train => "train",
             Kind::Section => "section",
             Kind::Connection => "connection",
             Kind::Table => "table",
         }
     }
+}
 
-    // The name in the brackets above an entry, of the plan or of a further table.
-    fn header(self, is_further: bool) -> &'static str {
-        if !is_further {
-            return self.word();
-        }
-        match self {
-            Kind::Train => "table.train",
-            Kind::Section => "table.section",
-            Kind::Connection => "table.connection",
-            Kind::Table => "table",
+/// The first value that isn't a text.
+pub(crate) fn first_other(values: &[Value]) -> Option<&Value> {
+    for value in values {
+        if !value.is_str() {
+            return Some(value);
         }
     }
-}
-
-/// The entries of a list.
-#[derive(Clone, Copy)]
-pub struct Entries<'t> {
-    /// The further table that they belong to, counted from 0, if they belong to one.
-    pub table: Option<usize>,
-    pub kind: Kind,
-    pub values: &'t [Value],
-}
-
-/// An entry: what messages call it, and its keys; none, if it is no table of keys.
-#[derive(Clone, Copy)]
-pub struct Entry<'t> {
-    pub subject: Subject<'t>,
-    pub keys: Option<&'t Table>,
-}
-
-/// What messages about keys at the top, or about a table there, are about.
-pub fn top<'t>(header: &'static str) -> Subject<'t> {
-    Subject {
-        place: Place {
-            table: None,
-            header,
-            index: 0,
-        },
-        word: "",
-        name: None,
-    }
-}
-
-/// The entries of a kind, of a plan or of a further table: none, where they don't stand in a list.
-pub fn list_of<'t>(keys: &'t Table, table: Option<usize>, kind: Kind) -> Entries<'t> {
-    let values = match keys.get(kind.word()) {
-        Some(Value::Array(values)) => values.as_slice(),
-        _ => &[],
-    };
-    Entries {
-        table,
-        kind,
-        values,
-    }
+    None
 }
 
 /// The names of a list; none, if it isn't a list of names.
-pub fn names_of<'t>(value: &'t Value) -> Option<&'t [Value]> {
+pub fn names_of(value: &Value) -> Option<&[Value]> {
     let values = value.as_array()?.as_slice();
-    for value in values {
-        if !value.is_str() {
-            return None;
-        }
+    match first_other(values) {
+        Some(_) => None,
+        None => Some(values),
     }
-    Some(values)
 }
 
 impl<'t> Entries<'t> {
     /// An entry; one without keys for one that isn't there.
     pub fn entry(&self, index: usize) -> Entry<'t> {
-        let keys = match self.values.get(index) {
-            Some(value) => value.as_table(),
-            None => None,
-        };
-        let place = Place {
-            table: self.table,
-            header: self.kind.header(self.table.is_some()),
-            index,
-        };
         Entry {
-            subject: Subject {
-                place,
-                word: self.kind.word(),
-                name: name_in(self.kind, keys),
+            kind: self.kind,
+            table: self.table,
+            index,
+            keys: match self.values.get(index) {
+                Some(value) => value.as_table(),
+                None => None,
             },
-            keys,
+            key: "",
+            name: "",
         }
     }
 }
 
-// The name that messages call an entry. A further table has none.
-fn name_in<'t>(kind: Kind, keys: Option<&'t Table>) -> Option<&'t str> {
-    match kind {
-        Kind::Table => None,
-        _ => keys?.get("name")?.as_str(),
-    }
-}
-
 impl<'t> Entry<'t> {
+    /// A part of a plan that is no list.
+    pub fn part(kind: Kind, keys: Option<&'t Table>) -> Entry<'t> {
+        Entry {
+            kind,
+            table: None,
+            index: 0,
+            keys,
+            key: "",
+            name: "",
+        }
+    }
+
+    /// The same entry, for something that is told of a key.
+    pub fn at(&self, key: &'t str) -> Entry<'t> {
+        Entry {
+            key,
+            name: "",
+            ..*self
+        }
+    }
+
+    /// The same entry and key, for something that is told of a name.
+    pub fn of(&self, name: &'t str) -> Entry<'t> {
+        Entry { name, ..*self }
+    }
+
+    /// The name in the brackets above the entry; empty for the keys at the top.
+    pub(crate) fn header(&self) -> &'static str {
+        match self.kind {
+            Kind::Train if self.table.is_some() => "table.train",
+            Kind::Section if self.table.is_some() => "table.section",
+            Kind::Connection if self.table.is_some() => "table.connection",
+            kind => kind.word(),
+        }
+    }
+
+    /// The entries of a kind: none, where they don't stand in a list.
+    pub fn list(&self, kind: Kind) -> Entries<'t> {
+        Entries {
+            kind,
+            table: match self.kind {
+                Kind::Table => Some(self.index),
+                _ => None,
+            },
+            values: self.values(kind.word()),
+        }
+    }
+
     /// The value at a key.
     pub fn value(&self, key: &str) -> Option<&'t Value> {
         self.keys?.get(key)
+    }
+
+    /// The values of the list at a key: none, where no list stands there.
+    pub fn values(&self, key: &str) -> &'t [Value] {
+        match self.value(key) {
+            Some(Value::Array(values)) => values.as_slice(),
+            _ => &[],
+        }
     }
 
     /// The text at a key.
@@ -146,14 +167,9 @@ impl<'t> Entry<'t> {
         names_of(self.value(key)?)
     }
 
-    /// The table at a key.
-    pub fn table(&self, key: &str) -> Option<&'t Table> {
-        self.value(key)?.as_table()
-    }
-
     /// The number at a key that is said for a name; none, where only one for all is said.
     pub fn number_for(&self, key: &str, name: &str) -> Option<i64> {
-        self.table(key)?.get(name)?.as_integer()
+        self.value(key)?.as_table()?.get(name)?.as_integer()
     }
 
     /// The place at a key for a train: its own, or that for all.

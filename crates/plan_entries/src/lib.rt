@@ -5,8 +5,9 @@ mod entries;
 mod faults;
 mod source;
 mod types;
+mod words;
 
-pub use entries::{Entries, Entry, Kind, list_of, names_of, top};
-pub use faults::{Fault, Faults, Part, Subject};
-pub use source::Place;
+pub use entries::{Entries, Entry, Kind, names_of};
+pub use faults::{Fault, Faults};
 pub use types::check_types;
+pub use words::Part;

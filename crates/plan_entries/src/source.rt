@@ -1,16 +1,6 @@
 // Where in the text of a plan an entry stands.
+use crate::Entry;
 use std::alloc::{AllocError, Global};
-
-/// An entry of a plan's text.
-#[derive(Clone, Copy)]
-pub struct Place {
-    /// The further table that it belongs to, counted from 0, if it belongs to one.
-    pub table: Option<usize>,
-    /// The name in the brackets above it; empty for the keys at the top.
-    pub header: &'static str,
-    /// Which of the entries with this header it is, counted from 0.
-    pub index: usize,
-}
 
 /// The lines of a text.
 #[derive(Drop)]
@@ -35,12 +25,8 @@ fn header_of(line: &str) -> &str {
     };
     let rest = rest.strip_prefix("[").unwrap_or(rest);
     match rest.split_once("]") {
-        Some((name, _)) => if name.starts_with(is_word_part) {
-            name.trim()
-        } else {
-            ""
-        },
-        None => "",
+        Some((name, _)) if name.starts_with(is_word_part) => name.trim(),
+        _ => "",
     }
 }
 
@@ -52,24 +38,49 @@ fn is_part_of(part: &str, header: &str) -> bool {
     }
 }
 
-// Whether a line begins with a key, or is the header of its table.
-fn begins_with(line: &str, key: &str) -> bool {
+// The key that a line begins with.
+fn first_key(line: &str) -> &str {
     let line = line.trim_start();
-    let first = line.strip_prefix("\"").unwrap_or(line).split(is_gap).next();
-    if first == Some(key) {
-        return true;
-    }
-    match header_of(line).rsplit_once(".") {
-        Some((_, last)) => last == key,
-        None => false,
+    let line = line.strip_prefix("\"").unwrap_or(line);
+    line.split(is_gap).next().unwrap_or("")
+}
+
+// The last part of a header that has several.
+fn last_part(header: &str) -> &str {
+    match header.rsplit_once(".") {
+        Some((_, last)) => last,
+        None => "",
     }
 }
 
+// Whether a line begins with a key, or is the header of its table.
+fn begins_with(line: &str, key: &str) -> bool {
+    first_key(line) == key || last_part(header_of(line)) == key
+}
+
+// Whether a name stands in a line between two of these quotes, or before the first or behind the last.
+fn has_quoted(line: &str, quote: char, name: &str) -> bool {
+    for piece in line.split(quote) {
+        if piece == name {
+            return true;
+        }
+    }
+    false
+}
+
+// Whether a name stands in a line as a word.
+fn has_bare(line: &str, name: &str) -> bool {
+    for piece in line.split(is_gap) {
+        if piece == name {
+            return true;
+        }
+    }
+    false
+}
+
 // Whether a name stands in a line, in quotes or as a word.
-fn has_word(line: &str, word: &str) -> bool {
-    line.split('"').any(|piece| piece == word)
-        || line.split('\'').any(|piece| piece == word)
-        || line.split(is_gap).any(|piece| piece == word)
+fn has_name(line: &str, name: &str) -> bool {
+    has_quoted(line, '"', name) || has_quoted(line, '\'', name) || has_bare(line, name)
 }
 
 impl<'a> Source<'a> {
@@ -105,17 +116,12 @@ impl<'a> Source<'a> {
     }
 
     // The line of an entry's header, if it has one.
-    fn first_line(&self, place: Place) -> Option<usize> {
-        if place.header.is_empty() {
-            return Some(0);
-        }
-        match place.table {
-            Some(table) => {
-                let from = self.header_line(0, "table", table)?;
-                self.header_line(from, place.header, place.index)
-            }
-            None => self.header_line(0, place.header, place.index),
-        }
+    fn first_line(&self, at: &Entry, header: &str) -> Option<usize> {
+        let from = match at.table {
+            Some(table) => self.header_line(0, "table", table)?,
+            None => 0,
+        };
+        self.header_line(from, header, at.index)
     }
 
     // The line of the next header that is none of a part of this one.
@@ -134,51 +140,58 @@ impl<'a> Source<'a> {
         if key.is_empty() {
             return None;
         }
-        (from..end).find(|at| begins_with(self.line(*at), key))
+        for at in from..end {
+            if begins_with(self.line(at), key) {
+                return Some(at);
+            }
+        }
+        None
     }
 
     // The first of these lines in which a name stands, or else the first of all.
-    fn word_or_first(&self, from: usize, end: usize, word: &str) -> usize {
-        if word.is_empty() {
+    fn name_line(&self, from: usize, end: usize, name: &str) -> usize {
+        if name.is_empty() {
             return from;
         }
-        (from..end)
-            .find(|at| has_word(self.line(*at), word))
-            .unwrap_or(from)
-    }
-
-    // The line of a name in an entry that has no header of its own, counted from 0.
-    fn find_inline(&self, place: Place, word: &str) -> usize {
-        let end = self.end_line(0, "");
-        let from = self.key_line(0, end, place.header).unwrap_or(0);
-        self.word_or_first(from, end, word)
-    }
-
-    // The line of a name below a key of an entry, counted from 0.
-    fn find(&self, place: Place, key: &str, word: &str) -> usize {
-        let Some(first) = self.first_line(place) else {
-            return self.find_inline(place, word);
-        };
-        if place.header.is_empty()
-            && let Some(at) = self.header_line(0, key, 0)
-        {
-            return at;
+        for at in from..end {
+            if has_name(self.line(at), name) {
+                return at;
+            }
         }
-        let below = if place.header.is_empty() {
+        from
+    }
+
+    // The line of a name below a key in the lines of an entry, of which the first is its header, if it has one.
+    fn find_below(&self, first: usize, header: &str, key: &str, name: &str) -> usize {
+        let below = if header.is_empty() {
             first
         } else {
             first.saturating_add(1)
         };
-        let end = self.end_line(below, place.header);
+        let end = self.end_line(below, header);
         let from = self.key_line(below, end, key).unwrap_or(first);
-        self.word_or_first(from, end, word)
+        self.name_line(from, end, name)
+    }
+
+    // The line of a name below a key of an entry, counted from 0.
+    fn find(&self, at: &Entry) -> usize {
+        let header = at.header();
+        let first = if header.is_empty() {
+            self.header_line(0, at.key, 0)
+        } else {
+            self.first_line(at, header)
+        };
+        match first {
+            Some(first) if header.is_empty() => first,
+            Some(first) => self.find_below(first, header, at.key, at.name),
+            None if header.is_empty() => self.find_below(0, "", at.key, at.name),
+            None => self.find_below(0, "", header, at.name),
+        }
     }
 
     /// The line of a name below a key of an entry, counted from 1: where they aren't found, that of the key, of the entry's
     /// header, or 1.
-    pub fn line_of(&self, place: Place, key: &str, word: &str) -> u32 {
-        u32::try_from(self.find(place, key, word))
-            .unwrap_or(0)
-            .saturating_add(1)
+    pub fn line_of(&self, at: &Entry) -> u32 {
+        u32::try_from(self.find(at)).unwrap_or(0).saturating_add(1)
     }
 }

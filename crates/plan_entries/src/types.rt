@@ -1,5 +1,6 @@
 // All that is wrong with the shapes of entries: keys that are unknown or missing, and values of wrong types.
-use crate::{Entries, Entry, Faults, Kind, Part, Subject, list_of, top};
+use crate::entries::first_other;
+use crate::{Entry, Faults, Kind, Part};
 use toml::{Table, Value};
 
 // What the value of a key is.
@@ -15,135 +16,123 @@ enum Takes {
     Places,
 }
 
+impl Takes {
+    // What a key takes, in words.
+    fn words(self) -> &'static str {
+        match self {
+            Takes::Name => "a name",
+            Takes::Number => "a whole number",
+            Takes::Flag => "true or false",
+            Takes::Names => "a list of names",
+            Takes::Numbers => "a whole number, or a table of them",
+            Takes::Places => "a name, or a table of them",
+        }
+    }
+
+    // Whether a value, which isn't a list or a table, is what a key takes.
+    fn fits(self, value: &Value) -> bool {
+        match self {
+            Takes::Name | Takes::Places => value.is_str(),
+            Takes::Number | Takes::Numbers => value.is_integer(),
+            Takes::Flag => value.is_bool(),
+            Takes::Names => false,
+        }
+    }
+}
+
 // Tells that a value has the wrong type.
-fn tell_type<'x>(
-    faults: &mut Faults,
-    subject: &Subject,
-    key: &'x str,
-    wanted: &'x str,
-    value: &'x Value,
-) {
+fn tell_type(faults: &mut Faults, at: &Entry, wanted: &'static str, value: &Value) {
     let parts = [
-        Part::Words("\""),
-        Part::Words(key),
-        Part::Words("\" takes "),
+        Part::Words(at.key),
         Part::Words(wanted),
-        Part::Words(", and this is of type "),
         Part::Words(value.type_str()),
     ];
-    faults.tell(subject, key, "", &parts);
+    faults.tell(at, "\"{}\" takes {}, and this is of type {}", &parts);
 }
 
 // Tells that a key is missing.
-fn tell_missing(faults: &mut Faults, subject: &Subject, key: &str) {
-    let parts = [
-        Part::Words("\""),
-        Part::Words(key),
-        Part::Words("\" is missing"),
-    ];
-    faults.tell(subject, "", "", &parts);
+fn tell_missing(faults: &mut Faults, at: &Entry, key: &str) {
+    faults.tell(at, "\"{}\" is missing", &[Part::Words(key)]);
 }
 
-// Whether a key is one of these, which are written with a comma and a space between them.
-fn is_known(known: &str, key: &str) -> bool {
-    for name in known.split(", ") {
-        if name == key {
-            return true;
-        }
-    }
-    false
+// Whether a key is one of these.
+fn is_known(known: &[&str], key: &str) -> bool {
+    known.contains(&key)
 }
 
-// Tells that a key is none of these.
-fn tell_unknown<'x>(faults: &mut Faults, subject: &Subject, key: &'x str, known: &'x str) {
-    let parts = [
-        Part::Words("no key "),
-        Part::Name(key),
-        Part::Words("; the keys are "),
-        Part::Words(known),
-    ];
-    faults.tell(subject, key, key, &parts);
+// Tells a key that isn't among these.
+fn tell_unknown<'x>(
+    faults: &mut Faults,
+    at: &Entry<'x>,
+    key: &'x str,
+    known: &'static [&'static str],
+) {
+    let parts = [Part::Name(key), Part::List(known)];
+    faults.tell(&at.at(key).of(key), "no key {}; the keys are {}", &parts);
 }
 
 // Tells each key of a table that isn't among these.
-fn check_keys(faults: &mut Faults, subject: &Subject, table: &Table, known: &str) {
-    for key in table.keys() {
-        if !is_known(known, key.as_str()) {
-            tell_unknown(faults, subject, key.as_str(), known);
-        }
-    }
-}
-
-// Tells the first value of a list that is no name.
-fn check_list_of_names(faults: &mut Faults, subject: &Subject, key: &str, values: &[Value]) {
-    for value in values {
-        if !value.is_str() {
-            return tell_type(faults, subject, key, "a list of names", value);
-        }
-    }
-}
-
-// Tells each value of a table that isn't a number, or a name.
-fn check_table(
+fn check_keys<'x>(
     faults: &mut Faults,
-    subject: &Subject,
-    key: &str,
-    takes_numbers: bool,
-    table: &Table,
+    at: &Entry<'x>,
+    keys: &'x Table,
+    known: &'static [&'static str],
 ) {
-    for (_, value) in table {
-        if takes_numbers && !value.is_integer() {
-            tell_type(faults, subject, key, "whole numbers", value);
-        } else if !takes_numbers && !value.is_str() {
-            tell_type(faults, subject, key, "names", value);
+    for key in keys.keys() {
+        let key = key.as_str();
+        if !is_known(known, key) {
+            tell_unknown(faults, at, key, known);
         }
     }
 }
 
-// Whether a value, which isn't a list or a table, is what a key takes.
-fn fits(takes: Takes, value: &Value) -> bool {
-    match takes {
-        Takes::Name | Takes::Places => value.is_str(),
-        Takes::Number | Takes::Numbers => value.is_integer(),
-        Takes::Flag => value.is_bool(),
-        Takes::Names => false,
+// Tells each value of a table that isn't what it takes.
+fn check_each(faults: &mut Faults, at: &Entry, takes: Takes, table: &Table) {
+    let wanted = match takes {
+        Takes::Numbers => "whole numbers",
+        _ => "names",
+    };
+    for (_, value) in table {
+        if !takes.fits(value) {
+            tell_type(faults, at, wanted, value);
+        }
     }
 }
 
-// What a key takes, in words.
-fn wanted(takes: Takes) -> &'static str {
-    match takes {
-        Takes::Name => "a name",
-        Takes::Number => "a whole number",
-        Takes::Flag => "true or false",
-        Takes::Names => "a list of names",
-        Takes::Numbers => "a whole number, or a table of them",
-        Takes::Places => "a name, or a table of them",
+// Tells the first value of a list that is no name, or what isn't a list.
+fn check_names(faults: &mut Faults, at: &Entry, value: &Value) {
+    let other = match value.as_array() {
+        Some(values) => first_other(values.as_slice()),
+        None => Some(value),
+    };
+    if let Some(other) = other {
+        tell_type(faults, at, Takes::Names.words(), other);
     }
 }
 
 // Tells a value of the wrong type.
-fn check_value(faults: &mut Faults, subject: &Subject, key: &str, takes: Takes, value: &Value) {
-    match (takes, value) {
-        (Takes::Names, Value::Array(values)) => {
-            check_list_of_names(faults, subject, key, values.as_slice());
-        }
-        (Takes::Numbers, Value::Table(table)) => check_table(faults, subject, key, true, table),
-        (Takes::Places, Value::Table(table)) => check_table(faults, subject, key, false, table),
-        _ => if !fits(takes, value) {
-            tell_type(faults, subject, key, wanted(takes), value);
+fn check_value(faults: &mut Faults, at: &Entry, takes: Takes, value: &Value) {
+    match takes {
+        Takes::Names => return check_names(faults, at, value),
+        Takes::Numbers | Takes::Places => if let Some(table) = value.as_table() {
+            return check_each(faults, at, takes, table);
         },
+        _ => {}
+    }
+    if !takes.fits(value) {
+        tell_type(faults, at, takes.words(), value);
     }
 }
 
 // The keys of an entry, in the order in which they are looked at.
-fn keys_of(kind: Kind, is_further: bool) -> &'static str {
+fn known_keys(kind: Kind, is_further: bool) -> &'static [&'static str] {
     match kind {
-        Kind::Train if is_further => "name, route, exit, times",
-        Kind::Train => "name, route, start, exit, times",
-        Kind::Section => "name, limit, points, weight, only, from, to",
-        Kind::Connection => "train, leaves, after, reached",
-        Kind::Table => "after, train, section, connection",
+        Kind::Top | Kind::Zones => &["lines", "zones", "train", "section", "connection", "table"],
+        Kind::Train if is_further => &["name", "route", "exit", "times"],
+        Kind::Train => &["name", "route", "start", "exit", "times"],
+        Kind::Section => &["name", "limit", "points", "weight", "only", "from", "to"],
+        Kind::Connection => &["train", "leaves", "after", "reached"],
+        Kind::Table => &["after", "train", "section", "connection"],
     }
 }
 
@@ -151,10 +140,9 @@ fn keys_of(kind: Kind, is_further: bool) -> &'static str {
 fn taken_by(kind: Kind, key: &str) -> Takes {
     match kind {
         Kind::Connection => Takes::Name,
-        Kind::Table => Takes::Number,
-        Kind::Train | Kind::Section => match key {
+        _ => match key {
             "name" | "start" => Takes::Name,
-            "limit" => Takes::Number,
+            "limit" | "after" => Takes::Number,
             "exit" => Takes::Flag,
             "times" | "weight" => Takes::Numbers,
             "from" | "to" => Takes::Places,
@@ -170,133 +158,139 @@ fn is_needed(kind: Kind, key: &str) -> bool {
         Kind::Train => key == "name",
         Kind::Section => key == "limit",
         Kind::Table => key == "after",
+        Kind::Top | Kind::Zones => false,
     }
 }
 
 // Tells a key of an entry that is missing, or has a value of the wrong type.
-fn check_key(faults: &mut Faults, kind: Kind, entry: &Entry, key: &str) {
+fn check_key(faults: &mut Faults, entry: &Entry, key: &'static str) {
     match entry.value(key) {
-        Some(value) => check_value(faults, &entry.subject, key, taken_by(kind, key), value),
-        None => if is_needed(kind, key) {
-            tell_missing(faults, &entry.subject, key);
+        Some(value) => {
+            check_value(faults, &entry.at(key), taken_by(entry.kind, key), value);
+        }
+        None => if is_needed(entry.kind, key) {
+            tell_missing(faults, entry, key);
         },
     }
 }
 
-// Tells that an entry lacks its points.
-fn check_points(faults: &mut Faults, kind: Kind, is_further: bool, entry: &Entry) {
-    match kind {
-        Kind::Train => if !is_further && entry.value("route").is_none() {
-            tell_missing(faults, &entry.subject, "route");
+// Tells that an entry lacks its points. A train of a further table has those of the first.
+fn check_points(faults: &mut Faults, entry: &Entry) {
+    match entry.kind {
+        Kind::Train => if entry.table.is_none() && entry.value("route").is_none() {
+            tell_missing(faults, entry, "route");
         },
         Kind::Section => {
             if entry.value("points").is_none()
                 && entry.value("from").is_none()
                 && entry.value("to").is_none()
             {
-                tell_missing(faults, &entry.subject, "points");
+                tell_missing(faults, entry, "points");
             }
         }
-        Kind::Connection | Kind::Table => {}
+        _ => {}
+    }
+}
+
+// Tells what is wrong with the values of an entry, but for lists of entries.
+fn check_values(faults: &mut Faults, entry: &Entry) {
+    let keys = match entry.kind {
+        Kind::Table => &["after"],
+        kind => known_keys(kind, false),
+    };
+    for key in keys {
+        check_key(faults, entry, key);
     }
 }
 
 // Tells what is wrong with the shape of an entry.
-fn check_entry(faults: &mut Faults, kind: Kind, is_further: bool, entry: &Entry) {
-    let Some(keys) = entry.keys else {
-        let parts = [Part::Words("this is no table of keys")];
-        return faults.tell(&entry.subject, "", "", &parts);
-    };
-    check_keys(faults, &entry.subject, keys, keys_of(kind, is_further));
-    check_points(faults, kind, is_further, entry);
-    let looked_at = match kind {
-        Kind::Table => "after",
-        _ => keys_of(kind, false),
-    };
-    for key in looked_at.split(", ") {
-        check_key(faults, kind, entry, key);
+fn check_entry(faults: &mut Faults, entry: &Entry) {
+    match entry.keys {
+        Some(keys) => {
+            let known = known_keys(entry.kind, entry.table.is_some());
+            check_keys(faults, entry, keys, known);
+            check_points(faults, entry);
+            check_values(faults, entry);
+        }
+        None => faults.tell(entry, "this is no table of keys", &[]),
     }
 }
 
-// Tells what is wrong with the shapes of the entries of a list.
-fn check_entries(faults: &mut Faults, entries: &Entries) {
-    for index in 0..entries.values.len() {
-        let entry = entries.entry(index);
-        check_entry(faults, entries.kind, entries.table.is_some(), &entry);
-    }
-}
-
-// The list of a kind's entries; what isn't one is told.
-fn checked_list<'t>(
-    faults: &mut Faults,
-    above: &Subject,
-    keys: &'t Table,
-    table: Option<usize>,
-    kind: Kind,
-) -> Entries<'t> {
-    let key = kind.word();
-    if let Some(value) = keys.get(key)
+// Tells what isn't a list at a key where one stands.
+fn check_list(faults: &mut Faults, entry: &Entry, key: &'static str) {
+    if let Some(value) = entry.value(key)
         && !value.is_array()
     {
-        tell_type(faults, above, key, "a list of tables", value);
+        tell_type(faults, &entry.at(key), "a list of tables", value);
     }
-    list_of(keys, table, kind)
+}
+
+// Tells what is wrong with the shapes of the entries of a kind.
+fn check_entries(faults: &mut Faults, above: &Entry, kind: Kind) {
+    check_list(faults, above, kind.word());
+    let entries = above.list(kind);
+    for index in 0..entries.values.len() {
+        check_entry(faults, &entries.entry(index));
+    }
 }
 
 // Tells what is wrong with the shapes of the trains, sections and connections of the plan, or of a further table.
-fn check_lists(faults: &mut Faults, above: &Subject, keys: &Table, table: Option<usize>) {
-    for kind in [Kind::Train, Kind::Section, Kind::Connection] {
-        let entries = checked_list(faults, above, keys, table, kind);
-        check_entries(faults, &entries);
-    }
+fn check_lists(faults: &mut Faults, above: &Entry) {
+    check_entries(faults, above, Kind::Train);
+    check_entries(faults, above, Kind::Section);
+    check_entries(faults, above, Kind::Connection);
 }
 
 // Tells what is wrong with the shapes of the further tables.
-fn check_tables(faults: &mut Faults, keys: &Table) {
-    let tables = checked_list(faults, &top(""), keys, None, Kind::Table);
+fn check_tables(faults: &mut Faults, top: &Entry) {
+    check_list(faults, top, Kind::Table.word());
+    let tables = top.list(Kind::Table);
     for index in 0..tables.values.len() {
-        let entry = tables.entry(index);
-        check_entry(faults, Kind::Table, false, &entry);
-        if let Some(keys) = entry.keys {
-            check_lists(faults, &entry.subject, keys, Some(index));
-        }
+        let table = tables.entry(index);
+        check_entry(faults, &table);
+        check_lists(faults, &table);
     }
 }
 
 // Tells what is wrong with the shapes of the chains of points.
-fn check_lines(faults: &mut Faults, keys: &Table) {
-    let above = top("");
-    match keys.get("lines") {
-        None => {}
-        Some(Value::Array(lines)) => for line in lines {
-            check_value(faults, &above, "lines", Takes::Names, line);
-        },
-        Some(value) => tell_type(faults, &above, "lines", "a list of tables", value),
+fn check_lines(faults: &mut Faults, top: &Entry) {
+    check_list(faults, top, "lines");
+    for line in top.values("lines") {
+        check_names(faults, &top.at("lines"), line);
+    }
+}
+
+// Tells each zone that isn't a list of names.
+fn check_each_zone(faults: &mut Faults, zones: &Table) {
+    for (zone, points) in zones {
+        let at = Entry::part(Kind::Zones, None);
+        check_names(faults, &at.at(zone.as_str()), points);
     }
 }
 
 // Tells what is wrong with the shapes of the zones.
-fn check_zones(faults: &mut Faults, keys: &Table) {
-    let above = top("zones");
-    match keys.get("zones") {
-        None => {}
-        Some(Value::Table(zones)) => for (zone, value) in zones {
-            check_value(faults, &above, zone.as_str(), Takes::Names, value);
-        },
+fn check_zones(faults: &mut Faults, top: &Entry) {
+    match top.value("zones") {
+        Some(Value::Table(zones)) => check_each_zone(faults, zones),
         Some(_) => {
-            let parts = [Part::Words("\"zones\" takes a table of lists of points")];
-            faults.tell(&above, "zones", "", &parts);
+            let at = Entry::part(Kind::Zones, None);
+            faults.tell(
+                &at.at("zones"),
+                "\"zones\" takes a table of lists of points",
+                &[],
+            );
         }
+        None => {}
     }
 }
 
 /// Tells what is wrong with the shapes of a plan's entries.
-pub fn check_types(faults: &mut Faults, keys: &Table) {
-    let above = top("");
-    let known = "lines, zones, train, section, connection, table";
-    check_keys(faults, &above, keys, known);
-    check_lines(faults, keys);
-    check_zones(faults, keys);
-    check_lists(faults, &above, keys, None);
-    check_tables(faults, keys);
+pub fn check_types(faults: &mut Faults, top: &Entry) {
+    if let Some(keys) = top.keys {
+        check_keys(faults, top, keys, known_keys(Kind::Top, false));
+    }
+    check_lines(faults, top);
+    check_zones(faults, top);
+    check_lists(faults, top);
+    check_tables(faults, top);
 }

@@ -1,44 +1,45 @@
 // Who waits for whom in a table.
-use crate::names::{find, tell_of, tell_words};
+use crate::names::find;
 use crate::routes::{Scope, place_of};
 use plan_document::Wait;
-use plan_entries::{Entries, Entry, Faults};
+use plan_entries::{Entries, Entry, Faults, Part};
 use std::alloc::AllocError;
 
 const MOST_CONNECTIONS: usize = 32;
 
 // A number as a document has it.
-fn number(of: usize) -> u32 {
-    u32::try_from(of).unwrap_or(0)
+fn number(of: Option<usize>) -> u32 {
+    u32::try_from(of.unwrap_or(0)).unwrap_or(0)
 }
 
 // The train at a key; one that isn't there is reported.
-fn train_at(faults: &mut Faults, entry: &Entry, key: &str, scope: &Scope) -> Option<usize> {
-    let name = entry.text(key)?;
-    find(faults, &entry.subject, key, "train", name, scope.trains)
+fn train_at(faults: &mut Faults, entry: &Entry, key: &'static str, scope: &Scope) -> Option<usize> {
+    let at = entry.at(key).of(entry.text(key)?);
+    find(faults, &at, "train", scope.trains)
 }
 
 // The place at a key on the route of a train; one that isn't there is reported.
 fn place_at(
     faults: &mut Faults,
     entry: &Entry,
-    key: &str,
+    key: &'static str,
     scope: &Scope,
     train: Option<usize>,
 ) -> Option<usize> {
-    let name = entry.text(key)?;
-    place_of(faults, &entry.subject, key, name, scope, train?)
+    let at = entry.at(key).of(entry.text(key)?);
+    place_of(faults, &at, scope, train?)
 }
 
 // Tells a place that a train doesn't leave, since its route ends there.
 fn check_leaves(faults: &mut Faults, entry: &Entry, scope: &Scope, train: usize, place: usize) {
-    let last = scope.route(train).len() <= place.saturating_add(1);
-    if last
+    let is_last = scope.route(train).len() <= place.saturating_add(1);
+    if is_last
         && !scope.exits(train)
         && let Some(name) = entry.text("leaves")
     {
-        let words = " is never left: the route of the train ends there";
-        tell_of(faults, &entry.subject, "leaves", name, words);
+        let form = "{} is never left: the route of the train ends there";
+        let at = entry.at("leaves").of(name);
+        faults.tell(&at, form, &[Part::Name(name)]);
     }
 }
 
@@ -47,8 +48,8 @@ fn wait(faults: &mut Faults, entry: &Entry, scope: &Scope) -> Wait {
     let train = train_at(faults, entry, "train", scope);
     let after = train_at(faults, entry, "after", scope);
     if train.is_some() && train == after {
-        let words = "a train doesn't wait for itself";
-        tell_words(faults, &entry.subject, "after", words);
+        let at = entry.at("after");
+        faults.tell(&at, "a train doesn't wait for itself", &[]);
     }
     let leaves = place_at(faults, entry, "leaves", scope, train);
     if let Some(train) = train
@@ -58,10 +59,10 @@ fn wait(faults: &mut Faults, entry: &Entry, scope: &Scope) -> Wait {
     }
     let reached = place_at(faults, entry, "reached", scope, after);
     Wait {
-        train: number(train.unwrap_or(0)),
-        leaves: number(leaves.unwrap_or(0)),
-        after: number(after.unwrap_or(0)),
-        reached: number(reached.unwrap_or(0)),
+        train: number(train),
+        leaves: number(leaves),
+        after: number(after),
+        reached: number(reached),
     }
 }
 
@@ -77,8 +78,8 @@ pub(crate) fn add_waits(
         waits.push(wait(faults, &entries.entry(index), scope))?;
     }
     if MOST_CONNECTIONS < count {
-        let words = "this is one connection too many: 32 are the most of a table";
-        tell_words(faults, &entries.entry(MOST_CONNECTIONS).subject, "", words);
+        let form = "this is one connection too many: 32 are the most of a table";
+        faults.tell(&entries.entry(MOST_CONNECTIONS), form, &[]);
     }
     Ok(())
 }

@@ -1,11 +1,11 @@
 // The trains and points of a plan and what links the points, in the order in which they are first named, and zones.
-use crate::names::{find, is_known, is_name, tell_of, tell_words, text_of};
-use plan_entries::{Entries, Faults, Kind, Part, Subject, list_of, names_of, top};
+use crate::names::{find, is_known, is_name, text_of};
+use plan_entries::{Entries, Entry, Faults, Kind, Part, names_of};
 use std::alloc::{AllocError, Global};
-use toml::{Table, Value};
+use toml::Value;
 
-/// How many trains a plan may have.
-pub(crate) const MOST_TRAINS: usize = 32;
+// How many trains a plan may have.
+const MOST_TRAINS: usize = 32;
 
 const MOST_POINTS: usize = 512;
 // How many points are kept, so that those too many aren't reported as unknown too.
@@ -41,24 +41,24 @@ fn is_linked(links: &[Link<'_>], one: &str, other: &str) -> bool {
     false
 }
 
-// Tells a train whose name is none, or is taken.
-fn check_name(faults: &mut Faults, subject: &Subject, name: &str, taken: &[&str]) {
-    if !is_name(name) {
-        let words = " is no name: 1 to 16 of A-Z, a-z, 0-9 and _";
-        tell_of(faults, subject, "name", name, words);
-    } else if is_known(taken, name) {
-        let words = " is the name of an earlier train too";
-        tell_of(faults, subject, "name", name, words);
+// Tells something of the name that a fault is about.
+fn tell_of(faults: &mut Faults, at: &Entry, form: &'static str) {
+    faults.tell(at, form, &[Part::Name(at.name)]);
+}
+
+// Tells what isn't a name.
+fn check_name(faults: &mut Faults, at: &Entry) {
+    if !is_name(at.name) {
+        tell_of(faults, at, "{} is no name: 1 to 16 of A-Z, a-z, 0-9 and _");
     }
 }
 
 // The number of a zone; one that is out of range is reported.
-fn zone_of(faults: &mut Faults, subject: &Subject, zone: &str) -> Option<u32> {
-    match zone.parse::<u32>() {
+fn zone_of(faults: &mut Faults, at: &Entry) -> Option<u32> {
+    match at.key.parse::<u32>() {
         Ok(number) if number < MOST_ZONES => Some(number),
         _ => {
-            let words = " is no zone: they are numbered from 0 to 15";
-            tell_of(faults, subject, zone, zone, words);
+            tell_of(faults, at, "{} is no zone: they are numbered from 0 to 15");
             None
         }
     }
@@ -92,19 +92,19 @@ fn has_point(zones: &[Option<u32>], number: u32) -> bool {
     false
 }
 
+// Tells that a zone has no point, though a greater one has.
+fn tell_gap(faults: &mut Faults, zone: u32, most: u32) {
+    let parts = [Part::Number(i64::from(zone)), Part::Number(i64::from(most))];
+    let form = "zone {} has no point, and zone {} has";
+    faults.tell(&Entry::part(Kind::Zones, None), form, &parts);
+}
+
 // Tells each zone that has no point, of those below the greatest.
 fn check_gaps(faults: &mut Faults, zones: &[Option<u32>]) {
     let most = greatest(zones);
     for zone in 0..most.min(MOST_ZONES) {
         if !has_point(zones, zone) {
-            let parts = [
-                Part::Words("zone "),
-                Part::Number(i64::from(zone)),
-                Part::Words(" has no point, and zone "),
-                Part::Number(i64::from(most)),
-                Part::Words(" has"),
-            ];
-            faults.tell(&top("zones"), "", "", &parts);
+            tell_gap(faults, zone, most);
         }
     }
 }
@@ -120,7 +120,25 @@ impl<'t> Ground<'t> {
         }
     }
 
-    /// Adds the names of the trains; empty for one that has none.
+    // Tells a train whose name is none, or is taken.
+    fn check_train(&self, faults: &mut Faults, at: &Entry) {
+        if is_name(at.name) && is_known(&self.trains, at.name) {
+            tell_of(faults, at, "{} is the name of an earlier train too");
+        }
+        check_name(faults, at);
+    }
+
+    // Adds the name of a train; empty for one that has none.
+    fn add_train(&mut self, faults: &mut Faults, train: &Entry<'t>) -> Result<(), AllocError> {
+        let name = train.text("name");
+        if let Some(name) = name {
+            self.check_train(faults, &train.at("name").of(name));
+        }
+        self.trains.push(name.unwrap_or(""))?;
+        Ok(())
+    }
+
+    /// Adds the names of the trains.
     pub fn add_trains(
         &mut self,
         faults: &mut Faults,
@@ -128,67 +146,51 @@ impl<'t> Ground<'t> {
     ) -> Result<(), AllocError> {
         let count = trains.values.len();
         for index in 0..count.min(MOST_TRAINS) {
-            let train = trains.entry(index);
-            let name = train.text("name");
-            if let Some(name) = name {
-                check_name(faults, &train.subject, name, &self.trains);
-            }
-            self.trains.push(name.unwrap_or(""))?;
+            self.add_train(faults, &trains.entry(index))?;
         }
         if count == 0 && faults.is_empty() {
-            tell_words(faults, &top(""), "", "there is no train");
+            faults.tell(&Entry::part(Kind::Top, None), "there is no train", &[]);
         }
         if MOST_TRAINS < count {
-            let words = "this is one train too many: 32 are the most";
-            tell_words(faults, &trains.entry(MOST_TRAINS).subject, "", words);
+            let form = "this is one train too many: 32 are the most";
+            faults.tell(&trains.entry(MOST_TRAINS), form, &[]);
         }
         Ok(())
     }
 
     // Adds a point, unless it is there.
-    fn add_point(
-        &mut self,
-        faults: &mut Faults,
-        subject: &Subject,
-        key: &str,
-        name: &'t str,
-    ) -> Result<(), AllocError> {
-        if is_known(&self.points, name) || KEPT_POINTS <= self.points.len() {
+    fn add_point(&mut self, faults: &mut Faults, at: &Entry<'t>) -> Result<(), AllocError> {
+        let count = self.points.len();
+        if is_known(&self.points, at.name) || KEPT_POINTS <= count {
             return Ok(());
         }
-        if !is_name(name) {
-            let words = " is no name: 1 to 16 of A-Z, a-z, 0-9 and _";
-            tell_of(faults, subject, key, name, words);
+        check_name(faults, at);
+        if count == MOST_POINTS {
+            tell_of(faults, at, "{} is one point too many: 512 are the most");
         }
-        if self.points.len() == MOST_POINTS {
-            let words = " is one point too many: 512 are the most";
-            tell_of(faults, subject, key, name, words);
-        }
-        self.points.push(name)?;
+        self.points.push(at.name)?;
         Ok(())
     }
 
-    // Adds the link between two points, unless it is there.
+    // Adds the link to a point from the one before it, unless it is there.
     fn add_link(
         &mut self,
         faults: &mut Faults,
-        subject: &Subject,
-        key: &str,
-        one: &'t str,
-        other: &'t str,
+        at: &Entry<'t>,
+        before: &'t str,
     ) -> Result<(), AllocError> {
-        if one == other {
-            tell_of(faults, subject, key, one, " comes twice in a row");
-            return Ok(());
+        let count = self.links.len();
+        if before == at.name {
+            tell_of(faults, at, "{} comes twice in a row");
+        } else if count <= MOST_LINKS && !is_linked(&self.links, before, at.name) {
+            if count == MOST_LINKS {
+                tell_of(faults, at, "{} has one link too many: 2048 are the most");
+            }
+            self.links.push(Link {
+                one: before,
+                other: at.name,
+            })?;
         }
-        if is_linked(&self.links, one, other) || MOST_LINKS < self.links.len() {
-            return Ok(());
-        }
-        if self.links.len() == MOST_LINKS {
-            let words = " has one link too many: 2048 are the most";
-            tell_of(faults, subject, key, other, words);
-        }
-        self.links.push(Link { one, other })?;
         Ok(())
     }
 
@@ -196,17 +198,16 @@ impl<'t> Ground<'t> {
     fn add_chain(
         &mut self,
         faults: &mut Faults,
-        subject: &Subject,
-        key: &str,
+        at: &Entry<'t>,
         chain: &'t [Value],
     ) -> Result<(), AllocError> {
         for (index, value) in chain.iter().enumerate() {
-            let point = text_of(value);
-            self.add_point(faults, subject, key, point)?;
+            let at = at.of(text_of(value));
+            self.add_point(faults, &at)?;
             if 0 < index
                 && let Some(before) = chain.get(index.saturating_sub(1))
             {
-                self.add_link(faults, subject, key, text_of(before), point)?;
+                self.add_link(faults, &at, text_of(before))?;
             }
         }
         Ok(())
@@ -216,63 +217,63 @@ impl<'t> Ground<'t> {
     fn add_routes(&mut self, faults: &mut Faults, trains: &Entries<'t>) -> Result<(), AllocError> {
         for index in 0..trains.values.len() {
             let train = trains.entry(index);
-            if let Some(route) = train.names("route") {
-                self.add_chain(faults, &train.subject, "route", route)?;
-            }
+            let route = train.names("route").unwrap_or(&[]);
+            self.add_chain(faults, &train.at("route"), route)?;
         }
         Ok(())
     }
 
     // Adds the points and links of the lines of a plan.
-    fn add_lines(&mut self, faults: &mut Faults, keys: &'t Table) -> Result<(), AllocError> {
-        let above = top("");
-        if let Some(Value::Array(lines)) = keys.get("lines") {
-            for line in lines {
-                if let Some(points) = names_of(line) {
-                    self.add_chain(faults, &above, "lines", points)?;
-                }
-            }
+    fn add_lines(&mut self, faults: &mut Faults, top: &Entry<'t>) -> Result<(), AllocError> {
+        for line in top.values("lines") {
+            let points = names_of(line).unwrap_or(&[]);
+            self.add_chain(faults, &top.at("lines"), points)?;
         }
         Ok(())
     }
 
     /// Adds the points and links of a plan: those of its lines, and then those of its routes.
-    pub fn add_points(&mut self, faults: &mut Faults, keys: &'t Table) -> Result<(), AllocError> {
-        self.add_lines(faults, keys)?;
-        self.add_routes(faults, &list_of(keys, None, Kind::Train))?;
-        let tables = list_of(keys, None, Kind::Table);
+    pub fn add_points(&mut self, faults: &mut Faults, top: &Entry<'t>) -> Result<(), AllocError> {
+        self.add_lines(faults, top)?;
+        self.add_routes(faults, &top.list(Kind::Train))?;
+        let tables = top.list(Kind::Table);
         for index in 0..tables.values.len() {
-            if let Some(own) = tables.entry(index).keys {
-                self.add_routes(faults, &list_of(own, Some(index), Kind::Train))?;
-            }
+            self.add_routes(faults, &tables.entry(index).list(Kind::Train))?;
         }
         Ok(())
     }
 
-    // Puts points into a zone.
-    fn put_all(&mut self, faults: &mut Faults, subject: &Subject, zone: &str, points: &[Value]) {
-        if let Some(number) = zone_of(faults, subject, zone) {
+    // Puts a point into a zone; one that is in a zone already is reported.
+    fn put_one(&mut self, faults: &mut Faults, at: &Entry, zone: u32) {
+        if let Some(place) = find(faults, at, "point", &self.points)
+            && !put(&mut self.zones, place, zone)
+        {
+            tell_of(faults, at, "{} is in a zone already");
+        }
+    }
+
+    // Puts points into the zone that is the key.
+    fn put_all<'x>(&mut self, faults: &mut Faults, at: &Entry<'x>, points: &'x [Value]) {
+        if let Some(zone) = zone_of(faults, &at.of(at.key)) {
             for point in points {
-                let point = text_of(point);
-                if let Some(at) = find(faults, subject, zone, "point", point, &self.points)
-                    && !put(&mut self.zones, at, number)
-                {
-                    tell_of(faults, subject, zone, point, " is in a zone already");
-                }
+                self.put_one(faults, &at.of(text_of(point)), zone);
             }
         }
     }
 
     /// Puts the points into their zones. Those that the plan puts into none are in zone 0.
-    pub fn add_zones(&mut self, faults: &mut Faults, keys: &Table) -> Result<(), AllocError> {
+    pub fn add_zones(&mut self, faults: &mut Faults, top: &Entry) -> Result<(), AllocError> {
         for _ in 0..self.points.len() {
             self.zones.push(None)?;
         }
-        let above = top("zones");
-        if let Some(Value::Table(zones)) = keys.get("zones") {
+        if let Some(Value::Table(zones)) = top.value("zones") {
             for (zone, value) in zones {
                 if let Some(points) = names_of(value) {
-                    self.put_all(faults, &above, zone.as_str(), points);
+                    self.put_all(
+                        faults,
+                        &Entry::part(Kind::Zones, None).at(zone.as_str()),
+                        points,
+                    );
                 }
             }
         }

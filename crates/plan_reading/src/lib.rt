@@ -5,6 +5,7 @@ mod agreement;
 mod connections;
 mod ground;
 mod names;
+mod ranges;
 mod reading;
 mod routes;
 mod sections;

@@ -1,5 +1,5 @@
 // Names, and what to write in place of one that isn't known.
-use plan_entries::{Faults, Part, Subject};
+use plan_entries::{Entry, Faults, Part};
 use std::alloc::{AllocError, Global};
 use toml::Value;
 
@@ -55,124 +55,83 @@ fn distance(alloc: Global, name: &str, known: &str) -> Result<usize, AllocError>
     })
 }
 
-// The number of the name that is most like this one, if one differs in at most two letters.
-fn nearest(alloc: Global, name: &str, known: &[&str]) -> Result<Option<usize>, AllocError> {
+// The number of the name that is most like this one; one behind the last, if none differs in at most two letters.
+fn nearest(alloc: Global, name: &str, known: &[&str]) -> Result<usize, AllocError> {
     let mut least = 3usize;
-    let mut found = None;
+    let mut found = known.len();
     for (index, one) in known.iter().enumerate() {
         let edits = distance(alloc, name, one)?;
         if edits < least {
             least = edits;
-            found = Some(index);
+            found = index;
         }
     }
     Ok(found)
 }
 
-// Tells that there is no point, or no train, of a name.
-fn tell_no<'x>(
-    faults: &mut Faults,
-    subject: &Subject,
-    key: &str,
-    kind: &'x str,
-    name: &'x str,
-    known: &'x [&'x str],
-) {
-    let near = match nearest(faults.alloc(), name, known) {
-        Ok(Some(index)) => known.get(index),
-        Ok(None) => None,
-        Err(AllocError) => return faults.lose(),
-    };
-    match near {
-        Some(near) => tell_near(faults, subject, key, kind, name, near),
-        None => tell_list(faults, subject, key, kind, name, known),
-    }
-}
-
 // Tells that there is no such name, but one that is like it.
 fn tell_near<'x>(
     faults: &mut Faults,
-    subject: &Subject,
-    key: &str,
-    kind: &'x str,
+    at: &Entry,
+    kind: &'static str,
     name: &'x str,
     near: &'x str,
 ) {
-    let parts = [
-        Part::Words("no "),
-        Part::Words(kind),
-        Part::Words(" "),
-        Part::Name(name),
-        Part::Words("; did you mean \""),
-        Part::Words(near),
-        Part::Words("\"?"),
-    ];
-    faults.tell(subject, key, name, &parts);
+    let parts = [Part::Words(kind), Part::Name(name), Part::Words(near)];
+    faults.tell(at, "no {} {}; did you mean \"{}\"?", &parts);
 }
 
 // Tells that there is no such name, and those that there are.
-fn tell_list<'x>(
+fn tell_all<'x>(
     faults: &mut Faults,
-    subject: &Subject,
-    key: &str,
-    kind: &'x str,
+    at: &Entry,
+    kind: &'static str,
     name: &'x str,
     known: &'x [&'x str],
 ) {
     let parts = [
-        Part::Words("no "),
         Part::Words(kind),
-        Part::Words(" "),
         Part::Name(name),
-        Part::Words("; the "),
         Part::Words(kind),
-        Part::Words("s are "),
         Part::List(known),
     ];
-    faults.tell(subject, key, name, &parts);
+    faults.tell(at, "no {} {}; the {}s are {}", &parts);
 }
 
-/// Tells something of a name, which comes before the other words.
-pub(crate) fn tell_of<'x>(
-    faults: &mut Faults,
-    subject: &Subject,
-    key: &str,
-    name: &'x str,
-    behind: &'x str,
-) {
-    faults.tell(subject, key, name, &[Part::Name(name), Part::Words(behind)]);
-}
-
-/// Tells a number that is out of range.
-pub(crate) fn tell_number(
-    faults: &mut Faults,
-    subject: &Subject,
-    key: &str,
-    name: &str,
-    words: &str,
-    number: i64,
-) {
-    let parts = [Part::Words(words), Part::Number(number)];
-    faults.tell(subject, key, name, &parts);
-}
-
-/// Tells something in these words alone.
-pub(crate) fn tell_words(faults: &mut Faults, subject: &Subject, key: &str, words: &str) {
-    faults.tell(subject, key, "", &[Part::Words(words)]);
+// Tells that there is no point, or no train, of a name.
+fn tell_no(faults: &mut Faults, at: &Entry, kind: &'static str, known: &[&str]) {
+    match nearest(faults.alloc(), at.name, known) {
+        Ok(near) => match known.get(near) {
+            Some(near) => tell_near(faults, at, kind, at.name, near),
+            None => tell_all(faults, at, kind, at.name, known),
+        },
+        Err(AllocError) => faults.lose(),
+    }
 }
 
 /// The number of a name among those of a kind; one that isn't among them is reported.
 pub(crate) fn find(
     faults: &mut Faults,
-    subject: &Subject,
-    key: &str,
+    at: &Entry,
     kind: &'static str,
-    name: &str,
     known: &[&str],
 ) -> Option<usize> {
-    let found = number_of(known, name);
+    let found = number_of(known, at.name);
     if found.is_none() {
-        tell_no(faults, subject, key, kind, name, known);
+        tell_no(faults, at, kind, known);
     }
     found
+}
+
+/// Tells each name of a list that isn't known.
+pub(crate) fn check_names<'x>(
+    faults: &mut Faults,
+    at: &Entry<'x>,
+    names: &'x [Value],
+    kind: &'static str,
+    known: &[&str],
+) {
+    for name in names {
+        find(faults, &at.of(text_of(name)), kind, known);
+    }
 }

@@ -6,7 +6,7 @@ ghost use Rattle.plan_reading.specs.Said.{IsRead, IsReading};
 use crate::agreement::agrees;
 use crate::tables::plan_of;
 use plan_document::Plan;
-use plan_entries::{Fault, Faults, check_types};
+use plan_entries::{Entry, Fault, Faults, Kind, check_types};
 use std::alloc::{AllocError, Global};
 use toml::Table;
 use toml::de::Error;
@@ -75,8 +75,9 @@ fn read_table(alloc: Global, text: &str, table: &Table) -> Result<PlanRead, Allo
     ensures { IfOk result (IsReading (table_view table.now)) }
 {
     let mut faults = Faults::new(alloc, text)?;
-    check_types(&mut faults, table);
-    let plan = plan_of(alloc, &mut faults, table)?;
+    let top = Entry::part(Kind::Top, Some(table));
+    check_types(&mut faults, &top);
+    let plan = plan_of(alloc, &mut faults, &top)?;
     if faults.is_empty() && agrees(table, &plan) {
         return Ok(PlanRead::Plan(plan));
     }

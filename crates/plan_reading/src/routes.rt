@@ -1,6 +1,6 @@
 // Places on routes, by the names of their points.
 use crate::names::find;
-use plan_entries::{Faults, Part, Subject};
+use plan_entries::{Entry, Faults, Part};
 
 /// What the names in a table stand for: points, trains, and the route of each train under the table.
 #[derive(Clone, Copy)]
@@ -90,64 +90,63 @@ pub(crate) fn find_place(route: &[String], name: &str) -> Spot {
     }
 }
 
-/// Tells that a point comes more than once on a train's route.
-pub(crate) fn tell_several<'x>(
+// Tells something of a name and of a train's route.
+fn tell_on<'x>(
     faults: &mut Faults,
-    subject: &Subject,
-    key: &str,
-    name: &'x str,
+    at: &Entry<'x>,
     scope: &Scope<'x>,
     train: usize,
+    form: &'static str,
 ) {
     let parts = [
-        Part::Name(name),
-        Part::Words(" comes more than once on the route of train "),
+        Part::Name(at.name),
         Part::Name(scope.train(train)),
         Part::InTable(scope.table),
-        Part::Words(": write #1, #2 .. behind it"),
     ];
-    faults.tell(subject, key, name, &parts);
+    faults.tell(at, form, &parts);
 }
 
-/// Tells that a name stands nowhere on a train's route.
-pub(crate) fn tell_nowhere<'x>(
+/// Tells a name that stands nowhere on a train's route.
+pub(crate) fn check_comes<'x>(
     faults: &mut Faults,
-    subject: &Subject,
-    key: &str,
-    name: &'x str,
+    at: &Entry<'x>,
     scope: &Scope<'x>,
     train: usize,
 ) {
-    if find(faults, subject, key, "point", point_of(name), scope.points).is_none() {
-        return;
+    if matches!(find_place(scope.route(train), at.name), Spot::Nowhere)
+        && find(faults, &at.of(point_of(at.name)), "point", scope.points).is_some()
+    {
+        let form = "{} is not on the route of train {}{}";
+        tell_on(faults, at, scope, train, form);
     }
-    let parts = [
-        Part::Name(name),
-        Part::Words(" is not on the route of train "),
-        Part::Name(scope.train(train)),
-        Part::InTable(scope.table),
-    ];
-    faults.tell(subject, key, name, &parts);
+}
+
+/// The place of a name on a train's route, if it is one; a point that comes more than once is reported.
+pub(crate) fn place_if_there<'x>(
+    faults: &mut Faults,
+    at: &Entry<'x>,
+    scope: &Scope<'x>,
+    train: usize,
+) -> Option<usize> {
+    match find_place(scope.route(train), at.name) {
+        Spot::At(place) => Some(place),
+        Spot::Nowhere => None,
+        Spot::Several => {
+            let form =
+                "{} comes more than once on the route of train {}{}: write #1, #2 .. behind it";
+            tell_on(faults, at, scope, train, form);
+            None
+        }
+    }
 }
 
 /// The place of a name on a train's route; a name that isn't one place is reported.
 pub(crate) fn place_of<'x>(
     faults: &mut Faults,
-    subject: &Subject,
-    key: &str,
-    name: &'x str,
+    at: &Entry<'x>,
     scope: &Scope<'x>,
     train: usize,
 ) -> Option<usize> {
-    match find_place(scope.route(train), name) {
-        Spot::At(place) => Some(place),
-        Spot::Nowhere => {
-            tell_nowhere(faults, subject, key, name, scope, train);
-            None
-        }
-        Spot::Several => {
-            tell_several(faults, subject, key, name, scope, train);
-            None
-        }
-    }
+    check_comes(faults, at, scope, train);
+    place_if_there(faults, at, scope, train)
 }

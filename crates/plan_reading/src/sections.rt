@@ -1,17 +1,26 @@
 // The sections of a table.
-use crate::names::{find, is_known, tell_number, tell_words, text_of};
-use crate::routes::{Scope, Spot, find_place, point_of, tell_nowhere, tell_several};
-use crate::trains::push_names;
+use crate::names::{check_names, find, is_known, text_of};
+use crate::ranges::Range;
+use crate::routes::{Scope, Spot, check_comes, find_place, place_if_there, point_of};
+use crate::trains::{push_name, push_names};
 use plan_document::{Holding, SectionPlan, share_at};
-use plan_entries::{Entries, Entry, Faults, Part, Subject};
+use plan_entries::{Entries, Entry, Faults, Part};
 use std::alloc::{AllocError, Global};
 use toml::{Table, Value};
 
 const MOST_SECTIONS: usize = 64;
 
-const MOST_LIMIT: u32 = 128;
+const LIMITS: Range = Range {
+    least: 0,
+    most: 128,
+    form: "a limit is 0 to 128, and this is {}",
+};
 
-const MOST_WEIGHT: u8 = 4;
+const WEIGHTS: Range = Range {
+    least: 0,
+    most: 4,
+    form: "a weight is 0 to 4, and this is {}",
+};
 
 // What a train holds of a section that doesn't concern it.
 const NOTHING: Holding = Holding {
@@ -19,28 +28,6 @@ const NOTHING: Holding = Holding {
     from: 0,
     until: 0,
 };
-
-// The limit of a section; one that is out of range is reported.
-fn limit_of(faults: &mut Faults, entry: &Entry) -> u32 {
-    let Some(number) = entry.number("limit") else {
-        return MOST_LIMIT;
-    };
-    match u32::try_from(number) {
-        Ok(limit) if limit <= MOST_LIMIT => limit,
-        _ => {
-            let words = "a limit is 0 to 128, and this is ";
-            tell_number(faults, &entry.subject, "limit", "", words, number);
-            MOST_LIMIT
-        }
-    }
-}
-
-// Tells each point of a list that isn't known.
-fn check_points(faults: &mut Faults, subject: &Subject, names: &[Value], points: &[&str]) {
-    for name in names {
-        find(faults, subject, "points", "point", text_of(name), points);
-    }
-}
 
 // Adds the points of a section: all, if only its stretch is given.
 fn add_points(
@@ -51,67 +38,37 @@ fn add_points(
     plan: &mut SectionPlan,
 ) -> Result<(), AllocError> {
     if let Some(points) = entry.names("points") {
-        check_points(faults, &entry.subject, points, scope.points);
+        check_names(faults, &entry.at("points"), points, "point", scope.points);
         return push_names(&mut plan.points, alloc, points);
     }
     if entry.has_places("from") || entry.has_places("to") {
         for point in scope.points {
-            plan.points.push(String::from_str(alloc, point)?)?;
+            push_name(&mut plan.points, alloc, point)?;
         }
     }
     Ok(())
 }
 
-// A weight, if it is one.
-fn weight_in(number: i64) -> Option<u8> {
-    match u8::try_from(number) {
-        Ok(weight) if weight <= MOST_WEIGHT => Some(weight),
-        _ => None,
-    }
-}
-
-// Tells a weight that is out of range.
-fn check_weight(faults: &mut Faults, subject: &Subject, name: &str, number: i64) {
-    if weight_in(number).is_none() {
-        let words = "a weight is 0 to 4, and this is ";
-        tell_number(faults, subject, "weight", name, words, number);
-    }
-}
-
 // Tells what is wrong with the weights of trains. A weight without a name is for all.
-fn check_weights(faults: &mut Faults, subject: &Subject, weights: &Table, trains: &[&str]) {
+fn check_weights<'x>(faults: &mut Faults, at: &Entry<'x>, weights: &'x Table, trains: &[&str]) {
     for (name, value) in weights {
         if let Some(number) = value.as_integer() {
+            let at = at.of(name.as_str());
             if !name.is_empty() {
-                find(faults, subject, "weight", "train", name.as_str(), trains);
+                find(faults, &at, "train", trains);
             }
-            check_weight(faults, subject, name.as_str(), number);
+            WEIGHTS.check(faults, &at, number);
         }
     }
 }
 
 // Tells what is wrong with the weight of a section.
 fn check_section_weight(faults: &mut Faults, entry: &Entry, trains: &[&str]) {
+    let at = entry.at("weight");
     match entry.value("weight") {
-        Some(Value::Integer(number)) => check_weight(faults, &entry.subject, "", *number),
-        Some(Value::Table(weights)) => check_weights(faults, &entry.subject, weights, trains),
+        Some(Value::Integer(number)) => WEIGHTS.check(faults, &at, *number),
+        Some(Value::Table(weights)) => check_weights(faults, &at, weights, trains),
         _ => {}
-    }
-}
-
-// Tells each train of the section's list that isn't known.
-fn check_only(faults: &mut Faults, entry: &Entry, trains: &[&str]) {
-    if let Some(only) = entry.names("only") {
-        for name in only {
-            find(
-                faults,
-                &entry.subject,
-                "only",
-                "train",
-                text_of(name),
-                trains,
-            );
-        }
     }
 }
 
@@ -138,11 +95,9 @@ fn usual_weight(entry: &Entry) -> i64 {
 
 // The weight of a train: its own, or that for all.
 fn weight_of(entry: &Entry, train: &str) -> u8 {
-    let number = match entry.number_for("weight", train) {
-        Some(own) => own,
-        None => usual_weight(entry),
-    };
-    weight_in(number).unwrap_or(0)
+    let own = entry.number_for("weight", train);
+    let number = own.unwrap_or(usual_weight(entry));
+    u8::try_from(WEIGHTS.number(number).unwrap_or(0)).unwrap_or(0)
 }
 
 // Whether a train of the section comes to a place.
@@ -157,108 +112,78 @@ fn has_comer(entry: &Entry, name: &str, scope: &Scope) -> bool {
 }
 
 // Tells an end of a stretch to which no train of the section comes.
-fn check_end(faults: &mut Faults, entry: &Entry, key: &str, name: &str, scope: &Scope) {
-    let point = find(
-        faults,
-        &entry.subject,
-        key,
-        "point",
-        point_of(name),
-        scope.points,
-    );
-    if point.is_some() && !has_comer(entry, name, scope) {
-        let parts = [
-            Part::Words("no train of this section comes to "),
-            Part::Name(name),
-        ];
-        faults.tell(&entry.subject, key, name, &parts);
+fn check_end(faults: &mut Faults, entry: &Entry, at: &Entry, scope: &Scope) {
+    let point = find(faults, &at.of(point_of(at.name)), "point", scope.points);
+    if point.is_some() && !has_comer(entry, at.name, scope) {
+        let form = "no train of this section comes to {}";
+        faults.tell(at, form, &[Part::Name(at.name)]);
     }
 }
 
 // Tells an end of one train's stretch to which it doesn't come. On its route of a further table it need not.
-fn check_own_end(
+fn check_own_end<'x>(
     faults: &mut Faults,
-    subject: &Subject,
-    key: &str,
-    train: &str,
-    place: &str,
+    at: &Entry<'x>,
+    train: &'x str,
+    place: &'x str,
     scope: &Scope,
 ) {
-    let Some(train) = find(faults, subject, key, "train", train, scope.trains) else {
-        return;
-    };
     let is_due = scope.table == 0 || !is_known(scope.points, point_of(place));
-    if is_due && matches!(find_place(scope.route(train), place), Spot::Nowhere) {
-        tell_nowhere(faults, subject, key, place, scope, train);
+    if let Some(train) = find(faults, &at.of(train), "train", scope.trains)
+        && is_due
+    {
+        check_comes(faults, &at.of(place), scope, train);
     }
 }
 
 // Tells what is wrong with the ends of trains' stretches.
-fn check_own_ends(faults: &mut Faults, subject: &Subject, key: &str, ends: &Table, scope: &Scope) {
+fn check_own_ends<'x>(faults: &mut Faults, at: &Entry<'x>, ends: &'x Table, scope: &Scope) {
     for (train, value) in ends {
         if let Some(place) = value.as_str() {
-            check_own_end(faults, subject, key, train.as_str(), place, scope);
+            check_own_end(faults, at, train.as_str(), place, scope);
         }
     }
 }
 
 // Tells what is wrong with an end of the stretches of a section.
-fn check_ends(faults: &mut Faults, entry: &Entry, key: &str, scope: &Scope) {
+fn check_ends(faults: &mut Faults, entry: &Entry, key: &'static str, scope: &Scope) {
+    let at = entry.at(key);
     match entry.value(key) {
-        Some(Value::String(name)) => check_end(faults, entry, key, name.as_str(), scope),
-        Some(Value::Table(ends)) => check_own_ends(faults, &entry.subject, key, ends, scope),
+        Some(Value::String(name)) => check_end(faults, entry, &at.of(name.as_str()), scope),
+        Some(Value::Table(ends)) => check_own_ends(faults, &at, ends, scope),
         _ => {}
     }
 }
 
-// Where an end of a stretch is on a train's route, if it is there; one that isn't a single place is reported.
+// Where an end of a stretch is on a train's route, if one is given for the train and is there.
 fn end_of(
     faults: &mut Faults,
     entry: &Entry,
-    key: &str,
-    name: &str,
+    key: &'static str,
     scope: &Scope,
     train: usize,
 ) -> Option<usize> {
-    match find_place(scope.route(train), name) {
-        Spot::At(place) => Some(place),
-        Spot::Nowhere => None,
-        Spot::Several => {
-            tell_several(faults, &entry.subject, key, name, scope, train);
-            None
-        }
-    }
+    let place = entry.place_for(key, scope.train(train))?;
+    place_if_there(faults, &entry.at(key).of(place), scope, train)
 }
 
-// What a train that a section concerns holds of it. Its stretch goes from its place at `from` until before its place at
+// What a train holds of a section. Its stretch goes from its place at `from` until before its place at
 // `to`: without a `from` it begins with the route, and without a `to`, or where the train doesn't come to it, it ends with
-// the route. A train that doesn't come to `from` holds nothing.
-fn concerned_holding(faults: &mut Faults, entry: &Entry, scope: &Scope, train: usize) -> Holding {
-    let name = scope.train(train);
-    let from = match entry.place_for("from", name) {
-        Some(place) => end_of(faults, entry, "from", place, scope, train),
-        None => Some(0),
-    };
-    let until = match entry.place_for("to", name) {
-        Some(place) => end_of(faults, entry, "to", place, scope, train),
-        None => None,
-    };
-    match from {
-        Some(from) => Holding {
-            weight: weight_of(entry, name),
-            from,
-            until: until.unwrap_or(scope.route(train).len()),
-        },
-        None => NOTHING,
-    }
-}
-
-// What a train holds of a section.
+// the route. A train that the section doesn't concern, or that doesn't come to `from`, holds nothing.
 fn holding(faults: &mut Faults, entry: &Entry, scope: &Scope, train: usize) -> Holding {
-    if is_concerned(entry, scope.train(train)) {
-        concerned_holding(faults, entry, scope, train)
-    } else {
-        NOTHING
+    let name = scope.train(train);
+    if !is_concerned(entry, name) {
+        return NOTHING;
+    }
+    let from = end_of(faults, entry, "from", scope, train);
+    let until = end_of(faults, entry, "to", scope, train);
+    if from.is_none() && entry.place_for("from", name).is_some() {
+        return NOTHING;
+    }
+    Holding {
+        weight: weight_of(entry, name),
+        from: from.unwrap_or(0),
+        until: until.unwrap_or(scope.route(train).len()),
     }
 }
 
@@ -272,20 +197,22 @@ fn most_share(section: &SectionPlan, route: &[String], train: usize) -> u8 {
     most
 }
 
+// Tells that a train alone takes more of a section than its limit.
+fn tell_alone(faults: &mut Faults, at: &Entry, train: &str, share: u32, limit: u32) {
+    let parts = [
+        Part::Name(train),
+        Part::Number(i64::from(share)),
+        Part::Number(i64::from(limit)),
+    ];
+    faults.tell(at, "train {} alone takes {} of {}", &parts);
+}
+
 // Tells each train that alone takes more of a section than its limit.
-fn check_alone(faults: &mut Faults, subject: &Subject, section: &SectionPlan, scope: &Scope) {
+fn check_alone(faults: &mut Faults, at: &Entry, section: &SectionPlan, scope: &Scope) {
     for train in 0..scope.trains.len() {
         let share = u32::from(most_share(section, scope.route(train), train));
         if section.limit < share {
-            let parts = [
-                Part::Words("train "),
-                Part::Name(scope.train(train)),
-                Part::Words(" alone takes "),
-                Part::Number(i64::from(share)),
-                Part::Words(" of "),
-                Part::Number(i64::from(section.limit)),
-            ];
-            faults.tell(subject, "limit", "", &parts);
+            tell_alone(faults, at, scope.train(train), share, section.limit);
         }
     }
 }
@@ -299,15 +226,18 @@ fn fill(
     section: &mut SectionPlan,
 ) -> Result<(), AllocError> {
     check_section_weight(faults, entry, scope.trains);
-    check_only(faults, entry, scope.trains);
+    let only = entry.names("only").unwrap_or(&[]);
+    check_names(faults, &entry.at("only"), only, "train", scope.trains);
     check_ends(faults, entry, "from", scope);
     check_ends(faults, entry, "to", scope);
-    section.limit = limit_of(faults, entry);
+    section.limit = LIMITS
+        .number_at(faults, entry, "limit")
+        .unwrap_or(LIMITS.most);
     add_points(alloc, faults, entry, scope, section)?;
     for train in 0..scope.trains.len() {
         section.holdings.push(holding(faults, entry, scope, train))?;
     }
-    check_alone(faults, &entry.subject, section, scope);
+    check_alone(faults, &entry.at("limit"), section, scope);
     Ok(())
 }
 
@@ -340,8 +270,8 @@ pub(crate) fn add_sections(
         sections.push(section(alloc, faults, &entries.entry(index), scope)?)?;
     }
     if MOST_SECTIONS < count {
-        let words = "this is one section too many: 64 are the most of a table";
-        tell_words(faults, &entries.entry(MOST_SECTIONS).subject, "", words);
+        let form = "this is one section too many: 64 are the most of a table";
+        faults.tell(&entries.entry(MOST_SECTIONS), form, &[]);
     }
     Ok(())
 }
@@ -387,22 +317,13 @@ fn push_taken(
 }
 
 // Tells that a section is over its limit where the trains start.
-fn tell_taken(
-    faults: &mut Faults,
-    subject: &Subject,
-    section: &SectionPlan,
-    taken: u32,
-    shares: &str,
-) {
+fn tell_taken(faults: &mut Faults, at: &Entry, taken: u32, limit: u32, shares: &str) {
     let parts = [
-        Part::Words("at the start "),
         Part::Number(i64::from(taken)),
-        Part::Words(" of "),
-        Part::Number(i64::from(section.limit)),
-        Part::Words(" are taken"),
+        Part::Number(i64::from(limit)),
         Part::Words(shares),
     ];
-    faults.tell(subject, "limit", "", &parts);
+    faults.tell(at, "at the start {} of {} are taken{}", &parts);
 }
 
 /// Tells each section that is over its limit where the trains start.
@@ -419,8 +340,8 @@ pub(crate) fn check_taken(
         if section.limit < taken {
             let mut shares = String::new(alloc);
             push_taken(&mut shares, section, scope, starts)?;
-            let subject = entries.entry(index).subject;
-            tell_taken(faults, &subject, section, taken, shares.as_str());
+            let at = entries.entry(index).at("limit");
+            tell_taken(faults, &at, taken, section.limit, shares.as_str());
         }
     }
     Ok(())

@@ -1,59 +1,46 @@
 // The tables of a plan, and the plan as a whole.
 use crate::connections::add_waits;
 use crate::ground::{Ground, greatest};
-use crate::names::{tell_number, tell_words};
+use crate::ranges::Range;
 use crate::routes::Scope;
 use crate::sections::{add_sections, check_taken};
-use crate::trains::{Roster, add_trains, check_ends, check_starts, starts};
+use crate::trains::{Roster, add_trains, check_ends, check_starts, push_name, starts};
 use plan_document::{Plan, TablePlan};
-use plan_entries::{Entries, Entry, Faults, Kind, list_of};
+use plan_entries::{Entries, Entry, Faults, Kind};
 use std::alloc::{AllocError, Global};
-use toml::{Table, Value};
+use toml::Value;
 
 const MOST_TABLES: usize = 16;
 
-const MOST_AFTER: u32 = 1_000_000;
+const AFTER: Range = Range {
+    least: 0,
+    most: 1_000_000,
+    form: "a table is due after 0 to 1000000 moves, and this is {}",
+};
 
-// A further table: its entry, and its number, counted from 0.
+// A table: the plan as a whole, and what the table says itself. The first says nothing itself.
 #[derive(Clone, Copy)]
-struct Own<'t> {
-    entry: Entry<'t>,
-    index: usize,
+struct Layer<'t> {
+    top: Entry<'t>,
+    own: Entry<'t>,
+    // Counted from 0.
+    number: usize,
 }
 
-// The entries of a kind that hold in a table: its own, or those of the first.
-fn entries_in<'t>(top: &'t Table, own: Option<Own<'t>>, kind: Kind) -> Entries<'t> {
-    if let Some(own) = own
-        && let Some(keys) = own.entry.keys
-        && let Some(Value::Array(_)) = keys.get(kind.word())
-    {
-        return list_of(keys, Some(own.index), kind);
+impl<'t> Layer<'t> {
+    // The entries of a kind that hold in the table: its own, or those of the first.
+    fn entries(&self, kind: Kind) -> Entries<'t> {
+        match self.own.value(kind.word()) {
+            Some(Value::Array(_)) => self.own.list(kind),
+            _ => self.top.list(kind),
+        }
     }
-    list_of(top, None, kind)
-}
 
-// The trains of a table.
-fn roster_of<'t>(top: &'t Table, own: Option<Own<'t>>) -> Roster<'t> {
-    match own {
-        Some(own) => Roster::new(top, own.entry.keys, Some(own.index)),
-        None => Roster::new(top, None, None),
-    }
-}
-
-// After how many moves a table is due; a number that is out of range is reported.
-fn after_of(faults: &mut Faults, own: Option<Own>) -> u32 {
-    let Some(own) = own else {
-        return 0;
-    };
-    let Some(number) = own.entry.number("after") else {
-        return 0;
-    };
-    match u32::try_from(number) {
-        Ok(after) if after <= MOST_AFTER => after,
-        _ => {
-            let words = "a table is due after 0 to 1000000 moves, and this is ";
-            tell_number(faults, &own.entry.subject, "after", "", words, number);
-            0
+    // The trains of the table.
+    fn roster(&self) -> Roster<'t> {
+        Roster {
+            firsts: self.top.list(Kind::Train),
+            changes: self.own.list(Kind::Train),
         }
     }
 }
@@ -62,29 +49,25 @@ fn after_of(faults: &mut Faults, own: Option<Own>) -> u32 {
 fn fill_table(
     alloc: Global,
     faults: &mut Faults,
-    top: &Table,
-    own: Option<Own>,
+    layer: &Layer,
     ground: &Ground,
     plan: &mut TablePlan,
 ) -> Result<(), AllocError> {
-    let roster = roster_of(top, own);
+    let roster = layer.roster();
     add_trains(alloc, faults, &roster, ground, plan)?;
     let scope = Scope {
         points: &ground.points,
         trains: &ground.trains,
         routes: &plan.routes,
         exits: &plan.exits,
-        table: match own {
-            Some(own) => own.index.saturating_add(1),
-            None => 0,
-        },
+        table: layer.number,
     };
     check_ends(faults, &roster, &scope);
-    let sections = entries_in(top, own, Kind::Section);
+    let sections = layer.entries(Kind::Section);
     add_sections(alloc, faults, &sections, &scope, &mut plan.sections)?;
-    let waits = entries_in(top, own, Kind::Connection);
+    let waits = layer.entries(Kind::Connection);
     add_waits(faults, &waits, &scope, &mut plan.waits)?;
-    plan.after = after_of(faults, own);
+    plan.after = AFTER.number_at(faults, &layer.own, "after").unwrap_or(0);
     Ok(())
 }
 
@@ -92,8 +75,7 @@ fn fill_table(
 fn table_plan(
     alloc: Global,
     faults: &mut Faults,
-    top: &Table,
-    own: Option<Own>,
+    layer: &Layer,
     ground: &Ground,
 ) -> Result<TablePlan, AllocError> {
     let mut plan = TablePlan {
@@ -104,7 +86,7 @@ fn table_plan(
         waits: Vec::new(alloc),
         after: 0,
     };
-    fill_table(alloc, faults, top, own, ground, &mut plan)?;
+    fill_table(alloc, faults, layer, ground, &mut plan)?;
     Ok(plan)
 }
 
@@ -112,23 +94,24 @@ fn table_plan(
 fn add_tables(
     alloc: Global,
     faults: &mut Faults,
-    top: &Table,
+    top: &Entry,
     ground: &Ground,
     plan: &mut Plan,
 ) -> Result<(), AllocError> {
-    let tables = list_of(top, None, Kind::Table);
+    let tables = top.list(Kind::Table);
     let count = tables.values.len();
     for index in 0..count.min(MOST_TABLES - 1) {
-        let own = Own {
-            entry: tables.entry(index),
-            index,
+        let layer = Layer {
+            top: *top,
+            own: tables.entry(index),
+            number: index.saturating_add(1),
         };
         plan.tables
-            .push(table_plan(alloc, faults, top, Some(own), ground)?)?;
+            .push(table_plan(alloc, faults, &layer, ground)?)?;
     }
     if MOST_TABLES <= count {
-        let words = "this is one table too many: 16 are the most, with the first";
-        tell_words(faults, &tables.entry(MOST_TABLES - 1).subject, "", words);
+        let form = "this is one table too many: 16 are the most, with the first";
+        faults.tell(&tables.entry(MOST_TABLES - 1), form, &[]);
     }
     Ok(())
 }
@@ -137,7 +120,7 @@ fn add_tables(
 fn add_starts(
     alloc: Global,
     faults: &mut Faults,
-    top: &Table,
+    top: &Entry,
     ground: &Ground,
     first: &TablePlan,
     places: &mut Vec<u32>,
@@ -149,10 +132,10 @@ fn add_starts(
         exits: &first.exits,
         table: 0,
     };
-    let trains = list_of(top, None, Kind::Train);
+    let trains = top.list(Kind::Train);
     let starts = starts(alloc, faults, &trains, &scope)?;
     check_starts(faults, &trains, &scope, &starts);
-    let sections = list_of(top, None, Kind::Section);
+    let sections = top.list(Kind::Section);
     check_taken(alloc, faults, &sections, &first.sections, &scope, &starts)?;
     for start in &starts {
         places.push(u32::try_from(start.unwrap_or(0)).unwrap_or(0))?;
@@ -163,7 +146,7 @@ fn add_starts(
 // Adds what is named.
 fn add_names(alloc: Global, ground: &Ground, plan: &mut Plan) -> Result<(), AllocError> {
     for train in &ground.trains {
-        plan.trains.push(String::from_str(alloc, train)?)?;
+        push_name(&mut plan.trains, alloc, train)?;
     }
     for (index, point) in ground.points.iter().enumerate() {
         let zone = ground.zones.get(index).copied().flatten().unwrap_or(0);
@@ -186,11 +169,16 @@ fn add_links(alloc: Global, ground: &Ground, plan: &mut Plan) -> Result<(), Allo
 fn fill(
     alloc: Global,
     faults: &mut Faults,
-    top: &Table,
+    top: &Entry,
     ground: &Ground,
     plan: &mut Plan,
 ) -> Result<(), AllocError> {
-    let first = table_plan(alloc, faults, top, None, ground)?;
+    let layer = Layer {
+        top: *top,
+        own: Entry::part(Kind::Top, None),
+        number: 0,
+    };
+    let first = table_plan(alloc, faults, &layer, ground)?;
     add_starts(alloc, faults, top, ground, &first, &mut plan.start)?;
     plan.tables.push(first)?;
     add_tables(alloc, faults, top, ground, plan)?;
@@ -202,17 +190,17 @@ fn fill(
 fn ground_of<'t>(
     alloc: Global,
     faults: &mut Faults,
-    top: &'t Table,
+    top: &Entry<'t>,
 ) -> Result<Ground<'t>, AllocError> {
     let mut ground = Ground::new(alloc);
-    ground.add_trains(faults, &list_of(top, None, Kind::Train))?;
+    ground.add_trains(faults, &top.list(Kind::Train))?;
     ground.add_points(faults, top)?;
     ground.add_zones(faults, top)?;
     Ok(ground)
 }
 
 /// The plan that a table of keys makes; what is wrong with it is reported.
-pub(crate) fn plan_of(alloc: Global, faults: &mut Faults, top: &Table) -> Result<Plan, AllocError> {
+pub(crate) fn plan_of(alloc: Global, faults: &mut Faults, top: &Entry) -> Result<Plan, AllocError> {
     let ground = ground_of(alloc, faults, top)?;
     let mut plan = Plan {
         points: Vec::new(alloc),

@@ -1,6 +1,7 @@
 // Travel times, by the links of a route.
-use crate::names::{find, tell_number, tell_of};
-use plan_entries::{Entry, Faults, Subject};
+use crate::names::{find, text_of};
+use crate::ranges::Range;
+use plan_entries::{Entry, Faults, Part};
 use rail_model::TrainTimes;
 use std::alloc::{AllocError, Global};
 use toml::{Table, Value};
@@ -8,29 +9,24 @@ use toml::{Table, Value};
 // The time of a step that has none of its own.
 const USUAL: u32 = 1;
 
-// A time in ticks, if it is one.
-fn time_of(number: i64) -> Option<u32> {
-    match u32::try_from(number) {
-        Ok(time) if 1 <= time && time <= 1000 => Some(time),
-        _ => None,
-    }
-}
+const TIMES: Range = Range {
+    least: 1,
+    most: 1000,
+    form: "a time is 1 to 1000, and this is {}",
+};
 
-// Tells a time that is out of range.
-fn check_time(faults: &mut Faults, subject: &Subject, name: &str, number: i64) {
-    if time_of(number).is_none() {
-        let words = "a time is 1 to 1000, and this is ";
-        tell_number(faults, subject, "times", name, words, number);
+// Whether these are the two points of a step.
+fn is_step(pair: &[Value], one: &str, other: &str) -> bool {
+    match pair {
+        [from, to] => text_of(from) == one && text_of(to) == other,
+        _ => false,
     }
 }
 
 // Whether a route goes from one point to another in one step.
-fn has_step(route: &[String], one: &str, other: &str) -> bool {
+fn has_step(route: &[Value], one: &str, other: &str) -> bool {
     for pair in route.windows(2) {
-        if let [a, b] = pair
-            && a.as_str() == one
-            && b.as_str() == other
-        {
+        if is_step(pair, one, other) {
             return true;
         }
     }
@@ -38,22 +34,16 @@ fn has_step(route: &[String], one: &str, other: &str) -> bool {
 }
 
 // Tells the name of a link that a train's route doesn't have.
-fn check_link(
-    faults: &mut Faults,
-    subject: &Subject,
-    name: &str,
-    points: &[&str],
-    route: &[String],
-) {
-    let Some((one, other)) = name.split_once(" ") else {
-        let words = " is no link: two points with a space between them";
-        return tell_of(faults, subject, "times", name, words);
+fn check_link(faults: &mut Faults, at: &Entry, points: &[&str], route: &[Value]) {
+    let Some((one, other)) = at.name.split_once(" ") else {
+        let form = "{} is no link: two points with a space between them";
+        return faults.tell(at, form, &[Part::Name(at.name)]);
     };
-    if find(faults, subject, "times", "point", one, points).is_some()
-        && find(faults, subject, "times", "point", other, points).is_some()
+    if find(faults, &at.of(one), "point", points).is_some()
+        && find(faults, &at.of(other), "point", points).is_some()
         && !has_step(route, one, other)
     {
-        tell_of(faults, subject, "times", name, " is no step of the route");
+        faults.tell(at, "{} is no step of the route", &[Part::Name(at.name)]);
     }
 }
 
@@ -66,43 +56,50 @@ fn usual_in(times: &Value) -> Option<i64> {
 }
 
 // Tells what is wrong with a table of times.
-fn check_table(
+fn check_table<'x>(
     faults: &mut Faults,
-    subject: &Subject,
-    times: &Table,
+    at: &Entry<'x>,
+    times: &'x Table,
     points: &[&str],
-    route: &[String],
+    route: &[Value],
 ) {
     for (link, value) in times {
         if let Some(number) = value.as_integer()
             && link.as_str() != "default"
         {
-            check_link(faults, subject, link.as_str(), points, route);
-            check_time(faults, subject, link.as_str(), number);
+            let at = at.of(link.as_str());
+            check_link(faults, &at, points, route);
+            TIMES.check(faults, &at, number);
         }
     }
 }
 
 /// Tells what is wrong with the times of a train.
-pub(crate) fn check_times(faults: &mut Faults, entry: &Entry, points: &[&str], route: &[String]) {
+pub(crate) fn check_times(faults: &mut Faults, entry: &Entry, points: &[&str], route: &[Value]) {
     let Some(times) = entry.value("times") else {
         return;
     };
+    let at = entry.at("times");
     if let Some(number) = usual_in(times) {
-        check_time(faults, &entry.subject, "", number);
+        TIMES.check(faults, &at, number);
     }
     if let Value::Table(table) = times {
-        check_table(faults, &entry.subject, table, points, route);
+        check_table(faults, &at, table, points, route);
+    }
+}
+
+// Whether a link is named by these two points.
+fn is_link(name: &str, one: &str, other: &str) -> bool {
+    match name.split_once(" ") {
+        Some((from, to)) => from == one && to == other,
+        None => false,
     }
 }
 
 // The time of a step that has one of its own.
 fn own_time(times: &Table, one: &str, other: &str) -> Option<i64> {
     for (link, value) in times {
-        if let Some((from, to)) = link.as_str().split_once(" ")
-            && from == one
-            && to == other
-        {
+        if is_link(link.as_str(), one, other) {
             return value.as_integer();
         }
     }
@@ -111,8 +108,12 @@ fn own_time(times: &Table, one: &str, other: &str) -> Option<i64> {
 
 // The time of the step out of the layout, and of each step that has none of its own.
 fn usual_time(times: Option<&Value>) -> u32 {
-    match times {
-        Some(times) => usual_in(times).and_then(time_of).unwrap_or(USUAL),
+    let number = match times {
+        Some(times) => usual_in(times),
+        None => None,
+    };
+    match number {
+        Some(number) => TIMES.number(number).unwrap_or(USUAL),
         None => USUAL,
     }
 }
@@ -122,7 +123,7 @@ fn step_time(times: Option<&Value>, one: &str, other: &str) -> u32 {
     if let Some(Value::Table(own)) = times
         && let Some(number) = own_time(own, one, other)
     {
-        return time_of(number).unwrap_or(USUAL);
+        return TIMES.number(number).unwrap_or(USUAL);
     }
     usual_time(times)
 }
@@ -131,13 +132,13 @@ fn step_time(times: Option<&Value>, one: &str, other: &str) -> u32 {
 pub(crate) fn times_of(
     alloc: Global,
     times: Option<&Value>,
-    route: &[String],
+    route: &[Value],
     exits: bool,
 ) -> Result<TrainTimes, AllocError> {
     let mut found = Vec::new(alloc);
     for pair in route.windows(2) {
         if let [one, other] = pair {
-            found.push(step_time(times, one.as_str(), other.as_str()))?;
+            found.push(step_time(times, text_of(one), text_of(other)))?;
         }
     }
     if exits {

@@ -1,12 +1,12 @@
 // The trains of a plan under each of its tables.
-use crate::ground::{Ground, MOST_TRAINS};
-use crate::names::{find, tell_of, tell_words, text_of};
+use crate::ground::Ground;
+use crate::names::{find, text_of};
 use crate::routes::{Scope, place_of};
 use crate::times::{check_times, times_of};
 use plan_document::TablePlan;
-use plan_entries::{Entries, Entry, Faults, Kind, Part, Subject, list_of};
+use plan_entries::{Entries, Entry, Faults, Part};
 use std::alloc::{AllocError, Global};
-use toml::{Table, Value};
+use toml::Value;
 
 const MOST_PLACES: usize = 128;
 
@@ -14,106 +14,88 @@ const MOST_PLACES: usize = 128;
 #[derive(Clone, Copy)]
 pub(crate) struct Roster<'t> {
     pub firsts: Entries<'t>,
-    pub changes: Option<Entries<'t>>,
+    pub changes: Entries<'t>,
 }
 
-/// A train under a table: as the first table has it, and what this one changes.
+/// A train under a table: as the first table has it, and what this one changes: no keys, if it changes nothing.
 #[derive(Clone, Copy)]
 struct Service<'t> {
     first: Entry<'t>,
-    change: Option<Entry<'t>>,
+    change: Entry<'t>,
 }
 
 impl<'t> Service<'t> {
     // The names of the route; none if it isn't known.
     fn route(&self) -> &'t [Value] {
-        if let Some(change) = self.change
-            && let Some(route) = change.names("route")
-        {
-            return route;
-        }
-        self.first.names("route").unwrap_or(&[])
+        let own = self.change.names("route");
+        own.or(self.first.names("route")).unwrap_or(&[])
     }
 
     // Whether the train exits behind its route.
     fn exits(&self) -> bool {
-        if let Some(change) = self.change
-            && let Some(exits) = change.flag("exit")
-        {
-            return exits;
-        }
-        self.first.flag("exit").unwrap_or(false)
+        let own = self.change.flag("exit");
+        own.or(self.first.flag("exit")).unwrap_or(false)
     }
 
     // The times of the train.
     fn times(&self) -> Option<&'t Value> {
-        if let Some(change) = self.change
-            && let Some(times) = change.value("times")
-        {
-            return Some(times);
-        }
-        self.first.value("times")
+        let own = self.change.value("times");
+        own.or(self.first.value("times"))
+    }
+
+    // Whether this table says anything of the train.
+    fn is_changed(&self) -> bool {
+        self.change.keys.is_some()
     }
 
     // The entry that faults of the train under this table are about.
     fn entry(&self) -> Entry<'t> {
-        match self.change {
-            Some(change) => change,
-            None => self.first,
+        if self.is_changed() {
+            self.change
+        } else {
+            self.first
         }
     }
 }
 
-// The first of these changes that is one of this train.
-fn change_of<'t>(changes: &Entries<'t>, name: &str) -> Option<usize> {
-    for index in 0..changes.values.len() {
+// The number of the first of these changes that is one of this train; one behind the last, if none is.
+fn change_of(changes: &Entries, name: &str) -> usize {
+    let count = changes.values.len();
+    for index in 0..count {
         if changes.entry(index).text("name") == Some(name) {
-            return Some(index);
+            return index;
         }
     }
-    None
+    count
 }
 
 impl<'t> Roster<'t> {
-    /// The trains under the first table, or under a further one, which has these keys.
-    pub fn new(top: &'t Table, own: Option<&'t Table>, table: Option<usize>) -> Roster<'t> {
-        Roster {
-            firsts: list_of(top, None, Kind::Train),
-            changes: match own {
-                Some(own) => Some(list_of(own, table, Kind::Train)),
-                None => None,
-            },
-        }
-    }
-
-    // What this table changes of a train.
-    fn change(&self, first: &Entry) -> Option<Entry<'t>> {
-        let changes = self.changes?;
-        let index = change_of(&changes, first.text("name")?)?;
-        Some(changes.entry(index))
-    }
-
     // A train under this table.
     fn service(&self, train: usize) -> Service<'t> {
         let first = self.firsts.entry(train);
+        let change = match first.text("name") {
+            Some(name) => change_of(&self.changes, name),
+            None => self.changes.values.len(),
+        };
         Service {
             first,
-            change: self.change(&first),
+            change: self.changes.entry(change),
         }
     }
 
     /// Tells changes of trains that aren't there, or that are changed already.
     pub fn check_changes(&self, faults: &mut Faults, trains: &[&str]) {
-        let Some(changes) = self.changes else {
-            return;
-        };
-        for index in 0..changes.values.len() {
-            let change = changes.entry(index);
+        for index in 0..self.changes.values.len() {
+            let change = self.changes.entry(index);
             if let Some(name) = change.text("name") {
-                find(faults, &change.subject, "name", "train", name, trains);
-                if change_of(&changes, name) != Some(index) {
-                    let words = " is changed twice by this table";
-                    tell_of(faults, &change.subject, "name", name, words);
+                let at = change.at("name").of(name);
+                find(faults, &at, "train", trains);
+                if change_of(&self.changes, name) < index {
+                    faults.tell(
+                        &at,
+                        "{} is changed twice by this table",
+                        &[Part::Name(name)],
+                    );
                 }
             }
         }
@@ -123,23 +105,25 @@ impl<'t> Roster<'t> {
 // Tells a route that is empty or too long.
 fn check_route(faults: &mut Faults, service: &Service) {
     let length = service.route().len();
-    let known = service.entry().subject;
+    let at = service.entry().at("route");
     if length == 0 && service.first.names("route").is_some() {
-        return tell_words(faults, &known, "route", "the route is empty");
+        faults.tell(&at, "the route is empty", &[]);
     }
-    let places = if service.exits() {
-        length.saturating_add(1)
-    } else {
-        length
-    };
+    let places = length.saturating_add(usize::from(service.exits()));
     if MOST_PLACES < places {
-        let parts = [
-            Part::Words("the route has "),
-            Part::Count(places),
-            Part::Words(" places, with that behind an exit: 128 are the most"),
-        ];
-        faults.tell(&known, "route", "", &parts);
+        let form = "the route has {} places, with that behind an exit: 128 are the most";
+        faults.tell(&at, form, &[Part::Count(places)]);
     }
+}
+
+/// Adds a name.
+pub(crate) fn push_name(
+    names: &mut Vec<String>,
+    alloc: Global,
+    name: &str,
+) -> Result<(), AllocError> {
+    names.push(String::from_str(alloc, name)?)?;
+    Ok(())
 }
 
 /// Adds names.
@@ -149,7 +133,7 @@ pub(crate) fn push_names(
     values: &[Value],
 ) -> Result<(), AllocError> {
     for value in values {
-        names.push(String::from_str(alloc, text_of(value))?)?;
+        push_name(names, alloc, text_of(value))?;
     }
     Ok(())
 }
@@ -170,12 +154,12 @@ fn add_train(
     plan: &mut TablePlan,
 ) -> Result<(), AllocError> {
     check_route(faults, service);
+    let route = service.route();
     let exits = service.exits();
-    let route = copied(alloc, service.route())?;
-    check_times(faults, &service.entry(), points, &route);
+    check_times(faults, &service.entry(), points, route);
     plan.times
-        .push(times_of(alloc, service.times(), &route, exits)?)?;
-    plan.routes.push(route)?;
+        .push(times_of(alloc, service.times(), route, exits)?)?;
+    plan.routes.push(copied(alloc, route)?)?;
     plan.exits.push(exits)?;
     Ok(())
 }
@@ -198,7 +182,7 @@ pub(crate) fn add_trains(
 // The place at which a train starts, if it is right.
 fn start_of(faults: &mut Faults, entry: &Entry, scope: &Scope, train: usize) -> Option<usize> {
     match entry.text("start") {
-        Some(name) => place_of(faults, &entry.subject, "start", name, scope, train),
+        Some(name) => place_of(faults, &entry.at("start").of(name), scope, train),
         None => Some(0),
     }
 }
@@ -226,25 +210,6 @@ fn point_at<'a>(scope: &Scope<'a>, train: usize, starts: &[Option<usize>]) -> Op
     }
 }
 
-// Tells that a train is at the same point as another.
-fn tell_same<'x>(
-    faults: &mut Faults,
-    subject: &Subject,
-    key: &str,
-    verb: &'x str,
-    point: &'x str,
-    other: &'x str,
-) {
-    let parts = [
-        Part::Words(verb),
-        Part::Name(point),
-        Part::Words(", as train "),
-        Part::Name(other),
-        Part::Words(" does"),
-    ];
-    faults.tell(subject, key, "", &parts);
-}
-
 // Tells each earlier train at whose start another starts too.
 fn check_start(
     faults: &mut Faults,
@@ -262,10 +227,21 @@ fn check_start(
     };
     for earlier in 0..later {
         if point_at(scope, earlier, starts) == Some(here) {
-            let other = scope.train(earlier);
-            tell_same(faults, &entry.subject, key, "starts at ", here, other);
+            let form = "starts at {}, as train {} does";
+            tell_same(faults, &entry.at(key), form, here, scope.train(earlier));
         }
     }
+}
+
+// Tells that a train is at the same point as another.
+fn tell_same<'x>(
+    faults: &mut Faults,
+    at: &Entry,
+    form: &'static str,
+    point: &'x str,
+    other: &'x str,
+) {
+    faults.tell(at, form, &[Part::Name(point), Part::Name(other)]);
 }
 
 /// Tells each train that starts at the point of an earlier one.
@@ -297,14 +273,14 @@ fn check_end(faults: &mut Faults, roster: &Roster, later: usize, scope: &Scope) 
         return;
     };
     let service = roster.service(later);
-    let subject = service.entry().subject;
-    let is_new = scope.table == 0 || service.change.is_some();
+    let at = service.entry().at("route");
+    let is_new = scope.table == 0 || service.is_changed();
     for earlier in 0..later {
         if end_of(scope, earlier) == Some(here)
-            && (is_new || roster.service(earlier).change.is_some())
+            && (is_new || roster.service(earlier).is_changed())
         {
-            let verb = "without an exit it ends at ";
-            tell_same(faults, &subject, "route", verb, here, scope.train(earlier));
+            let form = "without an exit it ends at {}, as train {} does";
+            tell_same(faults, &at, form, here, scope.train(earlier));
         }
     }
 }
