@@ -18,19 +18,33 @@ fn words_of(line: &str) -> &str
     }
 }
 
+// Adds what a line that names no state means; says whether it is a line of `ats`.
+fn write_words(
+    out: &mut String,
+    bytes: &[u8],
+    words: &str,
+    line: &str,
+) -> Result<bool, AllocError> {
+    let is_known = write_meaning(out, bytes, words)?;
+    if !is_known {
+        write!(
+            out,
+            "This is no line of ats: {line:?}. A line of ats is like 206 Stuck table=0 at=1,1.\n"
+        )?;
+    }
+    Ok(is_known)
+}
+
 // What a line that names no state is explained with.
 fn meaning_of(alloc: Global, bytes: &[u8], words: &str, line: &str) -> Result<Explained, AllocError>
     ensures { IfOk result (ExplainsLine bytes.now line.now) }
 {
     let mut text = String::new(alloc);
-    if write_meaning(&mut text, bytes, words)? {
-        return Ok(Explained::Refusal(text));
+    if write_words(&mut text, bytes, words, line)? {
+        Ok(Explained::Refusal(text))
+    } else {
+        Ok(Explained::NoLine(text))
     }
-    write!(
-        text,
-        "This is no line of ats: {line:?}. A line of ats is like 206 Stuck table=0 at=1,1.\n"
-    )?;
-    Ok(Explained::NoLine(text))
 }
 
 /// What a line of `ats` says of a document. The line may begin with `ats: ` or with its number. One that names a state

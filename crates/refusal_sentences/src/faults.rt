@@ -1,8 +1,8 @@
 // Why there is no such state.
 
-use crate::fields::write_train;
+use crate::fields::{write_train, write_trains};
 use crate::meanings::write_meaning;
-use crate::names::{Names, members_of, names_of, rows_of};
+use crate::names::{Names, Rows, members_of, names_of, rows_of};
 use crate::section_points::write_section_points;
 use layout_json::DocRefused;
 use legal_state::Illegal;
@@ -17,10 +17,16 @@ pub(crate) fn no_document_text(
 ) -> Result<String, AllocError> {
     let mut words = String::new(alloc);
     push_document(&mut words, refused)?;
-    let words = words.as_str();
-    let mut text = format!(in alloc; "ats refuses the document: {words}\n")?;
-    write_meaning(&mut text, document, words)?;
+    let mut text = String::new(alloc);
+    write_no_document(&mut text, document, words.as_str())?;
     Ok(text)
+}
+
+// Adds the line of a refused document, and what it means.
+fn write_no_document(out: &mut String, document: &[u8], words: &str) -> Result<(), AllocError> {
+    write!(out, "ats refuses the document: {words}\n")?;
+    write_meaning(out, document, words)?;
+    Ok(())
 }
 
 /// That the document has only so many tables.
@@ -41,10 +47,22 @@ pub(crate) fn not_legal_text(
     cause: Illegal,
 ) -> Result<String, AllocError> {
     let members = members_of(alloc, document)?;
-    let mut text = format!(in alloc; "These places are no legal state of table {table}: ")?;
-    write_cause(&mut text, names_of(&members), table, places, cause)?;
-    text.push_str(".\n")?;
+    let mut text = String::new(alloc);
+    write_not_legal(&mut text, names_of(&members), table, places, cause)?;
     Ok(text)
+}
+
+// Adds why places are no legal state of a table.
+fn write_not_legal(
+    out: &mut String,
+    names: Names,
+    table: u32,
+    places: &[u32],
+    cause: Illegal,
+) -> Result<(), AllocError> {
+    write!(out, "These places are no legal state of table {table}: ")?;
+    write_cause(out, names, table, places, cause)?;
+    out.push_str(".\n")
 }
 
 // Adds the cause.
@@ -71,24 +89,36 @@ fn write_cause(
             second,
             point,
         } => {
-            write_train(out, trains, first)?;
-            out.push_str(" and ")?;
-            write_train(out, trains, second)?;
-            match names.point(point) {
-                Some(name) => write!(out, " are both at {name}"),
-                None => write!(out, " are both at point {point}"),
-            }
+            write_trains(out, trains, first, second)?;
+            write_meeting(out, names, point)
         }
         Illegal::Over {
             section,
             count,
             limit,
-        } => {
-            write!(out, "they take {count} of section {section}")?;
-            write_section_points(out, &rows_of(names.tables, table), section)?;
-            write!(out, ", whose limit is {limit}")
-        }
+        } => write_over(out, &rows_of(names.tables, table), section, count, limit),
     }
+}
+
+// Adds at which point two trains are.
+fn write_meeting(out: &mut String, names: Names, point: u32) -> Result<(), AllocError> {
+    match names.point(point) {
+        Some(name) => write!(out, " are both at {name}"),
+        None => write!(out, " are both at point {point}"),
+    }
+}
+
+// Adds that trains take more of a section than its limit.
+fn write_over(
+    out: &mut String,
+    rows: &Rows,
+    section: u32,
+    count: u32,
+    limit: u32,
+) -> Result<(), AllocError> {
+    write!(out, "they take {count} of section {section}")?;
+    write_section_points(out, rows, section)?;
+    write!(out, ", whose limit is {limit}")
 }
 
 // Adds that there isn't one place for each train.

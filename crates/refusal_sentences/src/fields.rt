@@ -64,12 +64,42 @@ fn write_front(out: &mut String, is_first: bool) -> Result<(), AllocError> {
     }
 }
 
-// What a number of a field is called.
-fn word_of<'a>(key: &'a str, points: bool) -> &'a str {
+// What the number of a field counts.
+#[derive(Clone, Copy)]
+enum Kind {
+    Train,
+    Point,
+    Place,
+    Section,
+    Connection,
+    Link,
+    Line,
+    Node,
+    Other,
+}
+
+// What the number of a field counts.
+fn kind_of(key: &str, points: bool) -> Kind {
     match key {
-        "first" | "second" => if points { "point" } else { "train" },
-        "by" | "other" => "train",
-        "index" => "node",
+        "train" | "by" | "other" => Kind::Train,
+        "first" | "second" => if points { Kind::Point } else { Kind::Train },
+        "point" => Kind::Point,
+        "place" => Kind::Place,
+        "section" => Kind::Section,
+        "connection" => Kind::Connection,
+        "link" => Kind::Link,
+        "line" => Kind::Line,
+        "index" => Kind::Node,
+        _ => Kind::Other,
+    }
+}
+
+// What a number of a field is called.
+fn word_of<'a>(key: &'a str, kind: Kind) -> &'a str {
+    match kind {
+        Kind::Train => "train",
+        Kind::Point => "point",
+        Kind::Node => "node",
         _ => key,
     }
 }
@@ -81,9 +111,9 @@ fn write_field(out: &mut String, scope: &Scope, key: &str, value: &str) -> Resul
         ("member", _) => write_member(out, value),
         (_, None) => write_numbered(out, key, value),
         (_, Some(number)) => {
-            let word = word_of(key, scope.points);
-            write_numbered(out, word, value)?;
-            write_names(out, scope, key, word, number)
+            let kind = kind_of(key, scope.points);
+            write_numbered(out, word_of(key, kind), value)?;
+            write_names(out, scope, kind, number)
         }
     }
 }
@@ -111,32 +141,32 @@ fn write_in_brackets(out: &mut String, words: &str) -> Result<(), AllocError> {
 }
 
 // Adds what has a number.
-fn write_names(
-    out: &mut String,
-    scope: &Scope,
-    key: &str,
-    word: &str,
-    number: u32,
-) -> Result<(), AllocError> {
+fn write_names(out: &mut String, scope: &Scope, kind: Kind, number: u32) -> Result<(), AllocError> {
     let index = number as usize;
-    match word {
-        "train" => write_name(out, scope.names.trains.get(index)),
-        "point" => write_name(out, scope.names.point(number)),
-        "place" => match scope.train {
-            Some(train) => write_point(out, &scope.rows, train, number),
-            None => Ok(()),
-        },
-        "section" => write_section_points(out, &scope.rows, number),
-        "connection" => match scope.rows.connections.get(index) {
+    match kind {
+        Kind::Train => write_name(out, scope.names.trains.get(index)),
+        Kind::Point => write_name(out, scope.names.point(number)),
+        Kind::Place => write_place_name(out, scope, number),
+        Kind::Section => write_section_points(out, &scope.rows, number),
+        Kind::Connection => match scope.rows.connections.get(index) {
             Some(rule) => write_rule(out, scope, rule),
             None => Ok(()),
         },
-        "link" => write_link(out, scope.names.links, index),
-        "line" => out.push_str(" of the journal"),
-        _ => match (key, scope.rows.nodes.get(index)) {
-            ("index", Some(node)) => write_claim(out, scope, *node),
-            _ => Ok(()),
+        Kind::Link => write_link(out, scope.names.links, index),
+        Kind::Line => out.push_str(" of the journal"),
+        Kind::Node => match scope.rows.nodes.get(index) {
+            Some(node) => write_claim(out, scope, *node),
+            None => Ok(()),
         },
+        Kind::Other => Ok(()),
+    }
+}
+
+// Adds the name of the point at a place of the train that the line speaks of.
+fn write_place_name(out: &mut String, scope: &Scope, place: u32) -> Result<(), AllocError> {
+    match scope.train {
+        Some(train) => write_point(out, &scope.rows, train, place),
+        None => Ok(()),
     }
 }
 
@@ -182,9 +212,7 @@ fn write_claim(out: &mut String, scope: &Scope, node: Node) -> Result<(), AllocE
         }
         Node::Clash { first, second } => {
             out.push_str(" (")?;
-            write_train(out, trains, first)?;
-            out.push_str(" and ")?;
-            write_train(out, trains, second)?;
+            write_trains(out, trains, first, second)?;
             out.push_str(" are at the same point)")
         }
         Node::Overfull { section } => write!(out, " (section {section} is overfull)"),
@@ -209,6 +237,18 @@ fn write_rule(out: &mut String, scope: &Scope, rule: &Connection) -> Result<(), 
     out.push_str(" has reached ")?;
     write_place(out, &scope.rows, rule.other(), rule.reached())?;
     out.push_str(")")
+}
+
+/// Adds the names of two trains.
+pub(crate) fn write_trains(
+    out: &mut String,
+    trains: &[String],
+    first: u32,
+    second: u32,
+) -> Result<(), AllocError> {
+    write_train(out, trains, first)?;
+    out.push_str(" and ")?;
+    write_train(out, trains, second)
 }
 
 /// Adds the name of a train, or its number where it has no name.

@@ -1,6 +1,6 @@
 // What a line means, where, and what to do about it.
 
-use crate::fields::{scope_of, write_where};
+use crate::fields::{Scope, scope_of, write_where};
 use crate::lines::words_of;
 use crate::names::{members_of, names_of};
 use crate::refusals::{Refusal, refusal_of};
@@ -30,10 +30,20 @@ fn write_refusal(
 ) -> Result<bool, AllocError> {
     let members = members_of(*out.allocator(), document)?;
     let scope = scope_of(names_of(&members), words, line);
-    write_line(out, refusal.meaning)?;
-    write_where(out, &scope, line)?;
-    write_line(out, refusal.advice)?;
+    write_lines(out, &scope, line, refusal)?;
     Ok(true)
+}
+
+// Adds what a refusal means, where it is, and what to do about it.
+fn write_lines(
+    out: &mut String,
+    scope: &Scope,
+    line: &str,
+    refusal: Refusal,
+) -> Result<(), AllocError> {
+    write_line(out, refusal.meaning)?;
+    write_where(out, scope, line)?;
+    write_line(out, refusal.advice)
 }
 
 // Adds a sentence as a line.

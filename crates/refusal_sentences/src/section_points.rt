@@ -1,17 +1,32 @@
 // The points at which trains have shares of a section.
 
 use crate::names::Rows;
-use std::alloc::{AllocError, Global};
+use std::alloc::AllocError;
 
-// The points at which a train's share of a section is above 0, in the order of the missions.
-fn points_of<'a>(alloc: Global, rows: &Rows<'a>, section: u32) -> Result<Vec<&'a str>, AllocError> {
-    let mut points = Vec::new(alloc);
-    if let Some(section) = rows.sections.get(section as usize) {
-        for (changes, mission) in section.changes.iter().zip(rows.missions) {
-            push_points(&mut points, changes, mission)?;
-        }
+/// Adds up to six of the points at which a train has a share of a section.
+pub(crate) fn write_section_points(
+    out: &mut String,
+    rows: &Rows,
+    section: u32,
+) -> Result<(), AllocError> {
+    let mut points = Vec::new(*out.allocator());
+    push_section_points(&mut points, rows, section)?;
+    write_points(out, &points)
+}
+
+// Adds the points at which a train's share of a section is above 0, in the order of the missions.
+fn push_section_points<'a>(
+    points: &mut Vec<&'a str>,
+    rows: &Rows<'a>,
+    section: u32,
+) -> Result<(), AllocError> {
+    let Some(section) = rows.sections.get(section as usize) else {
+        return Ok(());
+    };
+    for (changes, mission) in section.changes.iter().zip(rows.missions) {
+        push_points(points, changes, mission)?;
     }
-    Ok(points)
+    Ok(())
 }
 
 // Adds the points of a mission at which the share is above 0, each once.
@@ -39,13 +54,8 @@ fn is_known(points: &[&str], point: &str) -> bool {
     false
 }
 
-/// Adds up to six of the points at which a train has a share of a section.
-pub(crate) fn write_section_points(
-    out: &mut String,
-    rows: &Rows,
-    section: u32,
-) -> Result<(), AllocError> {
-    let points = points_of(*out.allocator(), rows, section)?;
+// Adds up to six points in brackets.
+fn write_points(out: &mut String, points: &[&str]) -> Result<(), AllocError> {
     for (index, point) in points.iter().enumerate().take(6) {
         out.push_str(if index == 0 { " (" } else { ", " })?;
         out.push_str(point)?;

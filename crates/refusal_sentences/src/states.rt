@@ -15,6 +15,26 @@ use rail_model::State;
 use state_sentences::{Scene, text_of};
 use std::alloc::{AllocError, Global};
 
+// How a legal state is explained under a table that the document has.
+fn explain_legal(
+    alloc: Global,
+    doc: &Doc,
+    table: u32,
+    state: &State,
+) -> Result<Explained, AllocError>
+    requires within { table < length doc.now.tables }
+    requires legal { Legal (table_at doc.now table) state.now }
+    ensures { IfOk result (ExplainsIn doc.now table state.now) }
+{
+    let scene = Scene {
+        names: names_of(doc),
+        table: table_of(doc, table),
+        state,
+    };
+    let text = text_of(alloc, &scene, table)?;
+    Ok(Explained::State(text))
+}
+
 // How positions are explained under a table that the document has.
 fn explain_positions(
     alloc: Global,
@@ -26,17 +46,9 @@ fn explain_positions(
     requires { table < length doc.now.tables }
     ensures { IfOk result (ExplainsIn doc.now table places.now) }
 {
-    let rows = table_of(doc, table);
     let state = State::from(Vec::from_slice(alloc, places)?);
-    match judge(rows, &state) {
-        Ok(()) => {
-            let scene = Scene {
-                names: names_of(doc),
-                table: rows,
-                state: &state,
-            };
-            Ok(Explained::State(text_of(alloc, &scene, table)?))
-        }
+    match judge(table_of(doc, table), &state) {
+        Ok(()) => explain_legal(alloc, doc, table, &state),
         Err(cause) => {
             let text = not_legal_text(alloc, bytes, table, places, cause)?;
             Ok(Explained::NotLegal { cause, text })

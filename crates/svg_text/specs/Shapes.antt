@@ -1,6 +1,6 @@
 -- Shapes at places.
-use Rattle.std.specs.Prelude.{ℕ, List, [], ◌∷◌, codes, decimal}
-use Rattle.svg_text.specs.Tree.{Attribute, Shape}
+use Rattle.std.specs.Prelude.{[], ◌∷◌, codes, decimal}
+use Rattle.svg_text.specs.Tree.{Shape}
 use Rattle.svg_text.specs.declared.shapes.Spot.{Spot}
 
 -- a line between two places

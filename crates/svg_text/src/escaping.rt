@@ -4,15 +4,22 @@ ghost use Rattle.svg_text.specs.Text.{escape, escape_byte};
 
 use std::alloc::AllocError;
 
+/// Adds text as it is.
+pub(crate) fn push_raw(out: &mut Vec<u8>, text: &str) -> Result<(), AllocError>
+    ensures { OnOk result (out.new.items ≡ out.old.items ++ text.now) }
+{
+    out.extend_from_slice(text.as_bytes())
+}
+
 // Adds a byte, or the reference for it.
 fn push_byte(out: &mut Vec<u8>, byte: u8) -> Result<(), AllocError>
     ensures { OnOk result (out.new.items ≡ out.old.items ++ escape_byte byte) }
 {
     match byte {
-        b'&' => out.extend_from_slice(b"&amp;"),
-        b'<' => out.extend_from_slice(b"&lt;"),
-        b'>' => out.extend_from_slice(b"&gt;"),
-        b'"' => out.extend_from_slice(b"&quot;"),
+        b'&' => push_raw(out, "&amp;"),
+        b'<' => push_raw(out, "&lt;"),
+        b'>' => push_raw(out, "&gt;"),
+        b'"' => push_raw(out, "&quot;"),
         _ => Ok(out.push(byte)?),
     }
 }

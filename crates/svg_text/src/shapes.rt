@@ -1,5 +1,5 @@
 // Shapes at places.
-ghost use Rattle.std.specs.Prelude.{◌≡◌, IfOk};
+ghost use Rattle.std.specs.Prelude.{◌≡◌, ◌++◌, ◌∷◌, [], OnOk, IfOk, decimal};
 ghost use Rattle.svg_text.specs.Shapes.{line_of};
 
 use crate::Shape;
@@ -12,23 +12,33 @@ pub struct Spot {
     pub y: u64,
 }
 
+// Adds a place as two attributes.
+fn set_spot(shape: &mut Shape, alloc: Global, x: &str, y: &str, at: Spot) -> Result<(), AllocError>
+    ensures { OnOk result (shape.new ≡ record shape.old {
+      attributes = shape.old.attributes
+          ++ record { name = x.now; value = decimal at.x }
+          ∷ record { name = y.now; value = decimal at.y }
+          ∷ [];
+    }) }
+{
+    shape.set_number(alloc, x, at.x)?;
+    shape.set_number(alloc, y, at.y)
+}
+
 /// A line between two places.
 pub fn line(alloc: Global, from: Spot, to: Spot) -> Result<Shape, AllocError>
     ensures { IfOk result (λ shape. shape ≡ line_of from to) }
 {
     let mut shape = Shape::new(alloc, "line", "")?;
-    shape.set_number(alloc, "x1", from.x)?;
-    shape.set_number(alloc, "y1", from.y)?;
-    shape.set_number(alloc, "x2", to.x)?;
-    shape.set_number(alloc, "y2", to.y)?;
+    set_spot(&mut shape, alloc, "x1", "y1", from)?;
+    set_spot(&mut shape, alloc, "x2", "y2", to)?;
     Ok(shape)
 }
 
 /// A circle round a place.
 pub fn circle(alloc: Global, at: Spot, radius: u64) -> Result<Shape, AllocError> {
     let mut shape = Shape::new(alloc, "circle", "")?;
-    shape.set_number(alloc, "cx", at.x)?;
-    shape.set_number(alloc, "cy", at.y)?;
+    set_spot(&mut shape, alloc, "cx", "cy", at)?;
     shape.set_number(alloc, "r", radius)?;
     Ok(shape)
 }
@@ -36,19 +46,24 @@ pub fn circle(alloc: Global, at: Spot, radius: u64) -> Result<Shape, AllocError>
 /// Words that begin at a place.
 pub fn label(alloc: Global, at: Spot, words: &str) -> Result<Shape, AllocError> {
     let mut shape = Shape::new(alloc, "text", words)?;
-    shape.set_number(alloc, "x", at.x)?;
-    shape.set_number(alloc, "y", at.y)?;
+    set_spot(&mut shape, alloc, "x", "y", at)?;
     Ok(shape)
+}
+
+// The corners of an area, one after another.
+fn corners_text(alloc: Global, corners: &[Spot]) -> Result<String, AllocError> {
+    let mut text = String::new(alloc);
+    for corner in corners {
+        let x = corner.x;
+        let y = corner.y;
+        write!(text, "{x},{y} ")?;
+    }
+    Ok(text)
 }
 
 /// A closed area with these corners.
 pub fn polygon(alloc: Global, corners: &[Spot]) -> Result<Shape, AllocError> {
-    let mut points = String::new(alloc);
-    for corner in corners {
-        let x = corner.x;
-        let y = corner.y;
-        write!(points, "{x},{y} ")?;
-    }
+    let points = corners_text(alloc, corners)?;
     let mut shape = Shape::new(alloc, "polygon", "")?;
     shape.set(alloc, "points", points.as_str())?;
     Ok(shape)

@@ -2,7 +2,7 @@
 ghost use Rattle.std.specs.Prelude.{◌≡◌, ◌++◌, ◌∷◌, [], OnOk, IfOk, flat_map, codes, string_bytes};
 ghost use Rattle.svg_text.specs.Text as spec;
 
-use crate::escaping::push_escaped;
+use crate::escaping::{push_escaped, push_raw};
 use crate::{Attribute, Group, Picture, Shape};
 use std::alloc::{AllocError, Global};
 
@@ -55,9 +55,7 @@ fn push_head(alloc: Global, out: &mut Vec<u8>, picture: &Picture) -> Result<(), 
     ensures { OnOk result (out.new.items ≡ out.old.items ++ spec.open_text (codes "svg") (spec.picture_attributes picture.now)) }
 {
     let attributes = picture_attributes(alloc, picture)?;
-    push_start(out, "svg")?;
-    push_attributes(out, &attributes)?;
-    out.extend_from_slice(b">")
+    push_open(out, "svg", &attributes)
 }
 
 fn push_groups(out: &mut Vec<u8>, groups: &[Group]) -> Result<(), AllocError>
@@ -72,13 +70,20 @@ fn push_groups(out: &mut Vec<u8>, groups: &[Group]) -> Result<(), AllocError>
 fn push_group(out: &mut Vec<u8>, group: &Group) -> Result<(), AllocError>
     ensures { OnOk result (out.new.items ≡ out.old.items ++ spec.group_text group.now) }
 {
-    push_start(out, "g")?;
-    push_pair(out, "class", group.class())?;
-    push_attributes(out, group.attributes())?;
-    out.extend_from_slice(b">")?;
+    push_group_open(out, group)?;
     push_words(out, "title", group.title())?;
     push_shapes(out, group.shapes())?;
     push_close(out, "g")
+}
+
+// Adds the tag that opens a group.
+fn push_group_open(out: &mut Vec<u8>, group: &Group) -> Result<(), AllocError>
+    ensures { OnOk result (out.new.items ≡ out.old.items ++ spec.open_text (codes "g") (spec.class_of group.now ∷ group.now.attributes)) }
+{
+    push_start(out, "g")?;
+    push_pair(out, "class", group.class())?;
+    push_attributes(out, group.attributes())?;
+    push_raw(out, ">")
 }
 
 fn push_shapes(out: &mut Vec<u8>, shapes: &[Shape]) -> Result<(), AllocError>
@@ -93,9 +98,7 @@ fn push_shapes(out: &mut Vec<u8>, shapes: &[Shape]) -> Result<(), AllocError>
 fn push_shape(out: &mut Vec<u8>, shape: &Shape) -> Result<(), AllocError>
     ensures { OnOk result (out.new.items ≡ out.old.items ++ spec.shape_text shape.now) }
 {
-    push_start(out, shape.name())?;
-    push_attributes(out, shape.attributes())?;
-    out.extend_from_slice(b">")?;
+    push_open(out, shape.name(), shape.attributes())?;
     push_escaped(out, shape.words())?;
     push_close(out, shape.name())
 }
@@ -104,18 +107,26 @@ fn push_shape(out: &mut Vec<u8>, shape: &Shape) -> Result<(), AllocError>
 fn push_words(out: &mut Vec<u8>, name: &str, words: &str) -> Result<(), AllocError>
     ensures { OnOk result (out.new.items ≡ out.old.items ++ spec.element_text name.now [] (spec.escape words.now)) }
 {
-    push_start(out, name)?;
-    out.extend_from_slice(b">")?;
+    push_open(out, name, &[])?;
     push_escaped(out, words)?;
     push_close(out, name)
+}
+
+// Adds the tag that opens an element.
+fn push_open(out: &mut Vec<u8>, name: &str, attributes: &[Attribute]) -> Result<(), AllocError>
+    ensures { OnOk result (out.new.items ≡ out.old.items ++ spec.open_text name.now attributes.now) }
+{
+    push_start(out, name)?;
+    push_attributes(out, attributes)?;
+    push_raw(out, ">")
 }
 
 // Adds the beginning of a tag.
 fn push_start(out: &mut Vec<u8>, name: &str) -> Result<(), AllocError>
     ensures { OnOk result (out.new.items ≡ out.old.items ++ codes "<" ++ name.now) }
 {
-    out.extend_from_slice(b"<")?;
-    out.extend_from_slice(name.as_bytes())
+    push_raw(out, "<")?;
+    push_raw(out, name)
 }
 
 fn push_attributes(out: &mut Vec<u8>, attributes: &[Attribute]) -> Result<(), AllocError>
@@ -131,18 +142,18 @@ fn push_attributes(out: &mut Vec<u8>, attributes: &[Attribute]) -> Result<(), Al
 fn push_pair(out: &mut Vec<u8>, name: &str, value: &str) -> Result<(), AllocError>
     ensures { OnOk result (out.new.items ≡ out.old.items ++ spec.attribute_text (record { name = name.now; value = value.now })) }
 {
-    out.extend_from_slice(b" ")?;
-    out.extend_from_slice(name.as_bytes())?;
-    out.extend_from_slice(b"=\"")?;
+    push_raw(out, " ")?;
+    push_raw(out, name)?;
+    push_raw(out, "=\"")?;
     push_escaped(out, value)?;
-    out.extend_from_slice(b"\"")
+    push_raw(out, "\"")
 }
 
 // Adds the tag that closes an element.
 fn push_close(out: &mut Vec<u8>, name: &str) -> Result<(), AllocError>
     ensures { OnOk result (out.new.items ≡ out.old.items ++ spec.close_text name.now) }
 {
-    out.extend_from_slice(b"</")?;
-    out.extend_from_slice(name.as_bytes())?;
-    out.extend_from_slice(b">\n")
+    push_raw(out, "</")?;
+    push_raw(out, name)?;
+    push_raw(out, ">\n")
 }

@@ -6,7 +6,7 @@ use refusal_lines::push_document;
 use run_timetable::{point_name, train_name};
 use std::alloc::{AllocError, AllocFailed, Global};
 
-/// Why a journal is no timed run of a document. Lines are those of the journal, counted from 1.
+/// Why a journal is no timed run of a document.
 #[derive(Clone, Copy)]
 pub(crate) enum Fault {
     Memory,
@@ -14,62 +14,57 @@ pub(crate) enum Fault {
     NoText,
     /// The last line doesn't end.
     CutOff,
-    /// A line that doesn't begin with a tick.
-    NoTick {
-        line: u64,
-    },
-    /// A tick below the one before it.
+    /// There is no end line.
+    NoEnd,
+    /// There are lines after the end line.
+    AfterEnd,
+    /// A line, counted from 1, that is none of a timed run of the document.
+    Line { line: u64, fault: LineFault },
+    /// Another number of lines of moves than the end line says.
+    Moves { said: u32, moves: u64 },
+    /// Another number of tables that took over than the end line says.
+    Tables { said: u32, tables: u64 },
+}
+
+/// What is wrong with a line.
+#[derive(Clone, Copy)]
+pub(crate) enum LineFault {
+    /// It doesn't begin with a tick.
+    NoTick,
+    /// Its tick is below the one before it.
     Falls {
-        line: u64,
         tick: u32,
         before: u32,
     },
-    /// An end line without the tick of the last move.
-    NoLast {
-        line: u64,
-    },
-    /// An end line with another tick than that of the last move.
+    /// It is an end line without the tick of the last move.
+    NoLast,
+    /// It is an end line with another tick than that of the last move.
     Last {
-        line: u64,
         last: u32,
         tick: u32,
     },
-    /// Not the text of a journal.
-    Text {
-        fault: BadText,
-    },
-    /// A move of a train that is at the end of its way.
+    /// It isn't a line of a journal of the document.
+    Unread,
+    /// Its number isn't the next one.
+    Number,
+    /// It moves a train that is at the end of its way.
     AtEnd {
-        line: u64,
         train: u32,
     },
-    /// A move between other points than the train's own and its next one.
+    /// It moves a train between other points than the train's own and its next one.
     Elsewhere {
-        line: u64,
         train: u32,
         at: u32,
         next: Option<u32>,
     },
-    /// Not the next table.
+    /// It isn't of the next table.
     Table {
-        line: u64,
         table: u32,
         next: u32,
     },
-    /// A table that the document doesn't have.
+    /// It is of a table that the document doesn't have.
     NoTable {
-        line: u64,
         table: u32,
-    },
-    /// Another number of lines of moves than the end line says.
-    Moves {
-        said: u32,
-        moves: u64,
-    },
-    /// Another number of tables that took over than the end line says.
-    Tables {
-        said: u32,
-        tables: u64,
     },
 }
 
@@ -82,6 +77,24 @@ impl From<AllocError> for Fault {
 impl<T: Drop> From<AllocFailed<T>> for Fault {
     fn from(_error: AllocFailed<T>) -> Fault {
         Fault::Memory
+    }
+}
+
+impl From<BadText> for Fault {
+    fn from(bad: BadText) -> Fault {
+        match bad {
+            BadText::Line { line } => Fault::Line {
+                line,
+                fault: LineFault::Unread,
+            },
+            BadText::Number { line } => Fault::Line {
+                line,
+                fault: LineFault::Number,
+            },
+            BadText::After => Fault::AfterEnd,
+            BadText::NoEnd => Fault::NoEnd,
+            BadText::Memory => Fault::Memory,
+        }
     }
 }
 
@@ -107,88 +120,90 @@ pub(crate) fn told(
     names: &Names,
     fault: Fault,
 ) -> Result<String, AllocError> {
+    let mut out = String::new(alloc);
+    write_fault(&mut out, layout, names, fault)?;
+    Ok(out)
+}
+
+fn write_fault(
+    out: &mut String,
+    layout: &Layout,
+    names: &Names,
+    fault: Fault,
+) -> Result<(), AllocError> {
     match fault {
         Fault::Memory => Err(AllocError),
-        Fault::NoText => String::from_str(alloc, "the journal is no text"),
-        Fault::CutOff => String::from_str(
-            alloc,
+        Fault::NoText => out.push_str("the journal is no text"),
+        Fault::CutOff => out.push_str(
             "the journal is empty, or its last line doesn't end with a newline",
         ),
-        Fault::NoTick { line } => format!(in alloc;
-            "line {line} of the journal: it doesn't begin with a tick, and isn't the end line"
-        ),
-        Fault::Falls { line, tick, before } => format!(in alloc;
-            "line {line} of the journal: tick {tick} comes after tick {before}"
-        ),
-        Fault::NoLast { line } => format!(in alloc;
-            "line {line} of the journal: there is no `last=` with a tick at its end; a journal of `ats run` has no ticks, so give what `ats sim` wrote"
-        ),
-        Fault::Last { line, last, tick } => format!(in alloc;
-            "line {line} of the journal: last={last}, but the last move is at tick {tick}"
-        ),
-        Fault::Text { fault } => text_told(alloc, fault),
-        Fault::AtEnd { line, train } => {
-            let train = train_name(names, train);
-            format!(in alloc; "line {line} of the journal: {train} is at the end of its way")
+        Fault::NoEnd => out.push_str("the journal has no end line"),
+        Fault::AfterEnd => out.push_str("there are lines after the end line of the journal"),
+        Fault::Line { line, fault } => {
+            write!(out, "line {line} of the journal: ")?;
+            write_line_fault(out, layout, names, fault)
         }
-        Fault::Elsewhere {
-            line,
-            train,
-            at,
-            next,
-        } => elsewhere(alloc, layout, train_name(names, train), line, at, next),
-        Fault::Table { line, table, next } => format!(in alloc;
-            "line {line} of the journal: table {table} isn't the next table, which is {next}"
-        ),
-        Fault::NoTable { line, table } => format!(in alloc;
-            "line {line} of the journal: the document has no table {table}"
-        ),
-        Fault::Moves { said, moves } => format!(in alloc;
+        Fault::Moves { said, moves } => write!(
+            out,
             "the end line says moves={said}, but the journal has {moves}"
         ),
-        Fault::Tables { said, tables } => format!(in alloc;
+        Fault::Tables { said, tables } => write!(
+            out,
             "the end line says tables={said}, but the journal has {tables}"
         ),
     }
 }
 
-// What is wrong with the text of a journal.
-fn text_told(alloc: Global, fault: BadText) -> Result<String, AllocError> {
+fn write_line_fault(
+    out: &mut String,
+    layout: &Layout,
+    names: &Names,
+    fault: LineFault,
+) -> Result<(), AllocError> {
     match fault {
-        BadText::Line { line } => format!(in alloc;
-            "line {line} of the journal: it isn't a line of a journal, or the document has no train or point with its names"
+        LineFault::NoTick => out.push_str("it doesn't begin with a tick, and isn't the end line"),
+        LineFault::Falls { tick, before } => write!(out, "tick {tick} comes after tick {before}"),
+        LineFault::NoLast => out.push_str(
+            "there is no `last=` with a tick at its end; a journal of `ats run` has no ticks, so give what `ats sim` wrote",
         ),
-        BadText::Number { line } => format!(in alloc;
-            "line {line} of the journal: its tick is no number"
+        LineFault::Last { last, tick } => write!(
+            out,
+            "last={last}, but the last move is at tick {tick}"
         ),
-        BadText::After => String::from_str(
-            alloc,
-            "there are lines after the end line of the journal",
+        LineFault::Unread => out.push_str(
+            "it isn't a line of a journal, or the document has no train or point with its names",
         ),
-        BadText::NoEnd => String::from_str(alloc, "the journal has no end line"),
-        BadText::Memory => Err(AllocError),
+        LineFault::Number => out.push_str("its tick is no number"),
+        LineFault::AtEnd { train } => {
+            out.push_str(train_name(names, train))?;
+            out.push_str(" is at the end of its way")
+        }
+        LineFault::Elsewhere { train, at, next } => {
+            out.push_str(train_name(names, train))?;
+            write_place(out, layout, at, next)
+        }
+        LineFault::Table { table, next } => write!(
+            out,
+            "table {table} isn't the next table, which is {next}"
+        ),
+        LineFault::NoTable { table } => write!(out, "the document has no table {table}"),
     }
 }
 
-// Where a train is instead, and where it goes next.
-fn elsewhere(
-    alloc: Global,
+// Adds where a train is, and where it goes next.
+fn write_place(
+    out: &mut String,
     layout: &Layout,
-    train: &str,
-    line: u64,
     at: u32,
     next: Option<u32>,
-) -> Result<String, AllocError> {
-    let at = point_name(layout, at);
+) -> Result<(), AllocError> {
+    out.push_str(" is at ")?;
+    out.push_str(point_name(layout, at))?;
     match next {
         Some(next) => {
             let next = point_name(layout, next);
-            format!(in alloc;
-                "line {line} of the journal: {train} is at {at}, and goes to {next} next"
-            )
+            write!(out, ", and goes to {next} next")
         }
-        None => format!(in alloc;
-            "line {line} of the journal: {train} is at {at}, and leaves the layout next"
-        ),
+        None => out.push_str(", and leaves the layout next"),
     }
 }

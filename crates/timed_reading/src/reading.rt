@@ -10,7 +10,7 @@ use crate::parts::cut;
 use crate::running::{starts_of, steps_in, takeovers_of};
 use crate::ticks::{Timed as TimedLine, take_ticks};
 use layout_json::{Doc, DocRefused, document, layout_of, names_of};
-use move_journal::{BadText, Journal, read};
+use move_journal::{Journal, read};
 use rail_model::{Line, Names};
 use run_timetable::Run;
 use std::alloc::{AllocError, Global};
@@ -34,11 +34,17 @@ pub fn timed_run(alloc: Global, input: &[u8]) -> Result<Timed, AllocError>
     let Some((given, journal)) = cut(input) else {
         return Ok(Timed::Fault(no_journal(alloc)?));
     };
-    let doc = match document(alloc, given) {
-        Ok(doc) => doc,
-        Err(DocRefused::Memory) => return Err(AllocError),
-        Err(cause) => return Ok(Timed::Fault(refused(alloc, &cause)?)),
-    };
+    match document(alloc, given) {
+        Ok(doc) => timed_document(alloc, doc, journal),
+        Err(DocRefused::Memory) => Err(AllocError),
+        Err(cause) => Ok(Timed::Fault(refused(alloc, &cause)?)),
+    }
+}
+
+// A document, and the run that a journal gives.
+fn timed_document(alloc: Global, doc: Doc, journal: &[u8]) -> Result<Timed, AllocError>
+    ensures { IfOk result IsTimed }
+{
     match run_of(alloc, &doc, journal) {
         Ok(run) => Ok(Timed::Run { doc, run }),
         Err(fault) => {
@@ -53,9 +59,17 @@ fn run_of(alloc: Global, doc: &Doc, journal: &[u8]) -> Result<Run, Fault>
     ensures { IfOk result (λ run. IsRunOf doc.now run) }
 {
     let lines = lines_of(alloc, names_of(doc), journal)?;
+    told_run(alloc, doc, &lines)
+}
+
+// The run of a document that lines tell.
+fn told_run(alloc: Global, doc: &Doc, lines: &[TimedLine]) -> Result<Run, Fault>
+    requires { ArePrintable (doc_names doc.now) (map line_of lines.now) }
+    ensures { IfOk result (λ run. IsRunOf doc.now run) }
+{
     let starts = starts_of(alloc, doc)?;
-    let steps = steps_in(alloc, doc, &lines)?;
-    let takeovers = takeovers_of(alloc, &lines)?;
+    let steps = steps_in(alloc, doc, lines)?;
+    let takeovers = takeovers_of(alloc, lines)?;
     Ok(Run {
         starts,
         steps,
@@ -68,21 +82,22 @@ fn lines_of(alloc: Global, names: &Names, journal: &[u8]) -> Result<Vec<TimedLin
     ensures { IfOk result (λ lines. ArePrintable names.now (map line_of lines.items)) }
 {
     let untimed = take_ticks(alloc, journal)?;
-    let journal = journal_of(alloc, names, untimed.text.as_bytes())?;
-    check_counts(&journal)?;
-    let lines = joined(alloc, &untimed.ticks, journal.lines())?;
-    Ok(lines)
+    timed_lines(alloc, names, untimed.text.as_bytes(), &untimed.ticks)
 }
 
-// The journal that a text is.
-fn journal_of(alloc: Global, names: &Names, text: &[u8]) -> Result<Journal, Fault>
-    ensures { IfOk result (λ journal. ArePrintable names.now journal.lines) }
+// The lines of a journal without ticks, each with one of these ticks.
+fn timed_lines(
+    alloc: Global,
+    names: &Names,
+    journal: &[u8],
+    ticks: &[u32],
+) -> Result<Vec<TimedLine>, Fault>
+    ensures { IfOk result (λ lines. ArePrintable names.now (map line_of lines.items)) }
 {
-    match read(alloc, names, text) {
-        Ok(journal) => Ok(journal),
-        Err(BadText::Memory) => Err(Fault::Memory),
-        Err(fault) => Err(Fault::Text { fault }),
-    }
+    let journal = read(alloc, names, journal)?;
+    check_counts(&journal)?;
+    let lines = joined(alloc, ticks, journal.lines())?;
+    Ok(lines)
 }
 
 // Each line with its tick.

@@ -8,7 +8,7 @@ ghost use Rattle.layout_json.specs.Doc.{table_at, times_of as doc_times};
 ghost use Rattle.timed_reading.specs.Runs as spec;
 ghost use Rattle.timed_reading.specs.Runs.{starts_in, step_list, steps_of, takeover_list};
 
-use crate::faults::Fault;
+use crate::faults::{Fault, LineFault};
 use crate::ticks::Timed;
 use layout_json::{Doc, start_of, table_of, tables_of, times_of};
 use rail_model::{Line, Standing, Table, Times, last_of, point_of, trains_of};
@@ -81,13 +81,34 @@ pub(crate) fn steps_in(alloc: Global, doc: &Doc, lines: &[Timed]) -> Result<Vec<
     let mut number: u64 = 0;
     for timed in lines {
         number = number.saturating_add(1);
-        check_line(doc, &yard, number, &timed.line)?;
-        push_step(&mut made, times_of(doc), &yard, timed)?;
-        if !go_on(&mut yard, &timed.line) {
-            return Err(Fault::Memory);
-        }
+        take_line(&mut made, doc, &mut yard, number, timed)?;
     }
     Ok(made)
+}
+
+// Adds the step of a line with this number, and goes on to the state after it.
+fn take_line(
+    made: &mut Vec<Step>,
+    doc: &Doc,
+    yard: &mut Standing,
+    number: u64,
+    timed: &Timed,
+) -> Result<(), Fault>
+    ensures made { OnOk result (made.new.items ≡ made.old.items ++ step_list (doc_times doc.now) yard.old timed.now) }
+    ensures yard { OnOk result (yard.new ≡ after_line yard.old timed.now.line) }
+{
+    if let Err(fault) = check_line(doc, yard, &timed.line) {
+        return Err(Fault::Line {
+            line: number,
+            fault,
+        });
+    }
+    push_step(made, times_of(doc), yard, timed)?;
+    if go_on(yard, &timed.line) {
+        Ok(())
+    } else {
+        Err(Fault::Memory)
+    }
 }
 
 // Adds the step of a line, if it is a move.
@@ -173,12 +194,12 @@ fn advance(yard: &mut Standing, train: u32) -> bool
 }
 
 // Looks whether a line fits the document in a state.
-fn check_line(doc: &Doc, yard: &Standing, number: u64, line: &Line) -> Result<(), Fault> {
+fn check_line(doc: &Doc, yard: &Standing, line: &Line) -> Result<(), LineFault> {
     match *line {
-        Line::Move { train, from, to } => check_move(doc, yard, number, train, from, to),
-        Line::Table { table } => check_table(doc, yard, number, table),
-        Line::KeptDiffers { table, .. } => check_table(doc, yard, number, table),
-        Line::KeptOver { table, .. } => check_table(doc, yard, number, table),
+        Line::Move { train, from, to } => check_move(doc, yard, train, from, to),
+        Line::Table { table } => check_table(doc, yard, table),
+        Line::KeptDiffers { table, .. } => check_table(doc, yard, table),
+        Line::KeptOver { table, .. } => check_table(doc, yard, table),
     }
 }
 
@@ -186,59 +207,35 @@ fn check_line(doc: &Doc, yard: &Standing, number: u64, line: &Line) -> Result<()
 fn check_move(
     doc: &Doc,
     yard: &Standing,
-    number: u64,
     train: u32,
     from: u32,
     to: Option<u32>,
-) -> Result<(), Fault> {
-    if yard.table() >= tables_of(doc) {
-        return Err(Fault::NoTable {
-            line: number,
-            table: yard.table(),
-        });
+) -> Result<(), LineFault> {
+    let table = yard.table();
+    if table >= tables_of(doc) {
+        return Err(LineFault::NoTable { table });
     }
-    let table = table_of(doc, yard.table());
+    let table = table_of(doc, table);
     let place = place_of(yard, train);
     if train >= trains_of(table) || place >= last_of(table, train) {
-        return Err(Fault::AtEnd {
-            line: number,
-            train,
-        });
+        return Err(LineFault::AtEnd { train });
     }
-    let at = point_of(table, train, place);
     let next = point_of(table, train, place + 1);
-    if at == Some(from) && next == to {
-        return Ok(());
-    }
-    match at {
-        Some(at) => Err(Fault::Elsewhere {
-            line: number,
-            train,
-            at,
-            next,
-        }),
-        None => Err(Fault::AtEnd {
-            line: number,
-            train,
-        }),
+    match point_of(table, train, place) {
+        Some(at) if at == from && next == to => Ok(()),
+        Some(at) => Err(LineFault::Elsewhere { train, at, next }),
+        None => Err(LineFault::AtEnd { train }),
     }
 }
 
 // Looks whether a table is the next one.
-fn check_table(doc: &Doc, yard: &Standing, number: u64, table: u32) -> Result<(), Fault> {
+fn check_table(doc: &Doc, yard: &Standing, table: u32) -> Result<(), LineFault> {
     let next = yard.tried().saturating_add(1);
     if table >= tables_of(doc) {
-        return Err(Fault::NoTable {
-            line: number,
-            table,
-        });
+        Err(LineFault::NoTable { table })
+    } else if table != next {
+        Err(LineFault::Table { table, next })
+    } else {
+        Ok(())
     }
-    if table != next {
-        return Err(Fault::Table {
-            line: number,
-            table,
-            next,
-        });
-    }
-    Ok(())
 }

@@ -1,5 +1,5 @@
 // Journals whose lines have ticks in place of numbers.
-use crate::faults::Fault;
+use crate::faults::{Fault, LineFault};
 use decimal_number::number_of;
 use rail_model::Line;
 use std::alloc::Global;
@@ -54,21 +54,21 @@ fn push_line(made: &mut Untimed, number: u64, line: &str) -> Result<(), Fault> {
     Ok(())
 }
 
+// The tick of a line, and what follows it.
+fn ticked(line: &str) -> Option<(u32, &str)> {
+    let (word, rest) = line.split_once(' ')?;
+    let tick = number_of(word.as_bytes())?;
+    Some((tick, rest))
+}
+
 // Adds a line with its number in place of its tick. Ticks don't fall.
 fn push_numbered(made: &mut Untimed, number: u64, line: &str) -> Result<(), Fault> {
-    let Some((word, rest)) = line.split_once(' ') else {
-        return Err(Fault::NoTick { line: number });
-    };
-    let Some(tick) = number_of(word.as_bytes()) else {
-        return Err(Fault::NoTick { line: number });
+    let Some((tick, rest)) = ticked(line) else {
+        return at_line(number, LineFault::NoTick);
     };
     let before = last_tick(made);
     if tick < before {
-        return Err(Fault::Falls {
-            line: number,
-            tick,
-            before,
-        });
+        return at_line(number, LineFault::Falls { tick, before });
     }
     made.ticks.push(tick)?;
     write!(made.text, "{number} {rest}")?;
@@ -78,21 +78,21 @@ fn push_numbered(made: &mut Untimed, number: u64, line: &str) -> Result<(), Faul
 // Adds an end line without the tick of the last move.
 fn push_end(made: &mut Untimed, number: u64, line: &str) -> Result<(), Fault> {
     let Some((counts, word)) = line.split_once(" last=") else {
-        return Err(Fault::NoLast { line: number });
+        return at_line(number, LineFault::NoLast);
     };
     let Some(last) = number_of(word.as_bytes()) else {
-        return Err(Fault::NoLast { line: number });
+        return at_line(number, LineFault::NoLast);
     };
     let tick = last_tick(made);
     if last != tick {
-        return Err(Fault::Last {
-            line: number,
-            last,
-            tick,
-        });
+        return at_line(number, LineFault::Last { last, tick });
     }
     made.text.push_str(counts)?;
     Ok(())
+}
+
+fn at_line(line: u64, fault: LineFault) -> Result<(), Fault> {
+    Err(Fault::Line { line, fault })
 }
 
 // The tick of the last line, or 0.

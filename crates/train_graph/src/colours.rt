@@ -30,15 +30,20 @@ fn dashes(train: u32) -> &'static str {
 pub(crate) fn style_of(alloc: Global, trains: u32) -> Result<String, AllocError> {
     let mut style = String::from_str(alloc, COMMON)?;
     for train in 0..trains {
-        let colour = colour(train);
-        let dashes = dashes(train);
-        write!(
-            style,
-            "line.t{train}{{stroke:{colour};stroke-dasharray:{dashes}}}"
-        )?;
-        write!(style, "text.t{train}{{fill:{colour}}}")?;
+        write_train(&mut style, train)?;
     }
     Ok(style)
+}
+
+// Adds how the class of a train looks.
+fn write_train(style: &mut String, train: u32) -> Result<(), AllocError> {
+    let colour = colour(train);
+    let dashes = dashes(train);
+    write!(
+        style,
+        "line.t{train}{{stroke:{colour};stroke-dasharray:{dashes}}}"
+    )?;
+    write!(style, "text.t{train}{{fill:{colour}}}")
 }
 
 const COMMON: &str =

@@ -1,18 +1,18 @@
 // Pictures of runs.
-ghost use Rattle.std.specs.Prelude.{◌≡◌, IfOk, OnOk, codes, false, map};
+ghost use Rattle.std.specs.Prelude.{◌≡◌, ◌++◌, IfOk, OnOk, codes, false, map};
 ghost use Rattle.std.specs.Str.{bytes_eq};
 ghost use Rattle.train_graph.specs.Marks.{IsGraph, mark_of, marks_in, span_of};
 
 use crate::Axes;
 use crate::colours::style_of;
-use crate::grid::{paper, point_lines, table_lines, tick_lines};
+use crate::grid::{push_paper, push_points, push_tables, push_ticks};
 use crate::labels::{Labels, text_width};
-use crate::legend::{WIDTH, legend};
-use crate::levels::{first_names, last_names, level_lines};
+use crate::legend::{WIDTH, legend_end, push_legend};
+use crate::levels::{push_first_names, push_last_names, push_levels};
 use crate::marks::marks;
 use crate::order::rows_of;
 use rail_model::{Layout, Names};
-use run_timetable::{Run, point_name, train_name};
+use run_timetable::{Run, Step, point_name, train_name};
 use std::alloc::{AllocError, Global};
 use svg_text::{Group, Picture, Shape};
 
@@ -27,22 +27,28 @@ pub fn train_graph(
 ) -> Result<Picture, AllocError>
     ensures { IfOk result (IsGraph run.now) }
 {
-    let (key, under) = legend(alloc, names, run)?;
-    let axes = axes_of(alloc, layout, names, run, chosen, under)?;
-    let groups = groups_of(alloc, layout, names, run, &axes, key)?;
-    let style = style_of(alloc, run.trains())?;
+    let axes = axes_of(alloc, layout, names, run, chosen)?;
+    let sheet = Sheet {
+        layout,
+        names,
+        run,
+        axes: &axes,
+    };
+    let groups = groups_of(alloc, &sheet)?;
+    let picture = framed(alloc, run, height_of(&axes), groups)?;
+    Ok(picture)
+}
+
+// A picture of a run with these groups.
+fn framed(alloc: Global, run: &Run, height: u64, groups: Vec<Group>) -> Result<Picture, AllocError>
+    ensures { IfOk result (λ picture. picture.groups ≡ groups.items) }
+{
     let trains = run.trains();
     let end = run.end();
     let title = format!(in alloc; "Train graph: {trains} trains over {end} ticks")?;
-    let picture = Picture::new(
-        alloc,
-        u64::from(WIDTH),
-        height_of(&axes),
-        title.as_str(),
-        style.as_str(),
-        groups,
-    )?;
-    Ok(picture)
+    let style = style_of(alloc, trains)?;
+    let width = u64::from(WIDTH);
+    Picture::new(alloc, width, height, title.as_str(), style.as_str(), groups)
 }
 
 // How high a picture is.
@@ -50,14 +56,13 @@ fn height_of(axes: &Axes) -> u64 {
     axes.floor().saturating_add(36)
 }
 
-// Where ticks and points lie, under a legend.
+// Where ticks and points lie, under the legend.
 fn axes_of(
     alloc: Global,
     layout: &Layout,
     names: &Names,
     run: &Run,
     chosen: Option<u32>,
-    under: u64,
 ) -> Result<Axes, AllocError>
     ensures { IfOk result (λ axes. axes.span ≡ span_of run.now.steps.items) }
 {
@@ -68,7 +73,7 @@ fn axes_of(
     let tables = (run.takeovers.len() as u64).min(2).saturating_mul(12);
     let gap = (480 / rows.len().max(1)).max(16).min(36);
     let margin = tables.saturating_add(14 + gap as u64 / 2);
-    let top = under.saturating_add(margin).min(1_000);
+    let top = legend_end(names, run).saturating_add(margin).min(1_000);
     Ok(Axes {
         left: left as u16,
         width: WIDTH - left as u16 - right as u16,
@@ -102,6 +107,15 @@ fn widest_train(names: &Names, run: &Run) -> u64 {
     widest
 }
 
+// What a picture is drawn from: a run, its names, and where ticks and points lie.
+#[derive(Clone, Copy)]
+struct Sheet<'a> {
+    layout: &'a Layout,
+    names: &'a Names,
+    run: &'a Run,
+    axes: &'a Axes,
+}
+
 // What stands behind and before the marks of moves.
 #[derive(Clone, Copy)]
 enum Layer {
@@ -115,6 +129,17 @@ enum Layer {
     Ends,
     Legend,
 }
+
+const BEHIND: [Layer; 6] = [
+    Layer::Paper,
+    Layer::Ticks,
+    Layer::Points,
+    Layer::Tables,
+    Layer::Stays,
+    Layer::Waits,
+];
+
+const BEFORE: [Layer; 3] = [Layer::Starts, Layer::Ends, Layer::Legend];
 
 // The class of a layer. None is that of moves.
 fn class_of(layer: Layer) -> &'static str
@@ -133,90 +158,102 @@ fn class_of(layer: Layer) -> &'static str
     }
 }
 
+// What a viewer says of a layer.
+fn title_of(layer: Layer) -> &'static str {
+    match layer {
+        Layer::Paper => "paper",
+        Layer::Ticks => "ticks",
+        Layer::Points => "points",
+        Layer::Tables => "tables that take over",
+        Layer::Stays => "trains that have arrived",
+        Layer::Waits => "trains that wait",
+        Layer::Starts => "where trains begin",
+        Layer::Ends => "where trains end",
+        Layer::Legend => "legend",
+    }
+}
+
+// Adds the shapes of a layer.
+fn draw(
+    alloc: Global,
+    shapes: &mut Vec<Shape>,
+    labels: &mut Labels,
+    sheet: &Sheet,
+    layer: Layer,
+) -> Result<(), AllocError> {
+    let Sheet {
+        layout,
+        names,
+        run,
+        axes,
+    } = *sheet;
+    match layer {
+        Layer::Paper => push_paper(alloc, shapes, u64::from(WIDTH), height_of(axes)),
+        Layer::Ticks => push_ticks(alloc, shapes, axes),
+        Layer::Points => push_points(alloc, shapes, axes, layout, strip(names, run)),
+        Layer::Tables => push_tables(alloc, shapes, labels, axes, &run.takeovers),
+        Layer::Stays => push_levels(alloc, shapes, axes, run, true),
+        Layer::Waits => push_levels(alloc, shapes, axes, run, false),
+        Layer::Starts => push_first_names(alloc, shapes, axes, names, run),
+        Layer::Ends => push_last_names(alloc, shapes, labels, axes, names, run),
+        Layer::Legend => push_legend(alloc, shapes, names, run),
+    }
+}
+
 // Adds a group that has no marks.
 fn push_layer(
     alloc: Global,
     groups: &mut Vec<Group>,
+    labels: &mut Labels,
+    sheet: &Sheet,
     layer: Layer,
-    title: &str,
-    shapes: Vec<Shape>,
 ) -> Result<(), AllocError>
     ensures { OnOk result (marks_in groups.new.items ≡ marks_in groups.old.items) }
 {
-    groups.push(Group::with(alloc, class_of(layer), title, shapes)?)?;
+    let mut shapes = Vec::new(alloc);
+    draw(alloc, &mut shapes, labels, sheet, layer)?;
+    groups.push(Group::with(alloc, class_of(layer), title_of(layer), shapes)?)?;
     Ok(())
 }
 
-// Adds what lies behind the trains.
-fn push_grid(
+// Adds groups that have no marks.
+fn push_layers(
     alloc: Global,
     groups: &mut Vec<Group>,
-    layout: &Layout,
-    names: &Names,
-    run: &Run,
-    axes: &Axes,
     labels: &mut Labels,
+    sheet: &Sheet,
+    layers: &[Layer],
 ) -> Result<(), AllocError>
     ensures { OnOk result (marks_in groups.new.items ≡ marks_in groups.old.items) }
 {
-    let paper = paper(alloc, u64::from(WIDTH), height_of(axes))?;
-    push_layer(alloc, groups, Layer::Paper, "paper", paper)?;
-    let ticks = tick_lines(alloc, axes)?;
-    push_layer(alloc, groups, Layer::Ticks, "ticks", ticks)?;
-    let before = strip(names, run);
-    let points = point_lines(alloc, axes, layout, before)?;
-    push_layer(alloc, groups, Layer::Points, "points", points)?;
-    let tables = table_lines(alloc, axes, &run.takeovers, labels)?;
-    push_layer(
-        alloc,
-        groups,
-        Layer::Tables,
-        "tables that take over",
-        tables,
-    )
+    for layer in layers {
+        push_layer(alloc, groups, labels, sheet, *layer)?;
+    }
+    Ok(())
+}
+
+// Adds the group of all moves.
+fn push_moves(
+    alloc: Global,
+    groups: &mut Vec<Group>,
+    axes: &Axes,
+    steps: &[Step],
+) -> Result<(), AllocError>
+    ensures { OnOk result (marks_in groups.new.items ≡ marks_in groups.old.items ++ map (mark_of axes.now) steps.now) }
+{
+    let marks = marks(alloc, axes, steps)?;
+    groups.push(Group::with(alloc, "moves", "moves", marks)?)?;
+    Ok(())
 }
 
 // All groups, from the back to the front.
-fn groups_of(
-    alloc: Global,
-    layout: &Layout,
-    names: &Names,
-    run: &Run,
-    axes: &Axes,
-    key: Vec<Shape>,
-) -> Result<Vec<Group>, AllocError>
-    ensures { IfOk result (λ groups. marks_in groups.items ≡ map (mark_of axes.now) run.now.steps.items) }
+fn groups_of(alloc: Global, sheet: &Sheet) -> Result<Vec<Group>, AllocError>
+    ensures { IfOk result (λ groups. marks_in groups.items ≡ map (mark_of sheet.now.axes.now) sheet.now.run.now.steps.items) }
 {
     let mut groups = Vec::new(alloc);
     let mut labels = Labels::new(alloc);
-    push_grid(alloc, &mut groups, layout, names, run, axes, &mut labels)?;
-    let levels = level_lines(alloc, axes, run)?;
-    push_layer(
-        alloc,
-        &mut groups,
-        Layer::Stays,
-        "trains that have arrived",
-        levels.stays,
-    )?;
-    push_layer(
-        alloc,
-        &mut groups,
-        Layer::Waits,
-        "trains that wait",
-        levels.waits,
-    )?;
-    let marks = marks(alloc, axes, &run.steps)?;
-    groups.push(Group::with(alloc, "moves", "moves", marks)?)?;
-    let starts = first_names(alloc, axes, names, run)?;
-    push_layer(
-        alloc,
-        &mut groups,
-        Layer::Starts,
-        "where trains begin",
-        starts,
-    )?;
-    let ends = last_names(alloc, axes, names, run, &mut labels)?;
-    push_layer(alloc, &mut groups, Layer::Ends, "where trains end", ends)?;
-    push_layer(alloc, &mut groups, Layer::Legend, "legend", key)?;
+    push_layers(alloc, &mut groups, &mut labels, sheet, &BEHIND)?;
+    push_moves(alloc, &mut groups, sheet.axes, &sheet.run.steps)?;
+    push_layers(alloc, &mut groups, &mut labels, sheet, &BEFORE)?;
     Ok(groups)
 }

@@ -6,8 +6,13 @@ use run_timetable::{Takeover, point_name};
 use std::alloc::{AllocError, Global};
 use svg_text::{Shape, Spot, label, line, polygon};
 
-/// Paper under a picture.
-pub(crate) fn paper(alloc: Global, width: u64, height: u64) -> Result<Vec<Shape>, AllocError> {
+/// Adds paper under a picture.
+pub(crate) fn push_paper(
+    alloc: Global,
+    shapes: &mut Vec<Shape>,
+    width: u64,
+    height: u64,
+) -> Result<(), AllocError> {
     let corners = [
         Spot { x: 0, y: 0 },
         Spot { x: width, y: 0 },
@@ -17,9 +22,8 @@ pub(crate) fn paper(alloc: Global, width: u64, height: u64) -> Result<Vec<Shape>
         },
         Spot { x: 0, y: height },
     ];
-    let mut shapes = Vec::new(alloc);
     shapes.push(polygon(alloc, &corners)?)?;
-    Ok(shapes)
+    Ok(())
 }
 
 // Powers of ten.
@@ -50,45 +54,70 @@ fn grid_step(span: u64) -> u64 {
     span
 }
 
-/// The lines of round ticks, each with its number.
-pub(crate) fn tick_lines(alloc: Global, axes: &Axes) -> Result<Vec<Shape>, AllocError> {
-    let mut shapes = Vec::new(alloc);
+/// Adds the lines of round ticks, each with its number.
+pub(crate) fn push_ticks(
+    alloc: Global,
+    shapes: &mut Vec<Shape>,
+    axes: &Axes,
+) -> Result<(), AllocError> {
     let step = grid_step(axes.span);
-    let bottom = axes.floor();
     for count in 0..13u64 {
         let tick = step.saturating_mul(count);
-        if tick > axes.span {
-            break;
+        if tick <= axes.span {
+            push_tick(alloc, shapes, axes, tick)?;
         }
-        let x = axes.x(tick);
-        let top = Spot {
-            x,
-            y: axes.ceiling(),
-        };
-        shapes.push(line(alloc, top, Spot { x, y: bottom })?)?;
-        let number = format!(in alloc; "{tick}")?;
-        let under = Spot {
-            x,
-            y: bottom.saturating_add(13),
-        };
-        shapes.push(label(alloc, under, number.as_str())?)?;
     }
     let middle = Spot {
         x: u64::from(axes.left) + u64::from(axes.width / 2),
-        y: bottom.saturating_add(28),
+        y: axes.floor().saturating_add(28),
     };
     shapes.push(label(alloc, middle, "ticks")?)?;
-    Ok(shapes)
+    Ok(())
 }
 
-/// The lines of points, each with its name, which ends so far to the left of tick 0.
-pub(crate) fn point_lines(
+// Adds the line of a tick, and its number.
+fn push_tick(
     alloc: Global,
+    shapes: &mut Vec<Shape>,
+    axes: &Axes,
+    tick: u64,
+) -> Result<(), AllocError> {
+    let x = axes.x(tick);
+    let bottom = axes.floor();
+    push_upright(alloc, shapes, axes, x)?;
+    let under = Spot {
+        x,
+        y: bottom.saturating_add(13),
+    };
+    let number = format!(in alloc; "{tick}")?;
+    shapes.push(label(alloc, under, number.as_str())?)?;
+    Ok(())
+}
+
+// Adds a line from the top of the grid to its bottom.
+fn push_upright(
+    alloc: Global,
+    shapes: &mut Vec<Shape>,
+    axes: &Axes,
+    x: u64,
+) -> Result<(), AllocError> {
+    let top = Spot {
+        x,
+        y: axes.ceiling(),
+    };
+    let bottom = Spot { x, y: axes.floor() };
+    shapes.push(line(alloc, top, bottom)?)?;
+    Ok(())
+}
+
+/// Adds the lines of points, each with its name, which ends so far to the left of tick 0.
+pub(crate) fn push_points(
+    alloc: Global,
+    shapes: &mut Vec<Shape>,
     axes: &Axes,
     layout: &Layout,
     before: u64,
-) -> Result<Vec<Shape>, AllocError> {
-    let mut shapes = Vec::new(alloc);
+) -> Result<(), AllocError> {
     for point in &axes.rows {
         let from = axes.spot(0, *point);
         let to = Spot {
@@ -102,49 +131,52 @@ pub(crate) fn point_lines(
         };
         shapes.push(label(alloc, end, point_name(layout, *point))?)?;
     }
-    Ok(shapes)
+    Ok(())
 }
 
-/// The lines of tables that take over, each with its number.
-pub(crate) fn table_lines(
+/// Adds the lines of tables that take over, each with its number.
+pub(crate) fn push_tables(
     alloc: Global,
+    shapes: &mut Vec<Shape>,
+    labels: &mut Labels,
     axes: &Axes,
     takeovers: &[Takeover],
-    labels: &mut Labels,
-) -> Result<Vec<Shape>, AllocError> {
-    let mut shapes = Vec::new(alloc);
+) -> Result<(), AllocError> {
     for takeover in takeovers {
         let x = axes.x(u64::from(takeover.tick));
-        let top = axes.ceiling();
-        let bottom = axes.floor();
-        shapes.push(line(alloc, Spot { x, y: top }, Spot { x, y: bottom })?)?;
-        let table = takeover.table;
-        let words = format!(in alloc; "table {table}")?;
-        let width = text_width(words.as_str());
-        let spots = [
-            Spot {
-                x,
-                y: top.saturating_sub(3),
-            },
-            Spot {
-                x: x.saturating_sub(width),
-                y: top.saturating_sub(3),
-            },
-            Spot {
-                x,
-                y: top.saturating_sub(15),
-            },
-            Spot {
-                x: x.saturating_sub(width),
-                y: top.saturating_sub(15),
-            },
-            Spot {
-                x,
-                y: bottom.saturating_sub(3),
-            },
-        ];
-        let spot = labels.place(&spots, width)?;
-        shapes.push(label(alloc, spot, words.as_str())?)?;
+        push_upright(alloc, shapes, axes, x)?;
+        push_table(alloc, shapes, labels, axes, x, takeover.table)?;
     }
-    Ok(shapes)
+    Ok(())
+}
+
+// Adds the number of a table that takes over.
+fn push_table(
+    alloc: Global,
+    shapes: &mut Vec<Shape>,
+    labels: &mut Labels,
+    axes: &Axes,
+    x: u64,
+    table: u32,
+) -> Result<(), AllocError> {
+    let words = format!(in alloc; "table {table}")?;
+    let width = text_width(words.as_str());
+    let spot = labels.place(&table_spots(axes, x, width), width)?;
+    shapes.push(label(alloc, spot, words.as_str())?)?;
+    Ok(())
+}
+
+// Where the number of a table may stand: over its line, on either side, or at the line's end.
+fn table_spots(axes: &Axes, x: u64, width: u64) -> [Spot; 5] {
+    let near = axes.ceiling().saturating_sub(3);
+    let far = axes.ceiling().saturating_sub(15);
+    let end = axes.floor().saturating_sub(3);
+    let before = x.saturating_sub(width);
+    [
+        Spot { x, y: near },
+        Spot { x: before, y: near },
+        Spot { x, y: far },
+        Spot { x: before, y: far },
+        Spot { x, y: end },
+    ]
 }

@@ -85,21 +85,38 @@ impl Labels {
 
     /// The first of some spots at which a label keeps clear of all, or else the first of all.
     pub(crate) fn place(&mut self, spots: &[Spot], width: u64) -> Result<Spot, AllocError> {
-        let clear = spots
-            .iter()
-            .find(|spot| self.is_clear(&area_at(spot, width)));
-        let spot = match clear {
-            Some(spot) => *spot,
-            None => spots.first().copied().unwrap_or(Spot { x: 0, y: 0 }),
-        };
+        let first = spots.first().copied().unwrap_or(Spot { x: 0, y: 0 });
+        let spot = self.clear_spot(spots, width).unwrap_or(first);
         self.areas.push(area_at(&spot, width))?;
         Ok(spot)
     }
 
-    fn is_clear(&self, area: &Area) -> bool {
-        let labels = self.areas.iter().any(|other| other.meets(area));
-        let lines = self.lines.iter().any(|line| line.meets(area));
-        !labels && !lines
+    fn clear_spot(&self, spots: &[Spot], width: u64) -> Option<Spot> {
+        for spot in spots {
+            let area = area_at(spot, width);
+            if !self.meets_label(&area) && !self.meets_line(&area) {
+                return Some(*spot);
+            }
+        }
+        None
+    }
+
+    fn meets_label(&self, area: &Area) -> bool {
+        for other in &self.areas {
+            if other.meets(area) {
+                return true;
+            }
+        }
+        false
+    }
+
+    fn meets_line(&self, area: &Area) -> bool {
+        for line in &self.lines {
+            if line.meets(area) {
+                return true;
+            }
+        }
+        false
     }
 }
 

@@ -18,43 +18,77 @@ const LINE: u64 = 16;
 
 const SAMPLE: u64 = 24;
 
-/// The lines and names of all trains, and what the lines mean; and how far down the legend goes.
-pub(crate) fn legend(
-    alloc: Global,
-    names: &Names,
-    run: &Run,
-) -> Result<(Vec<Shape>, u64), AllocError> {
-    let mut shapes = Vec::new(alloc);
-    let mut at = Spot { x: LEFT, y: TOP };
-    for train in 0..run.trains() {
-        let name = train_name(names, train);
-        let end = at
-            .x
-            .saturating_add(SAMPLE + 6)
-            .saturating_add(text_width(name));
-        if end > u64::from(WIDTH) {
-            at = Spot {
-                x: LEFT,
-                y: at.y.saturating_add(LINE),
-            };
-        }
-        push_entry(alloc, &mut shapes, at, train, name)?;
-        at.x = at
-            .x
-            .saturating_add(SAMPLE + 22)
-            .saturating_add(text_width(name));
+// Where the first entry stands.
+const FIRST: Spot = Spot { x: LEFT, y: TOP };
+
+// Where an entry with a name stands that comes next: at a spot, or in a new line if it has no room there.
+fn entry_spot(at: Spot, name: &str) -> Spot {
+    let end = at
+        .x
+        .saturating_add(SAMPLE + 6)
+        .saturating_add(text_width(name));
+    if end > u64::from(WIDTH) {
+        under(at)
+    } else {
+        at
     }
-    let under = Spot {
+}
+
+// Where the next line begins.
+fn under(at: Spot) -> Spot {
+    Spot {
         x: LEFT,
         y: at.y.saturating_add(LINE),
-    };
+    }
+}
+
+// Behind an entry with a name.
+fn behind(at: Spot, name: &str) -> Spot {
+    Spot {
+        x: at
+            .x
+            .saturating_add(SAMPLE + 22)
+            .saturating_add(text_width(name)),
+        y: at.y,
+    }
+}
+
+// Where the legend's last line begins, which says what the lines mean.
+fn last_line(names: &Names, run: &Run) -> Spot {
+    let mut at = FIRST;
+    for train in 0..run.trains() {
+        let name = train_name(names, train);
+        at = behind(entry_spot(at, name), name);
+    }
+    under(at)
+}
+
+/// How far down the legend goes.
+pub(crate) fn legend_end(names: &Names, run: &Run) -> u64 {
+    last_line(names, run).y
+}
+
+/// Adds the lines and names of all trains, and what the lines mean.
+pub(crate) fn push_legend(
+    alloc: Global,
+    shapes: &mut Vec<Shape>,
+    names: &Names,
+    run: &Run,
+) -> Result<(), AllocError> {
+    let mut at = FIRST;
+    for train in 0..run.trains() {
+        let name = train_name(names, train);
+        let spot = entry_spot(at, name);
+        push_entry(alloc, shapes, spot, train, name)?;
+        at = behind(spot, name);
+    }
     let words = if run.takeovers.is_empty() {
         "sloped: it travels; level: it waits; thin: it has arrived"
     } else {
         "sloped: it travels; level: it waits; thin: it has arrived; dotted: a table takes over"
     };
-    shapes.push(label(alloc, under, words)?)?;
-    Ok((shapes, under.y))
+    shapes.push(label(alloc, under(at), words)?)?;
+    Ok(())
 }
 
 // Adds the sample of a train's line, and its name.

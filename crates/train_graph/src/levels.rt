@@ -1,69 +1,72 @@
 // Trains that stand, and their names.
 use crate::Axes;
 use crate::labels::{Labels, text_width};
-use crate::marks::{train_class, train_line};
+use crate::marks::{of_train, train_line};
 use rail_model::Names;
 use run_timetable::{Row, Run, Step, rows_of, train_name};
 use std::alloc::{AllocError, Global};
 use svg_text::{Shape, Spot, label};
 
-/// Level lines: of trains that wait, and of those that have arrived.
-#[derive(Drop)]
-pub(crate) struct Levels {
-    pub waits: Vec<Shape>,
-    pub stays: Vec<Shape>,
+/// Adds the level lines of all trains: where they wait, or where they stay.
+pub(crate) fn push_levels(
+    alloc: Global,
+    shapes: &mut Vec<Shape>,
+    axes: &Axes,
+    run: &Run,
+    stay: bool,
+) -> Result<(), AllocError> {
+    for train in 0..run.trains() {
+        push_train_levels(alloc, shapes, axes, run, train, stay)?;
+    }
+    Ok(())
 }
 
-/// The level lines of all trains.
-pub(crate) fn level_lines(alloc: Global, axes: &Axes, run: &Run) -> Result<Levels, AllocError> {
-    let mut levels = Levels {
-        waits: Vec::new(alloc),
-        stays: Vec::new(alloc),
-    };
-    for train in 0..run.trains() {
-        for row in &rows_of(alloc, &run.steps, train, run.start(train))? {
-            push_level(alloc, axes, &mut levels, row)?;
+// Adds the level lines of a train.
+fn push_train_levels(
+    alloc: Global,
+    shapes: &mut Vec<Shape>,
+    axes: &Axes,
+    run: &Run,
+    train: u32,
+    stay: bool,
+) -> Result<(), AllocError> {
+    let rows = rows_of(alloc, &run.steps, train, run.start(train))?;
+    for row in &rows {
+        if row.leaves.is_none() == stay {
+            push_level(alloc, shapes, axes, row)?;
         }
     }
-    Ok(levels)
+    Ok(())
 }
 
 // Adds the line of a train at a point, if it stands there.
 fn push_level(
     alloc: Global,
+    shapes: &mut Vec<Shape>,
     axes: &Axes,
-    levels: &mut Levels,
     row: &Row,
 ) -> Result<(), AllocError> {
-    let Some(point) = row.point else {
-        return Ok(());
-    };
     let from = row.arrives.unwrap_or(0);
     let until = row.leaves.unwrap_or(axes.span);
-    if until <= from {
-        return Ok(());
+    match row.point {
+        Some(point) if from < until => {
+            let from = axes.spot(from, point);
+            let to = axes.spot(until, point);
+            shapes.push(train_line(alloc, row.train, from, to)?)?;
+            Ok(())
+        }
+        _ => Ok(()),
     }
-    let shape = train_line(
-        alloc,
-        row.train,
-        axes.spot(from, point),
-        axes.spot(until, point),
-    )?;
-    match row.leaves {
-        Some(_) => levels.waits.push(shape)?,
-        None => levels.stays.push(shape)?,
-    }
-    Ok(())
 }
 
-/// The names of the trains where they begin: left of the picture, each in its own row.
-pub(crate) fn first_names(
+/// Adds the names of the trains where they begin: left of the picture, each in its own row.
+pub(crate) fn push_first_names(
     alloc: Global,
+    shapes: &mut Vec<Shape>,
     axes: &Axes,
     names: &Names,
     run: &Run,
-) -> Result<Vec<Shape>, AllocError> {
-    let mut shapes = Vec::new(alloc);
+) -> Result<(), AllocError> {
     for train in 0..run.trains() {
         if let Some(point) = run.start(train) {
             let at = axes.spot(0, point);
@@ -71,47 +74,68 @@ pub(crate) fn first_names(
                 x: at.x.saturating_sub(6),
                 y: at.y.saturating_add(4),
             };
-            shapes.push(train_label(alloc, train, spot, train_name(names, train))?)?;
+            push_name(alloc, shapes, train, spot, train_name(names, train))?;
         }
     }
-    Ok(shapes)
+    Ok(())
 }
 
-/// The names of the trains where they end: right of the picture if they stay, or else where they leave.
-pub(crate) fn last_names(
+// Adds the name of a train.
+fn push_name(
     alloc: Global,
+    shapes: &mut Vec<Shape>,
+    train: u32,
+    spot: Spot,
+    name: &str,
+) -> Result<(), AllocError> {
+    let words = label(alloc, spot, name)?;
+    shapes.push(of_train(alloc, train, words)?)?;
+    Ok(())
+}
+
+/// Adds the names of the trains where they end: right of the picture if they stay, or else where they leave.
+pub(crate) fn push_last_names(
+    alloc: Global,
+    shapes: &mut Vec<Shape>,
+    labels: &mut Labels,
     axes: &Axes,
     names: &Names,
     run: &Run,
-    labels: &mut Labels,
-) -> Result<Vec<Shape>, AllocError> {
-    for step in &run.steps {
+) -> Result<(), AllocError> {
+    push_steps(labels, axes, &run.steps)?;
+    for train in 0..run.trains() {
+        let name = train_name(names, train);
+        let spot = last_spot(labels, axes, run, train, text_width(name))?;
+        push_name(alloc, shapes, train, spot, name)?;
+    }
+    Ok(())
+}
+
+// Adds the lines of the steps, which labels keep clear of.
+fn push_steps(labels: &mut Labels, axes: &Axes, steps: &[Step]) -> Result<(), AllocError> {
+    for step in steps {
         let end = Spot {
             x: axes.x(step.arrival()),
             y: axes.target(step.from, step.to),
         };
         labels.push_line(axes.spot(u64::from(step.tick), step.from), end)?;
     }
-    let mut shapes = Vec::new(alloc);
-    for train in 0..run.trains() {
-        let name = train_name(names, train);
-        let width = text_width(name);
-        let last = run.steps.iter().rev().find(|step| step.train == train);
-        let spot = match last {
-            Some(step) => labels.place(&end_spots(axes, step, width), width)?,
-            None => stay_spot(axes, run.start(train).unwrap_or(0)),
-        };
-        shapes.push(train_label(alloc, train, spot, name)?)?;
-    }
-    Ok(shapes)
+    Ok(())
 }
 
-// Words of a train.
-fn train_label(alloc: Global, train: u32, spot: Spot, words: &str) -> Result<Shape, AllocError> {
-    let class = train_class(alloc, train)?;
-    let mut shape = label(alloc, spot, words)?;
-    shape.set(alloc, "class", class.as_str())?;
-    Ok(shape)
+// Where the name of a train stands at the end of its way.
+fn last_spot(
+    labels: &mut Labels,
+    axes: &Axes,
+    run: &Run,
+    train: u32,
+    width: u64,
+) -> Result<Spot, AllocError> {
+    let last = run.steps.iter().rev().find(|step| step.train == train);
+    match last {
+        Some(step) => labels.place(&end_spots(axes, step, width), width),
+        None => Ok(stay_spot(axes, run.start(train).unwrap_or(0))),
+    }
 }
 
 // Where the name of a train stands that stays at a point.

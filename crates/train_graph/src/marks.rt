@@ -1,18 +1,20 @@
 // The marks of moves.
-ghost use Rattle.std.specs.Prelude.{◌≡◌, ◌++◌, ◌∷◌, [], IfOk, codes, decimal, map, string_bytes};
+ghost use Rattle.std.specs.Prelude.{◌≡◌, IfOk, map};
 ghost use Rattle.svg_text.specs.Shapes.{line_of};
-ghost use Rattle.train_graph.specs.Marks.{mark_of, of_train};
+ghost use Rattle.train_graph.specs.Marks.{mark_of, of_train as marked};
 
 use crate::Axes;
 use run_timetable::Step;
 use std::alloc::{AllocError, Global};
 use svg_text::{Shape, Spot, line};
 
-/// The class of all that belongs to a train.
-pub(crate) fn train_class(alloc: Global, train: u32) -> Result<String, AllocError>
-    ensures { IfOk result (λ class. string_bytes class ≡ codes "t" ++ decimal train) }
+/// A shape with the class of its train.
+pub(crate) fn of_train(alloc: Global, train: u32, mut shape: Shape) -> Result<Shape, AllocError>
+    ensures { IfOk result (λ made. made ≡ marked train shape) }
 {
-    format!(in alloc; "t{train}")
+    let class = format!(in alloc; "t{train}")?;
+    shape.set(alloc, "class", class.as_str())?;
+    Ok(shape)
 }
 
 /// A line of a train.
@@ -22,12 +24,9 @@ pub(crate) fn train_line(
     from: Spot,
     to: Spot,
 ) -> Result<Shape, AllocError>
-    ensures { IfOk result (λ shape. shape ≡ of_train train (line_of from to)) }
+    ensures { IfOk result (λ shape. shape ≡ marked train (line_of from to)) }
 {
-    let class = train_class(alloc, train)?;
-    let mut shape = line(alloc, from, to)?;
-    shape.set(alloc, "class", class.as_str())?;
-    Ok(shape)
+    of_train(alloc, train, line(alloc, from, to)?)
 }
 
 // The mark of a step.

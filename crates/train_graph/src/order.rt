@@ -38,17 +38,38 @@ pub(crate) fn rows_of(alloc: Global, run: &Run, chosen: Option<u32>) -> Result<V
 fn depths_of(alloc: Global, run: &Run, chosen: Option<u32>) -> Result<Vec<Depth>, AllocError> {
     let mut depths = Vec::new(alloc);
     let first = chosen.unwrap_or(longest(run));
-    push_way(alloc, &mut depths, &way_of(alloc, run, first)?)?;
-    for train in 0..run.trains() {
-        let way = way_of(alloc, run, train)?;
-        if has_known(&depths, &way) {
-            push_way(alloc, &mut depths, &way)?;
-        }
-    }
-    for train in 0..run.trains() {
-        push_way(alloc, &mut depths, &way_of(alloc, run, train)?)?;
-    }
+    push_train(alloc, &mut depths, run, first, false)?;
+    push_trains(alloc, &mut depths, run, true)?;
+    push_trains(alloc, &mut depths, run, false)?;
     Ok(depths)
+}
+
+// Adds the ways of all trains, or only of those with a known point.
+fn push_trains(
+    alloc: Global,
+    depths: &mut Vec<Depth>,
+    run: &Run,
+    known: bool,
+) -> Result<(), AllocError> {
+    for train in 0..run.trains() {
+        push_train(alloc, depths, run, train, known)?;
+    }
+    Ok(())
+}
+
+// Adds the way of a train, or only a way with a known point.
+fn push_train(
+    alloc: Global,
+    depths: &mut Vec<Depth>,
+    run: &Run,
+    train: u32,
+    known: bool,
+) -> Result<(), AllocError> {
+    let mut way = way_of(alloc, run, train)?;
+    if known && !has_known(depths, &way) {
+        return Ok(());
+    }
+    push_way(depths, &mut way)
 }
 
 // The train with the most steps, the first of several.
@@ -83,32 +104,46 @@ fn way_of(alloc: Global, run: &Run, train: u32) -> Result<Vec<u32>, AllocError> 
 
 // How deep a point lies, if that is known.
 fn depth_of(depths: &[Depth], point: u32) -> Option<u64> {
-    let known = depths.iter().find(|depth| depth.point == point)?;
-    Some(known.depth)
+    for known in depths {
+        if known.point == point {
+            return Some(known.depth);
+        }
+    }
+    None
 }
 
 // Whether it is known how deep some point of a way lies.
 fn has_known(depths: &[Depth], way: &[u32]) -> bool {
-    way.iter().any(|point| depth_of(depths, *point).is_some())
+    for point in way {
+        if depth_of(depths, *point).is_some() {
+            return true;
+        }
+    }
+    false
 }
 
 // Adds the points of a way: those behind a known point, and then, from its end, those before one.
-fn push_way(alloc: Global, depths: &mut Vec<Depth>, way: &[u32]) -> Result<(), AllocError> {
+fn push_way(depths: &mut Vec<Depth>, way: &mut [u32]) -> Result<(), AllocError> {
     if !has_known(depths, way) {
         push_fresh(depths, way)?;
     }
     push_along(depths, way)?;
-    let mut back = Vec::from_slice(alloc, way)?;
-    back.reverse();
-    push_along(depths, &back)
+    way.reverse();
+    push_along(depths, way)
+}
+
+// Below all points so far. One of them lies at the first depth or below it, if there is any.
+fn next_depth(depths: &[Depth]) -> u64 {
+    let mut next = FIRST;
+    for known in depths {
+        next = known.depth.saturating_add(STEP).max(next);
+    }
+    next
 }
 
 // Adds the points of a way without known ones below all others, up to the first that comes again.
 fn push_fresh(depths: &mut Vec<Depth>, way: &[u32]) -> Result<(), AllocError> {
-    let mut depth = match depths.iter().map(|known| known.depth).max() {
-        Some(deepest) => deepest.saturating_add(STEP),
-        None => FIRST,
-    };
+    let mut depth = next_depth(depths);
     for point in way {
         if depth_of(depths, *point).is_some() {
             break;

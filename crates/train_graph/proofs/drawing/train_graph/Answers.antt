@@ -1,5 +1,4 @@
-use Rattle.std.proofs.Common.{◌≡◌, ◌∙◌, ap}
-use Rattle.svg_text.specs.Tree.{Picture}
+use Rattle.std.proofs.Common.{◌∙◌, ap}
 use Rattle.train_graph.specs.Marks.{marks_in}
 use Rattle.train_graph.proofs.drawing.train_graph.Goals as goal
 
@@ -7,5 +6,5 @@ pub returns : goal.returns
 returns c = record {
   axes = c.in_ok-axes.axes;
   span = c.in_ok-axes.ensures;
-  marks = ap (λ (p : Picture). marks_in p.groups) c.in_ok-picture.ensures ∙ c.in_ok-groups.ensures;
+  marks = ap marks_in c.in_ok-picture.ensures ∙ c.in_ok-groups.ensures;
 }
