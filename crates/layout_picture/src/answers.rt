@@ -25,29 +25,42 @@ fn train_name(names: &Names, train: u32) -> &str {
     }
 }
 
-// Why a state isn't legal.
-fn cause(
-    alloc: Global,
+// The name of a point.
+fn point_name(doc: &Doc, point: u32) -> &str {
+    match layout_of(doc).points().get(point as usize) {
+        Some(point) => point.name(),
+        None => "",
+    }
+}
+
+// The last place of a train.
+fn last_place(table: &Table, train: u32) -> u32 {
+    if train < trains_of(table) {
+        last_of(table, train)
+    } else {
+        0
+    }
+}
+
+// Adds why a state isn't legal.
+fn write_cause(
+    words: &mut String,
     doc: &Doc,
     table: &Table,
     state: &State,
     illegal: Illegal,
-) -> Result<String, AllocError> {
+) -> Result<(), AllocError> {
     let names = names_of(doc);
     match illegal {
         Illegal::Length { count } => {
             let trains = names.trains();
-            format!(in alloc; "there are {trains} trains, and places for {count}")
+            write!(words, "there are {trains} trains, and places for {count}")
         }
         Illegal::Range { train } => {
             let name = train_name(names, train);
             let place = state.as_slice().get(train as usize).copied().unwrap_or(0);
-            let last = if train < trains_of(table) {
-                last_of(table, train)
-            } else {
-                0
-            };
-            format!(in alloc; "{name} has no place {place}: its last one is {last}")
+            let last = last_place(table, train);
+            write!(words, "{name} has no place {place}: its last one is {last}")
         }
         Illegal::Clash {
             first,
@@ -56,33 +69,36 @@ fn cause(
         } => {
             let first = train_name(names, first);
             let second = train_name(names, second);
-            let point = match layout_of(doc).points().get(point as usize) {
-                Some(point) => point.name(),
-                None => "",
-            };
-            format!(in alloc; "{first} and {second} are both at {point}")
+            let point = point_name(doc, point);
+            write!(words, "{first} and {second} are both at {point}")
         }
         Illegal::Over {
             section,
             count,
             limit,
-        } => { format!(in alloc; "section {section} has {count}, above its limit {limit}") }
+        } => write!(
+            words,
+            "section {section} has {count}, above its limit {limit}"
+        ),
     }
+}
+
+// Adds the places of a state, or that they are the start.
+fn write_places(title: &mut String, state: &State, start: &State) -> Result<(), AllocError> {
+    if state.as_slice() == start.as_slice() {
+        return title.push_str("their start");
+    }
+    for (train, place) in state.as_slice().iter().enumerate() {
+        title.push_str(if train == 0 { "places " } else { "," })?;
+        write!(title, "{place}")?;
+    }
+    Ok(())
 }
 
 // The title of a picture.
 fn title_of(alloc: Global, table: u32, state: &State, start: &State) -> Result<String, AllocError> {
     let mut title = format!(in alloc; "Layout, table {table}: trains at ")?;
-    if state.as_slice() == start.as_slice() {
-        title.push_str("their start")?;
-        return Ok(title);
-    }
-    title.push_str("places ")?;
-    let mut comma = "";
-    for place in state.as_slice() {
-        write!(title, "{comma}{place}")?;
-        comma = ",";
-    }
+    write_places(&mut title, state, start)?;
     Ok(title)
 }
 
@@ -115,7 +131,8 @@ pub fn layout_picture(
             Ok(Drawn::Picture { picture })
         }
         Err(illegal) => {
-            let words = cause(alloc, doc, table, state, illegal)?;
+            let mut words = String::new(alloc);
+            write_cause(&mut words, doc, table, state, illegal)?;
             Ok(Drawn::Refused { words })
         }
     }

@@ -1,5 +1,6 @@
 // Arrows that head from one spot to another.
 
+use crate::frame::shifted;
 use crate::tracks::difference;
 use std::alloc::{AllocError, Global};
 use svg_text::{Shape, Spot, polygon};
@@ -10,6 +11,15 @@ pub(crate) struct Heading {
     right: i64,
     down: i64,
 }
+
+/// A corner of a mark: how far ahead of its middle, and how far to the right, in sixths of its size.
+type Corner = (i64, i64);
+
+/// The corners of an arrow.
+pub(crate) const ARROW: [Corner; 4] = [(3, 0), (-2, 2), (-1, 0), (-2, -2)];
+
+/// The corners of a square, for a train that has arrived.
+pub(crate) const SQUARE: [Corner; 4] = [(2, 2), (-2, 2), (-2, -2), (2, -2)];
 
 impl Heading {
     /// To the right.
@@ -28,17 +38,19 @@ impl Heading {
             .saturating_mul(right)
             .saturating_add(down.saturating_mul(down));
         let length = difference(square.unsigned_abs().isqrt(), 0);
-        Heading {
-            right: right
-                .saturating_mul(1000)
-                .checked_div(length)
-                .unwrap_or(1000),
-            down: down.saturating_mul(1000).checked_div(length).unwrap_or(0),
+        match (
+            right.saturating_mul(1000).checked_div(length),
+            down.saturating_mul(1000).checked_div(length),
+        ) {
+            (Some(right), Some(down)) => Heading { right, down },
+            _ => Heading::east(),
         }
     }
 
-    // The spot so far ahead of another one, and so far to its right.
-    fn corner(&self, at: Spot, ahead: i64, aside: i64) -> Spot {
+    // The corner of a mark of this size at a spot.
+    fn corner(&self, at: Spot, size: i64, corner: Corner) -> Spot {
+        let ahead = size.saturating_mul(corner.0) / 6;
+        let aside = size.saturating_mul(corner.1) / 6;
         let right = self
             .right
             .saturating_mul(ahead)
@@ -47,37 +59,24 @@ impl Heading {
             .down
             .saturating_mul(ahead)
             .saturating_add(self.right.saturating_mul(aside));
-        Spot {
-            x: at.x.saturating_add_signed(right / 1000),
-            y: at.y.saturating_add_signed(down / 1000),
-        }
+        shifted(at, right / 1000, down / 1000)
     }
 
-    /// An arrow at a spot.
-    pub(crate) fn arrow(&self, alloc: Global, at: Spot, size: i64) -> Result<Shape, AllocError> {
-        let half = size / 3;
-        polygon(
-            alloc,
-            &[
-                self.corner(at, size / 2, 0),
-                self.corner(at, half.saturating_neg(), half),
-                self.corner(at, (size / 6).saturating_neg(), 0),
-                self.corner(at, half.saturating_neg(), half.saturating_neg()),
-            ],
-        )
-    }
-
-    /// A square at a spot, for a train that has arrived.
-    pub(crate) fn stop(&self, alloc: Global, at: Spot, size: i64) -> Result<Shape, AllocError> {
-        let half = size / 3;
-        polygon(
-            alloc,
-            &[
-                self.corner(at, half, half),
-                self.corner(at, half.saturating_neg(), half),
-                self.corner(at, half.saturating_neg(), half.saturating_neg()),
-                self.corner(at, half, half.saturating_neg()),
-            ],
-        )
+    /// A mark at a spot.
+    pub(crate) fn mark(
+        &self,
+        alloc: Global,
+        at: Spot,
+        size: i64,
+        corners: [Corner; 4],
+    ) -> Result<Shape, AllocError> {
+        let [first, second, third, fourth] = corners;
+        let spots = [
+            self.corner(at, size, first),
+            self.corner(at, size, second),
+            self.corner(at, size, third),
+            self.corner(at, size, fourth),
+        ];
+        polygon(alloc, &spots)
     }
 }

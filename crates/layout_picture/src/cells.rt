@@ -10,6 +10,10 @@ pub(crate) struct Cell {
 }
 
 impl Cell {
+    pub(crate) fn new(column: u32, row: u32) -> Cell {
+        Cell { column, row }
+    }
+
     // Whether it is the cell where a point is placed.
     fn is(&self, placed: Option<Cell>) -> bool {
         match placed {
@@ -19,13 +23,28 @@ impl Cell {
     }
 }
 
-/// The first and the last column and row in use.
+/// The cells in the first column and row, and in the last column and row, that are in use.
 #[derive(Clone, Copy)]
 pub(crate) struct Edges {
-    pub(crate) left: u32,
-    pub(crate) right: u32,
-    pub(crate) top: u32,
-    pub(crate) bottom: u32,
+    pub(crate) first: Cell,
+    pub(crate) last: Cell,
+}
+
+impl Edges {
+    /// The edges of an empty grid.
+    pub(crate) const NONE: Edges = Edges {
+        first: Cell { column: 0, row: 0 },
+        last: Cell { column: 0, row: 0 },
+    };
+
+    // Edges that reach to a cell, too.
+    fn reaching(self, cell: Cell) -> Edges {
+        let Edges { first, last } = self;
+        Edges {
+            first: Cell::new(first.column.min(cell.column), first.row.min(cell.row)),
+            last: Cell::new(last.column.max(cell.column), last.row.max(cell.row)),
+        }
+    }
 }
 
 /// The cell of each point that has been placed.
@@ -37,10 +56,7 @@ pub(crate) struct Cells {
 impl Cells {
     /// A grid for so many points, with none placed.
     pub(crate) fn new(alloc: Global, points: u32) -> Result<Cells, AllocError> {
-        let mut items = Vec::new(alloc);
-        for _ in 0..points {
-            items.push(None)?;
-        }
+        let items = vec![in alloc; None; points as usize]?;
         Ok(Cells { items })
     }
 
@@ -76,7 +92,11 @@ impl Cells {
         let mut edges: Option<Edges> = None;
         for placed in &self.items {
             if let Some(cell) = placed {
-                edges = Some(reaching(edges, *cell));
+                let reached = edges.unwrap_or(Edges {
+                    first: *cell,
+                    last: *cell,
+                });
+                edges = Some(reached.reaching(*cell));
             }
         }
         edges
@@ -91,23 +111,5 @@ impl Cells {
                 }
             }
         }
-    }
-}
-
-// Edges that reach to a cell.
-fn reaching(edges: Option<Edges>, cell: Cell) -> Edges {
-    match edges {
-        Some(edges) => Edges {
-            left: edges.left.min(cell.column),
-            right: edges.right.max(cell.column),
-            top: edges.top.min(cell.row),
-            bottom: edges.bottom.max(cell.row),
-        },
-        None => Edges {
-            left: cell.column,
-            right: cell.column,
-            top: cell.row,
-            bottom: cell.row,
-        },
     }
 }

@@ -8,6 +8,11 @@ use state_sentences::Scene;
 /// The colour of a circle.
 pub(crate) const RED: &str = "#d00000";
 
+// The colours of the other trains.
+const COLOURS: [&str; 8] = [
+    "#0b5fa5", "#b35900", "#00704f", "#6b2fa0", "#1f2933", "#8a6d00", "#a1246e", "#3a7d8c",
+];
+
 /// The train at a train's next point, if that is why it may not move.
 pub(crate) fn waits_for(scene: &Scene, train: u32) -> Option<u32>
     requires { train < trains scene.now.table.now }
@@ -43,14 +48,5 @@ pub(crate) fn colour_of(scene: &Scene, train: u32) -> &'static str
     if is_in_circle(scene, train) {
         return RED;
     }
-    match train % 8 {
-        0 => "#0b5fa5",
-        1 => "#b35900",
-        2 => "#00704f",
-        3 => "#6b2fa0",
-        4 => "#1f2933",
-        5 => "#8a6d00",
-        6 => "#a1246e",
-        _ => "#3a7d8c",
-    }
+    COLOURS[train as usize % 8]
 }

@@ -8,43 +8,28 @@ use rail_model::{Layout, Link, Mission, Table, points_of};
 use std::alloc::{AllocError, Global};
 
 // Places the routes that have a point that is placed.
-fn place_begun(alloc: Global, cells: &mut Cells, missions: &[Mission]) -> Result<(), AllocError> {
+fn place_begun(cells: &mut Cells, missions: &[Mission]) {
     for mission in missions {
         if is_begun(cells, mission.as_slice()) {
-            place_route(alloc, cells, mission.as_slice())?;
+            place_route(cells, mission.as_slice());
         }
     }
-    Ok(())
 }
 
 // Places the first route that has no point that is placed.
-fn place_unbegun(alloc: Global, cells: &mut Cells, missions: &[Mission]) -> Result<(), AllocError> {
+fn place_unbegun(cells: &mut Cells, missions: &[Mission]) {
     for mission in missions {
         if !is_begun(cells, mission.as_slice()) {
-            return place_route(alloc, cells, mission.as_slice());
+            return place_route(cells, mission.as_slice());
         }
     }
-    Ok(())
 }
 
 // Places the routes that lead on from what is placed, one after the other.
-fn place_joined(alloc: Global, cells: &mut Cells, missions: &[Mission]) -> Result<(), AllocError> {
+fn place_joined(cells: &mut Cells, missions: &[Mission]) {
     for _ in missions {
-        place_begun(alloc, cells, missions)?;
+        place_begun(cells, missions);
     }
-    Ok(())
-}
-
-fn place_missions(
-    alloc: Global,
-    cells: &mut Cells,
-    missions: &[Mission],
-) -> Result<(), AllocError> {
-    for _ in missions {
-        place_joined(alloc, cells, missions)?;
-        place_unbegun(alloc, cells, missions)?;
-    }
-    Ok(())
 }
 
 // The point that a link joins with another one.
@@ -81,13 +66,7 @@ fn place_beside(cells: &mut Cells, layout: &Layout, point: u32, neighbour: u32, 
     } else {
         cell.column.saturating_add(1)
     };
-    let free = free_cell(
-        cells,
-        Cell {
-            column,
-            row: cell.row,
-        },
-    );
+    let free = free_cell(cells, Cell::new(column, cell.row));
     cells.put(point, free);
 }
 
@@ -96,16 +75,11 @@ fn place_end(cells: &mut Cells, layout: &Layout, link: &Link) -> bool {
     let first = link.first();
     let second = link.second();
     match (cells.at(first), cells.at(second)) {
-        (Some(cell), None) => {
-            place_beside(cells, layout, second, first, cell);
-            true
-        }
-        (None, Some(cell)) => {
-            place_beside(cells, layout, first, second, cell);
-            true
-        }
-        _ => false,
+        (Some(cell), None) => place_beside(cells, layout, second, first, cell),
+        (None, Some(cell)) => place_beside(cells, layout, first, second, cell),
+        _ => return false,
     }
+    true
 }
 
 // Places points that are linked with placed ones; says whether there were some.
@@ -129,24 +103,17 @@ fn place_reached(cells: &mut Cells, layout: &Layout) {
 // The first cell of a row below all others.
 fn cell_below(cells: &Cells) -> Cell {
     match cells.edges() {
-        Some(edges) => Cell {
-            column: edges.left,
-            row: edges.bottom.saturating_add(1),
-        },
-        None => Cell {
-            column: MIDDLE,
-            row: MIDDLE,
-        },
+        Some(edges) => Cell::new(edges.first.column, edges.last.row.saturating_add(1)),
+        None => Cell::new(MIDDLE, MIDDLE),
     }
 }
 
 // The next cell of a row, or the first of the next row.
 fn cell_after(cells: &Cells, cell: Cell) -> Cell {
     match cells.edges() {
-        Some(edges) if cell.column < edges.right => Cell {
-            column: cell.column.saturating_add(1),
-            row: cell.row,
-        },
+        Some(edges) if cell.column < edges.last.column => {
+            Cell::new(cell.column.saturating_add(1), cell.row)
+        }
         _ => cell_below(cells),
     }
 }
@@ -187,7 +154,10 @@ pub(crate) fn place_all(
     let missions = table.missions().as_slice();
     let mut cells = Cells::new(alloc, points_of(layout))?;
     place_spine(alloc, &mut cells, layout, missions)?;
-    place_missions(alloc, &mut cells, missions)?;
+    for _ in missions {
+        place_joined(&mut cells, missions);
+        place_unbegun(&mut cells, missions);
+    }
     place_reached(&mut cells, layout);
     place_apart(&mut cells, layout);
     Ok(cells)

@@ -2,7 +2,11 @@
 ghost use Rattle.std.specs.Prelude.{◌≡◌, IfOk, length};
 
 use crate::cells::{Cell, Cells, Edges};
+use crate::filling::place_all;
+use crate::insides::insides_of;
+use crate::straightening::straighten;
 use rail_model::{Layout, Names, points_of};
+use state_sentences::Scene;
 use std::alloc::{AllocError, Global};
 use svg_text::Spot;
 
@@ -12,10 +16,12 @@ const WIDTH: u64 = 800;
 /// How far the first column is from the left.
 const MARGIN: u64 = 44;
 
-/// Where each point is, and how much room there is.
+/// Where each point is, in which sections, and how much room there is.
 #[derive(Drop)]
 pub(crate) struct Frame {
     pub(crate) spots: Vec<Spot>,
+    /// For each section the points that are in it.
+    pub(crate) insides: Vec<Vec<bool>>,
     pub(crate) grid: Grid,
 }
 
@@ -35,25 +41,31 @@ pub(crate) struct Grid {
     pub(crate) foot: u64,
 }
 
-// How many letters the longest names of points and of trains have.
+/// What is drawn: a layout and the trains of a scene, in a frame.
 #[derive(Clone, Copy)]
-struct Letters {
-    points: u64,
-    trains: u64,
+pub(crate) struct View<'a> {
+    pub(crate) alloc: Global,
+    pub(crate) layout: &'a Layout,
+    pub(crate) scene: &'a Scene<'a>,
+    pub(crate) frame: &'a Frame,
 }
 
-fn letters_of(layout: &Layout, names: &Names) -> Letters {
-    let mut letters = Letters {
-        points: 0,
-        trains: 0,
-    };
+// How many letters the longest name of a point has.
+fn point_letters(layout: &Layout) -> u64 {
+    let mut most: u64 = 0;
     for point in layout.points() {
-        letters.points = letters.points.max(point.name().len() as u64);
+        most = most.max(point.name().len() as u64);
     }
+    most
+}
+
+// How many letters the longest name of a train has.
+fn train_letters(names: &Names) -> u64 {
+    let mut most: u64 = 0;
     for train in 0..names.trains().min(32) as u32 {
-        letters.trains = letters.trains.max(names.train(train).len() as u64);
+        most = most.max(names.train(train).len() as u64);
     }
-    letters
+    most
 }
 
 // How wide a name of so many letters is.
@@ -61,9 +73,13 @@ fn width_of(letters: u64) -> u64 {
     letters.saturating_mul(7).saturating_add(8)
 }
 
-// How far a tilted name of so many letters reaches up or down, and to the side.
-fn reach_of(letters: u64) -> u64 {
-    letters.saturating_mul(5).saturating_add(14)
+// How far the names of so many letters reach up or down, and to the side where they are tilted.
+fn reach_of(letters: u64, tilted: bool) -> u64 {
+    if tilted {
+        letters.saturating_mul(5).saturating_add(14)
+    } else {
+        20
+    }
 }
 
 // How far columns are apart that fill a width.
@@ -71,85 +87,101 @@ fn spread(width: u64, gaps: u64) -> u64 {
     (width / gaps.max(1)).max(22).min(130)
 }
 
-// A grid with so many gaps between columns, and between rows.
-fn grid_of(letters: Letters, columns: u64, rows: u64) -> Grid {
-    let rise = spread(WIDTH - 2 * MARGIN, columns) < width_of(letters.points);
-    let right = if rise {
-        MARGIN.max(reach_of(letters.points))
-    } else {
-        MARGIN
-    };
+// A grid for names of so many letters, with so many gaps between columns, and between rows.
+fn grid_of(points: u64, trains: u64, columns: u64, rows: u64) -> Grid {
+    let rise = spread(WIDTH - 2 * MARGIN, columns) < width_of(points);
+    let above = reach_of(points, rise);
+    let right = MARGIN.max(above);
     let across = spread((WIDTH - MARGIN).saturating_sub(right), columns);
-    let fall = across < width_of(letters.trains);
-    let above = if rise { reach_of(letters.points) } else { 20 };
-    let below = if fall { reach_of(letters.trains) } else { 20 };
+    let fall = across < width_of(trains);
+    let below = reach_of(trains, fall);
     let down = above.saturating_add(below).saturating_add(36);
     let inside = columns.saturating_mul(across);
-    let width = inside
-        .saturating_add(MARGIN)
-        .saturating_add(right)
-        .max(WIDTH);
-    let spare = width
-        .saturating_sub(inside)
-        .saturating_sub(MARGIN)
-        .saturating_sub(right);
+    let used = inside.saturating_add(MARGIN).saturating_add(right);
+    let width = used.max(WIDTH);
     let top = above.saturating_add(60);
-    let foot = rows
-        .saturating_mul(down)
-        .saturating_add(top)
-        .saturating_add(below)
-        .saturating_add(40);
-    let corner = Spot {
-        x: MARGIN.saturating_add(spare / 2),
-        y: top,
-    };
+    let bottom = rows.saturating_mul(down).saturating_add(top);
     Grid {
         width,
-        corner,
+        corner: Spot {
+            x: MARGIN.saturating_add((width - used) / 2),
+            y: top,
+        },
         across,
         down,
         rise,
         fall,
-        foot,
+        foot: bottom.saturating_add(below).saturating_add(40),
     }
+}
+
+/// The spot so far right of another one, and so far below it.
+pub(crate) fn shifted(at: Spot, right: i64, down: i64) -> Spot {
+    Spot {
+        x: at.x.saturating_add_signed(right),
+        y: at.y.saturating_add_signed(down),
+    }
+}
+
+// How far a number is after a first one, in steps of a size.
+fn steps(number: u32, first: u32, size: u64) -> u64 {
+    u64::from(number.saturating_sub(first)).saturating_mul(size)
 }
 
 // The spot of a cell.
 fn spot_of(grid: &Grid, edges: Edges, cell: Cell) -> Spot {
-    let column = u64::from(cell.column.saturating_sub(edges.left));
-    let row = u64::from(cell.row.saturating_sub(edges.top));
+    let right = steps(cell.column, edges.first.column, grid.across);
+    let down = steps(cell.row, edges.first.row, grid.down);
     Spot {
-        x: column
-            .saturating_mul(grid.across)
-            .saturating_add(grid.corner.x),
-        y: row.saturating_mul(grid.down).saturating_add(grid.corner.y),
+        x: right.saturating_add(grid.corner.x),
+        y: down.saturating_add(grid.corner.y),
     }
 }
 
-/// A frame for points in these cells.
-pub(crate) fn frame_of(
+// A grid for these cells, with room for the names of points and of trains.
+fn grid_for(layout: &Layout, names: &Names, edges: Edges) -> Grid {
+    grid_of(
+        point_letters(layout),
+        train_letters(names),
+        steps(edges.last.column, edges.first.column, 1),
+        steps(edges.last.row, edges.first.row, 1),
+    )
+}
+
+// The spots of points in these cells.
+fn spots_of(
     alloc: Global,
     layout: &Layout,
-    names: &Names,
     cells: &Cells,
-) -> Result<Frame, AllocError>
-    ensures { IfOk result (λ frame. length frame.spots.items ≡ length layout.now.points) }
+    edges: Edges,
+    grid: &Grid,
+) -> Result<Vec<Spot>, AllocError>
+    ensures { IfOk result (λ spots. length spots.items ≡ length layout.now.points) }
 {
-    let edges = cells.edges().unwrap_or(Edges {
-        left: 0,
-        right: 0,
-        top: 0,
-        bottom: 0,
-    });
-    let columns = u64::from(edges.right.saturating_sub(edges.left));
-    let rows = u64::from(edges.bottom.saturating_sub(edges.top));
-    let grid = grid_of(letters_of(layout, names), columns, rows);
     let mut spots = Vec::new(alloc);
     for point in 0..points_of(layout) {
-        let cell = cells.at(point).unwrap_or(Cell { column: 0, row: 0 });
-        spots.push(spot_of(&grid, edges, cell))?;
+        let cell = cells.at(point).unwrap_or(edges.first);
+        spots.push(spot_of(grid, edges, cell))?;
     }
-    Ok(Frame { spots, grid })
+    Ok(spots)
+}
+
+/// A frame for a layout with the trains and the sections of a scene.
+pub(crate) fn frame_of(alloc: Global, layout: &Layout, scene: &Scene) -> Result<Frame, AllocError>
+    ensures spots { IfOk result (λ frame. length frame.spots.items ≡ length layout.now.points) }
+    ensures insides { IfOk result (λ frame. length frame.insides.items ≡ length scene.now.table.now.sections) }
+{
+    let insides = insides_of(alloc, scene.table, layout.points().len())?;
+    let mut cells = place_all(alloc, layout, scene.table)?;
+    straighten(&mut cells, layout, scene.table);
+    let edges = cells.edges().unwrap_or(Edges::NONE);
+    let grid = grid_for(layout, scene.names, edges);
+    let spots = spots_of(alloc, layout, &cells, edges, &grid)?;
+    Ok(Frame {
+        spots,
+        insides,
+        grid,
+    })
 }
 
 impl Frame {

@@ -3,10 +3,12 @@
 
 mod answers;
 mod arrows;
+mod captions;
 mod cells;
 mod circles;
 mod filling;
 mod frame;
+mod insides;
 mod legend;
 mod picture;
 mod placing;

@@ -3,13 +3,12 @@ ghost use Rattle.std.specs.Prelude.{◌≡◌, ◌++◌, ◌∷◌, [], IfOk, On
 ghost use Rattle.layout_picture.specs.Drawn.{AreLines, IsDrawn, group_with, trains_inside};
 ghost use Rattle.layout_picture.specs.Marks.{dot_at};
 
-use crate::filling::place_all;
-use crate::frame::{Frame, frame_of};
+use crate::captions::{point_names, train_names};
+use crate::frame::{View, frame_of};
 use crate::legend::Legend;
-use crate::sections::{areas, insides, numbers};
-use crate::straightening::straighten;
-use crate::tracks::{dots, point_names, strokes, ways_of};
-use crate::trains::{arrows, train_names, waits};
+use crate::sections::{areas, numbers};
+use crate::tracks::{dots, links};
+use crate::trains::{arrows, waits};
 use rail_model::Layout;
 use state_sentences::Scene;
 use std::alloc::{AllocError, Global};
@@ -19,30 +18,24 @@ use svg_text::{Group, Picture, Shape, Spot, label};
 const STYLE: &str =
     "svg{font-family:sans-serif;font-size:12px;fill:#1f2933} .background{fill:#fff} .names,.trains{paint-order:stroke;stroke:#fff;stroke-width:3px;stroke-linejoin:round} .sections{fill:none;stroke-linecap:round;stroke-linejoin:round} .sections path{opacity:.38} .links{fill:none;stroke:#5b6770;stroke-width:3} .circle{fill:none;stroke:#d00000;stroke-width:6} .points{fill:#fff;stroke:#1f2933;stroke-width:2} .numbers{font-size:10.5px;fill:#3d474f;paint-order:stroke;stroke:#fff;stroke-width:2px} .arrows{stroke:#fff;stroke-width:1.5;stroke-linejoin:round} .trains,.heading{font-weight:bold} .heading{font-size:15px}";
 
+// A shape alone.
+fn alone(alloc: Global, shape: Shape) -> Result<Vec<Shape>, AllocError> {
+    let mut shapes = Vec::new(alloc);
+    shapes.push(shape)?;
+    Ok(shapes)
+}
+
 // A white ground.
 fn ground(alloc: Global, width: u64, height: u64) -> Result<Vec<Shape>, AllocError> {
     let mut ground = Shape::new(alloc, "rect", "")?;
     ground.set_number(alloc, "width", width)?;
     ground.set_number(alloc, "height", height)?;
-    let mut shapes = Vec::new(alloc);
-    shapes.push(ground)?;
-    Ok(shapes)
+    alone(alloc, ground)
 }
 
 // The title at the top.
 fn heading(alloc: Global, title: &str) -> Result<Vec<Shape>, AllocError> {
-    let mut shapes = Vec::new(alloc);
-    shapes.push(label(alloc, Spot { x: 20, y: 28 }, title)?)?;
-    Ok(shapes)
-}
-
-// The legend of a scene.
-fn legend_of(alloc: Global, scene: &Scene, frame: &Frame) -> Result<Legend, AllocError> {
-    let mut legend = Legend::new(alloc, frame.grid.foot);
-    legend.add_circle(alloc, scene)?;
-    legend.add_sections(alloc, scene)?;
-    legend.add_left(alloc, scene)?;
-    Ok(legend)
+    alone(alloc, label(alloc, Spot { x: 20, y: 28 }, title)?)
 }
 
 // What is below the trains: the ground, sections, links, the circle of trains that wait, and points.
@@ -66,25 +59,17 @@ struct Signs {
     heading: Vec<Shape>,
 }
 
-fn tracks_of(
-    alloc: Global,
-    layout: &Layout,
-    scene: &Scene,
-    frame: &Frame,
-    height: u64,
-) -> Result<Tracks, AllocError>
-    ensures dots { IfOk result (λ tracks. tracks.dots.items ≡ map dot_at frame.now.spots.items) }
-    ensures lines { IfOk result (λ tracks. AreLines frame.now.spots.items layout.now.links tracks.strokes.items) }
-    ensures areas { IfOk result (λ tracks. length tracks.areas.items ≡ length scene.now.table.now.sections) }
+fn tracks_of(view: &View, height: u64) -> Result<Tracks, AllocError>
+    ensures dots { IfOk result (λ tracks. tracks.dots.items ≡ map dot_at view.now.frame.now.spots.items) }
+    ensures lines { IfOk result (λ tracks. AreLines view.now.frame.now.spots.items view.now.layout.now.links tracks.strokes.items) }
+    ensures areas { IfOk result (λ tracks. length tracks.areas.items ≡ length view.now.frame.now.insides.items) }
 {
-    let ground = ground(alloc, frame.grid.width, height)?;
-    let insides = insides(alloc, scene.table, frame.spots.len())?;
-    let areas = areas(alloc, layout, frame, &insides)?;
-    let numbers = numbers(alloc, frame, &insides)?;
-    let ways = ways_of(alloc, layout.links(), frame)?;
-    let strokes = strokes(alloc, &ways)?;
-    let waits = waits(alloc, scene, frame)?;
-    let dots = dots(alloc, &frame.spots)?;
+    let ground = ground(view.alloc, view.frame.grid.width, height)?;
+    let areas = areas(view)?;
+    let numbers = numbers(view)?;
+    let strokes = links(view)?;
+    let waits = waits(view)?;
+    let dots = dots(view.alloc, &view.frame.spots)?;
     Ok(Tracks {
         ground,
         areas,
@@ -95,20 +80,13 @@ fn tracks_of(
     })
 }
 
-fn signs_of(
-    alloc: Global,
-    layout: &Layout,
-    scene: &Scene,
-    frame: &Frame,
-    legend: Legend,
-    title: &str,
-) -> Result<Signs, AllocError>
-    ensures { IfOk result (λ signs. length signs.arrows.items ≡ trains_inside scene.now.table.now scene.now.state.now) }
+fn signs_of(view: &View, legend: Legend, title: &str) -> Result<Signs, AllocError>
+    ensures { IfOk result (λ signs. length signs.arrows.items ≡ trains_inside view.now.scene.now.table.now view.now.scene.now.state.now) }
 {
-    let arrows = arrows(alloc, scene, frame)?;
-    let points = point_names(alloc, layout, frame)?;
-    let trains = train_names(alloc, scene, frame)?;
-    let heading = heading(alloc, title)?;
+    let arrows = arrows(view)?;
+    let points = point_names(view)?;
+    let trains = train_names(view)?;
+    let heading = heading(view.alloc, title)?;
     Ok(Signs {
         arrows,
         points,
@@ -178,22 +156,16 @@ fn push_signs(alloc: Global, groups: &mut Vec<Group>, signs: Signs) -> Result<()
 }
 
 // The groups of a picture, each drawn over those before it.
-fn groups_of(
-    alloc: Global,
-    layout: &Layout,
-    scene: &Scene,
-    frame: &Frame,
-    legend: Legend,
-    title: &str,
-) -> Result<Vec<Group>, AllocError>
-    requires { length frame.now.spots.items ≡ length layout.now.points }
-    ensures { IfOk result (λ groups. IsDrawn layout.now scene.now.table.now scene.now.state.now groups.items) }
+fn groups_of(view: &View, legend: Legend, title: &str) -> Result<Vec<Group>, AllocError>
+    requires spots { length view.now.frame.now.spots.items ≡ length view.now.layout.now.points }
+    requires insides { length view.now.frame.now.insides.items ≡ length view.now.scene.now.table.now.sections }
+    ensures { IfOk result (λ groups. IsDrawn view.now.layout.now view.now.scene.now.table.now view.now.scene.now.state.now groups.items) }
 {
-    let tracks = tracks_of(alloc, layout, scene, frame, legend.foot())?;
-    let signs = signs_of(alloc, layout, scene, frame, legend, title)?;
-    let mut groups = Vec::new(alloc);
-    push_tracks(alloc, &mut groups, tracks)?;
-    push_signs(alloc, &mut groups, signs)?;
+    let tracks = tracks_of(view, legend.foot())?;
+    let signs = signs_of(view, legend, title)?;
+    let mut groups = Vec::new(view.alloc);
+    push_tracks(view.alloc, &mut groups, tracks)?;
+    push_signs(view.alloc, &mut groups, signs)?;
     Ok(groups)
 }
 
@@ -206,12 +178,15 @@ pub(crate) fn drawing(
 ) -> Result<Picture, AllocError>
     ensures { IfOk result (λ picture. IsDrawn layout.now scene.now.table.now scene.now.state.now picture.groups) }
 {
-    let mut cells = place_all(alloc, layout, scene.table)?;
-    straighten(&mut cells, layout, scene.table);
-    let frame = frame_of(alloc, layout, scene.names, &cells)?;
-    let legend = legend_of(alloc, scene, &frame)?;
-    let width = frame.grid.width;
+    let frame = frame_of(alloc, layout, scene)?;
+    let view = View {
+        alloc,
+        layout,
+        scene,
+        frame: &frame,
+    };
+    let legend = Legend::new(alloc, scene, frame.grid.foot)?;
     let height = legend.foot();
-    let groups = groups_of(alloc, layout, scene, &frame, legend, title)?;
-    Picture::new(alloc, width, height, title, STYLE, groups)
+    let groups = groups_of(&view, legend, title)?;
+    Picture::new(alloc, frame.grid.width, height, title, STYLE, groups)
 }

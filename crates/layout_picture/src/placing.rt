@@ -2,7 +2,6 @@
 // the nearest row that has room.
 
 use crate::cells::{Cell, Cells};
-use std::alloc::{AllocError, Global};
 
 /// The column and the row where the first point goes.
 pub(crate) const MIDDLE: u32 = 10_000;
@@ -36,63 +35,33 @@ fn between(first: u32, second: u32, number: u32, gaps: u32) -> u32 {
     moved(first, share.min(100_000) as u32, first < second)
 }
 
-// Moves the columns from the right one of two columns on, until there are so many gaps between the two; says by how many
-// columns. Nothing moves where the two are one.
-fn widened(cells: &mut Cells, first: u32, second: u32, gaps: u32) -> u32 {
-    let wide = first.abs_diff(second);
-    let by = if first == second {
-        0
-    } else {
-        gaps.saturating_sub(wide)
-    };
-    cells.widen(first.max(second), by);
-    by
+// The number of gaps between points and those beside them.
+fn gaps_of(points: &[u32]) -> u32 {
+    points.len().min(512) as u32 + 1
+}
+
+// Moves the columns from the right one of two cells on, until there are so many gaps between the two. Nothing moves
+// where they are in one column.
+fn make_room(cells: &mut Cells, before: Option<Cell>, after: Option<Cell>, gaps: u32) {
+    if let (Some(before), Some(after)) = (before, after) {
+        let wide = before.column.abs_diff(after.column);
+        if 0 < wide {
+            cells.widen(before.column.max(after.column), gaps.saturating_sub(wide));
+        }
+    }
 }
 
 impl Stretch<'_> {
-    // The number of gaps between its points and those beside it.
-    fn gaps(&self) -> u32 {
-        self.points.len().min(512) as u32 + 1
-    }
-
-    // The stretch with room for its points between its ends.
-    fn with_room(self, cells: &mut Cells) -> Self {
-        let (Some(before), Some(after)) = (self.before, self.after) else {
-            return self;
-        };
-        let by = widened(cells, before.column, after.column, self.gaps());
-        if before.column < after.column {
-            let column = after.column.saturating_add(by);
-            Stretch {
-                after: Some(Cell {
-                    column,
-                    row: after.row,
-                }),
-                ..self
-            }
-        } else {
-            let column = before.column.saturating_add(by);
-            Stretch {
-                before: Some(Cell {
-                    column,
-                    row: before.row,
-                }),
-                ..self
-            }
-        }
-    }
-
     // The column of the point with this number, counted from 1.
     fn column(&self, number: u32) -> u32 {
-        let left = self.gaps().saturating_sub(number);
+        let gaps = gaps_of(self.points);
+        let left = gaps.saturating_sub(number);
         match (self.before, self.after) {
-            (Some(before), Some(after)) => {
-                if before.column == after.column {
-                    moved(before.column, number.min(left), self.rightward)
-                } else {
-                    between(before.column, after.column, number, self.gaps())
-                }
-            }
+            (Some(before), Some(after)) => if before.column == after.column {
+                moved(before.column, number.min(left), self.rightward)
+            } else {
+                between(before.column, after.column, number, gaps)
+            },
             (Some(before), None) => moved(before.column, number, self.rightward),
             (None, Some(after)) => moved(after.column, left, !self.rightward),
             (None, None) => moved(MIDDLE, number, true),
@@ -106,7 +75,7 @@ impl Stretch<'_> {
             (Some(cell), None) => cell.row,
             (None, Some(cell)) => cell.row,
             (None, None) => match cells.edges() {
-                Some(edges) => edges.bottom.saturating_add(1),
+                Some(edges) => edges.last.row.saturating_add(1),
                 None => MIDDLE,
             },
         }
@@ -114,9 +83,8 @@ impl Stretch<'_> {
 
     // Whether its columns are free in a row.
     fn fits(&self, cells: &Cells, row: u32) -> bool {
-        for number in 1..self.gaps() {
-            let column = self.column(number);
-            if !cells.is_free(Cell { column, row }) {
+        for number in 1..gaps_of(self.points) {
+            if !cells.is_free(Cell::new(self.column(number), row)) {
                 return false;
             }
         }
@@ -144,13 +112,9 @@ impl Stretch<'_> {
         let row = self.row(cells);
         let mut number = 1;
         for point in self.points {
-            let cell = Cell {
-                column: self.column(number),
-                row,
-            };
             if cells.at(*point).is_none() {
-                let cell = free_cell(cells, cell);
-                cells.put(*point, cell);
+                let free = free_cell(cells, Cell::new(self.column(number), row));
+                cells.put(*point, free);
             }
             number = number.saturating_add(1);
         }
@@ -160,22 +124,43 @@ impl Stretch<'_> {
 /// The free cell of a column that is nearest to a cell of it.
 pub(crate) fn free_cell(cells: &Cells, cell: Cell) -> Cell {
     for distance in 0..ROWS {
-        let below = Cell {
-            column: cell.column,
-            row: cell.row.saturating_add(distance),
-        };
+        let below = Cell::new(cell.column, cell.row.saturating_add(distance));
         if cells.is_free(below) {
             return below;
         }
-        let above = Cell {
-            column: cell.column,
-            row: cell.row.saturating_sub(distance),
-        };
+        let above = Cell::new(cell.column, cell.row.saturating_sub(distance));
         if cells.is_free(above) {
             return above;
         }
     }
     cell
+}
+
+// The cell of a point that is given and placed.
+fn cell_of(cells: &Cells, point: Option<u32>) -> Option<Cell> {
+    cells.at(point?)
+}
+
+// Places the points of a stretch between two points, if it has some.
+fn place_stretch(
+    cells: &mut Cells,
+    points: &[u32],
+    before: Option<u32>,
+    after: Option<u32>,
+    rightward: bool,
+) {
+    if points.is_empty() {
+        return;
+    }
+    let gaps = gaps_of(points);
+    make_room(cells, cell_of(cells, before), cell_of(cells, after), gaps);
+    let stretch = Stretch {
+        points,
+        before: cell_of(cells, before),
+        after: cell_of(cells, after),
+        rightward,
+    };
+    stretch.place(cells);
 }
 
 // Whether a route leads to the right: its first point that is placed isn't right of its last one.
@@ -202,49 +187,18 @@ pub(crate) fn is_begun(cells: &Cells, route: &[u32]) -> bool {
 }
 
 /// Places all points of a route.
-pub(crate) fn place_route(
-    alloc: Global,
-    cells: &mut Cells,
-    route: &[u32],
-) -> Result<(), AllocError> {
+pub(crate) fn place_route(cells: &mut Cells, route: &[u32]) {
     let rightward = leads_right(cells, route);
-    let mut waiting: Vec<u32> = Vec::new(alloc);
-    let mut before = None;
-    for point in route {
-        match cells.at(*point) {
-            None => waiting.push(*point)?,
-            Some(after) => {
-                let after = Some(after);
-                place_stretch(
-                    cells,
-                    Stretch {
-                        points: &waiting,
-                        before,
-                        after,
-                        rightward,
-                    },
-                );
-                waiting.clear();
-                before = cells.at(*point);
-            }
+    let mut before: Option<u32> = None;
+    let mut begin: usize = 0;
+    for (number, point) in route.iter().enumerate() {
+        if cells.at(*point).is_some() {
+            let points = route.get(begin..number).unwrap_or(&[]);
+            place_stretch(cells, points, before, Some(*point), rightward);
+            before = Some(*point);
+            begin = number.saturating_add(1);
         }
     }
-    place_stretch(
-        cells,
-        Stretch {
-            points: &waiting,
-            before,
-            after: None,
-            rightward,
-        },
-    );
-    Ok(())
-}
-
-// Places the points of a stretch, if it has some.
-fn place_stretch(cells: &mut Cells, stretch: Stretch) {
-    if !stretch.points.is_empty() {
-        let stretch = stretch.with_room(cells);
-        stretch.place(cells);
-    }
+    let points = route.get(begin..).unwrap_or(&[]);
+    place_stretch(cells, points, before, None, rightward);
 }

@@ -1,71 +1,29 @@
 // Sections as pale areas behind their points.
-ghost use Rattle.std.specs.Prelude.{◌≡◌, ◌<◌, IfOk, length};
-ghost use Rattle.rail_model.specs.Table.{trains};
+ghost use Rattle.std.specs.Prelude.{◌≡◌, IfOk, length};
 
-use crate::frame::Frame;
-use rail_model::{Layout, Table, last_of, point_of, sections_of, share_at, trains_of};
+use crate::frame::{Frame, View, shifted};
+use crate::insides::is_marked;
+use crate::tracks::painted;
+use rail_model::points_of;
 use std::alloc::{AllocError, Global};
 use svg_text::{Shape, Spot, label};
 
+const COLOURS: [&str; 8] = [
+    "#e8b923", "#5aa9e6", "#63b76c", "#d66ba0", "#8f7be0", "#b08a5b", "#35b0ab", "#8d99a6",
+];
+
 /// The colour of a section.
 pub(crate) fn area_colour(section: u32) -> &'static str {
-    match section % 8 {
-        0 => "#e8b923",
-        1 => "#5aa9e6",
-        2 => "#63b76c",
-        3 => "#d66ba0",
-        4 => "#8f7be0",
-        5 => "#b08a5b",
-        6 => "#35b0ab",
-        _ => "#8d99a6",
-    }
-}
-
-// Marks the points at which a train has a share of a section.
-fn mark_train(inside: &mut Vec<bool>, table: &Table, section: u32, train: u32)
-    requires section { section < length table.now.sections }
-    requires train { train < trains table.now }
-{
-    for place in 0..last_of(table, train) + 1 {
-        if let Some(point) = point_of(table, train, place) {
-            if 0 < share_at(table, train, section, place) {
-                if let Some(mark) = inside.get_mut(point as usize) {
-                    *mark = true;
-                }
-            }
-        }
-    }
-}
-
-// Whether each of so many points is in a section: some train has a share of it there.
-fn inside_of(
-    alloc: Global,
-    table: &Table,
-    section: u32,
-    points: usize,
-) -> Result<Vec<bool>, AllocError>
-    requires { section < length table.now.sections }
-{
-    let mut inside = vec![in alloc; false; points]?;
-    for train in 0..trains_of(table) {
-        mark_train(&mut inside, table, section, train);
-    }
-    Ok(inside)
-}
-
-fn is_marked(inside: &[bool], point: u32) -> bool {
-    inside.get(point as usize).copied().unwrap_or(false)
+    COLOURS[section as usize % 8]
 }
 
 // Adds a dot to a way.
 fn write_dot(way: &mut String, frame: &Frame, point: u32) -> Result<(), AllocError> {
-    let at = frame.spot(point);
-    let x = at.x;
-    let y = at.y;
+    let Spot { x, y } = frame.spot(point);
     write!(way, "M{x},{y} h0 ")
 }
 
-// Adds a line to a way.
+// Adds a line between two points to a way.
 fn write_line(way: &mut String, frame: &Frame, first: u32, second: u32) -> Result<(), AllocError> {
     let from = frame.spot(first);
     let to = frame.spot(second);
@@ -76,109 +34,87 @@ fn write_line(way: &mut String, frame: &Frame, first: u32, second: u32) -> Resul
     write!(way, "M{from_x},{from_y} L{to_x},{to_y} ")
 }
 
-// The way of a broad pen over the points that are marked, and the links between them.
-fn way_over(
-    alloc: Global,
-    layout: &Layout,
-    frame: &Frame,
-    inside: &[bool],
-) -> Result<String, AllocError> {
-    let mut way = String::new(alloc);
-    for (point, marked) in inside.iter().enumerate() {
-        if *marked {
-            write_dot(&mut way, frame, point.min(512) as u32)?;
+// Adds the points that are marked to the way of a broad pen.
+fn write_points(way: &mut String, view: &View, inside: &[bool]) -> Result<(), AllocError> {
+    for point in 0..points_of(view.layout) {
+        if is_marked(inside, point) {
+            write_dot(way, view.frame, point)?;
         }
     }
-    for link in layout.links() {
+    Ok(())
+}
+
+// Adds the links between points that are marked.
+fn write_links(way: &mut String, view: &View, inside: &[bool]) -> Result<(), AllocError> {
+    for link in view.layout.links() {
         if is_marked(inside, link.first()) && is_marked(inside, link.second()) {
-            write_line(&mut way, frame, link.first(), link.second())?;
+            write_line(way, view.frame, link.first(), link.second())?;
         }
     }
+    Ok(())
+}
+
+// The way over the points that are marked, and the links between them.
+fn way_over(view: &View, inside: &[bool]) -> Result<String, AllocError> {
+    let mut way = String::new(view.alloc);
+    write_points(&mut way, view, inside)?;
+    write_links(&mut way, view, inside)?;
     Ok(way)
 }
 
-// The area of a section. Sections that share points have areas of different width.
-fn area(
-    alloc: Global,
-    layout: &Layout,
-    frame: &Frame,
-    inside: &[bool],
-    section: u32,
-) -> Result<Shape, AllocError> {
-    let way = way_over(alloc, layout, frame, inside)?;
-    let width = frame
-        .grid
-        .across
-        .max(26)
-        .min(60)
-        .saturating_mul(u64::from(5 - section % 4))
-        / 5;
+// A path along a way.
+fn path(alloc: Global, way: &str) -> Result<Shape, AllocError> {
     let mut shape = Shape::new(alloc, "path", "")?;
-    shape.set(alloc, "d", way.as_str())?;
-    shape.set(alloc, "stroke", area_colour(section))?;
-    shape.set_number(alloc, "stroke-width", width)?;
+    shape.set(alloc, "d", way)?;
     Ok(shape)
 }
 
-/// For each section the points that are in it: some train has a share of it there.
-pub(crate) fn insides(
-    alloc: Global,
-    table: &Table,
-    points: usize,
-) -> Result<Vec<Vec<bool>>, AllocError>
-    ensures { IfOk result (λ insides. length insides.items ≡ length table.now.sections) }
-{
-    let mut insides = Vec::new(alloc);
-    for section in 0..sections_of(table) {
-        insides.push(inside_of(alloc, table, section, points)?)?;
-    }
-    Ok(insides)
+// The area of a section. Sections that share points have areas of different width.
+fn area(view: &View, inside: &[bool], section: u32) -> Result<Shape, AllocError> {
+    let widest = view.frame.grid.across.max(26).min(60);
+    let way = way_over(view, inside)?;
+    let shape = path(view.alloc, way.as_str())?;
+    let mut shape = painted(view.alloc, shape, "stroke", area_colour(section))?;
+    shape.set_number(
+        view.alloc,
+        "stroke-width",
+        widest * u64::from(5 - section % 4) / 5,
+    )?;
+    Ok(shape)
 }
 
 /// An area for each section.
-pub(crate) fn areas(
-    alloc: Global,
-    layout: &Layout,
-    frame: &Frame,
-    insides: &[Vec<bool>],
-) -> Result<Vec<Shape>, AllocError>
-    ensures { IfOk result (λ shapes. length shapes.items ≡ length insides.now) }
+pub(crate) fn areas(view: &View) -> Result<Vec<Shape>, AllocError>
+    ensures { IfOk result (λ shapes. length shapes.items ≡ length view.now.frame.now.insides.items) }
 {
-    let mut shapes = Vec::new(alloc);
-    for inside in insides {
+    let mut shapes = Vec::new(view.alloc);
+    for inside in &view.frame.insides {
         let section = shapes.len().min(63) as u32;
-        shapes.push(area(alloc, layout, frame, inside, section)?)?;
+        shapes.push(area(view, inside, section)?)?;
     }
     Ok(shapes)
 }
 
-// The numbers of the sections that a point is in.
-fn numbers_at(alloc: Global, insides: &[Vec<bool>], point: u32) -> Result<String, AllocError> {
-    let mut words = String::new(alloc);
-    for (section, inside) in insides.iter().enumerate() {
+// Adds the numbers of the sections that a point is in.
+fn write_numbers(words: &mut String, frame: &Frame, point: u32) -> Result<(), AllocError> {
+    for (section, inside) in frame.insides.iter().enumerate() {
         if is_marked(inside, point) {
             write!(words, "{section} ")?;
         }
     }
-    Ok(words)
+    Ok(())
 }
 
 /// The numbers of the sections of each point, below it on the right.
-pub(crate) fn numbers(
-    alloc: Global,
-    frame: &Frame,
-    insides: &[Vec<bool>],
-) -> Result<Vec<Shape>, AllocError> {
-    let mut shapes = Vec::new(alloc);
-    for point in 0..frame.spots.len().min(512) as u32 {
-        let words = numbers_at(alloc, insides, point)?;
+pub(crate) fn numbers(view: &View) -> Result<Vec<Shape>, AllocError> {
+    let mut shapes = Vec::new(view.alloc);
+    let mut words = String::new(view.alloc);
+    for point in 0..view.frame.spots.len().min(512) as u32 {
+        words.clear();
+        write_numbers(&mut words, view.frame, point)?;
         if !words.is_empty() {
-            let at = frame.spot(point);
-            let foot = Spot {
-                x: at.x.saturating_add(6),
-                y: at.y.saturating_add(17),
-            };
-            shapes.push(label(alloc, foot, words.as_str())?)?;
+            let foot = shifted(view.frame.spot(point), 6, 17);
+            shapes.push(label(view.alloc, foot, words.as_str())?)?;
         }
     }
     Ok(shapes)

@@ -21,13 +21,19 @@ fn size_of(route: &[u32]) -> u32 {
 
 // The route with the most points.
 fn longest(missions: &[Mission]) -> &[u32] {
-    let mut best: &[u32] = &[];
-    for mission in missions {
-        if size_of(best) < size_of(mission.as_slice()) {
-            best = mission.as_slice();
+    let mut best: usize = 0;
+    let mut most: u32 = 0;
+    for (number, mission) in missions.iter().enumerate() {
+        let size = size_of(mission.as_slice());
+        if most < size {
+            most = size;
+            best = number;
         }
     }
-    best
+    match missions.get(best) {
+        Some(mission) => mission.as_slice(),
+        None => &[],
+    }
 }
 
 fn distance_of(distances: &[u32], point: u32) -> u32 {
@@ -67,9 +73,9 @@ fn distances_from(
     route: &[u32],
     from: u32,
 ) -> Result<Vec<u32>, AllocError> {
-    let mut distances = Vec::new(alloc);
-    for point in 0..points_of(layout) {
-        distances.push(if point == from { 0 } else { FAR })?;
+    let mut distances = vec![in alloc; FAR; points_of(layout) as usize]?;
+    if let Some(distance) = distances.get_mut(from as usize) {
+        *distance = 0;
     }
     for _ in 0..points_of(layout) {
         if !bring_all_down(&mut distances, layout, route) {
@@ -104,23 +110,20 @@ fn rounds(alloc: Global, layout: &Layout, route: &[u32]) -> Result<Vec<u32>, All
 }
 
 // The first stretch of a route from one of two points to the other.
-fn stretch_of(alloc: Global, route: &[u32], ends: [u32; 2]) -> Result<Vec<u32>, AllocError> {
-    let mut stretch: Vec<u32> = Vec::new(alloc);
-    for point in route {
+fn stretch_of(route: &[u32], ends: [u32; 2]) -> &[u32] {
+    let mut begin: Option<usize> = None;
+    let mut end = route.len();
+    for (number, point) in route.iter().enumerate() {
         if ends.contains(point) {
-            let begin = stretch.first().copied().unwrap_or(*point);
-            if begin == *point {
-                stretch.clear();
-            } else {
-                stretch.push(*point)?;
-                return Ok(stretch);
+            let first = begin.unwrap_or(number);
+            if route.get(first) != Some(point) {
+                end = number.saturating_add(1);
+                break;
             }
-        }
-        if ends.contains(point) || !stretch.is_empty() {
-            stretch.push(*point)?;
+            begin = Some(number);
         }
     }
-    Ok(stretch)
+    route.get(begin.unwrap_or(end)..end).unwrap_or(&[])
 }
 
 /// Places the base line, and then all other points of the route that it is a stretch of.
@@ -135,9 +138,8 @@ pub(crate) fn place_spine(
         let first = farthest(alloc, layout, route, *begin)?;
         let second = farthest(alloc, layout, route, first)?;
         let rounds = rounds(alloc, layout, route)?;
-        let stretch = stretch_of(alloc, &rounds, [first, second])?;
-        place_route(alloc, cells, &stretch)?;
-        place_route(alloc, cells, &rounds)?;
+        place_route(cells, stretch_of(&rounds, [first, second]));
+        place_route(cells, &rounds);
     }
     Ok(())
 }

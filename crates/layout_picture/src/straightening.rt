@@ -54,10 +54,7 @@ fn exchange(cells: &mut Cells, point: u32, from: Cell, to: Cell) {
 // Moves a point to another row if that makes the ways straighter.
 fn try_row(cells: &mut Cells, layout: &Layout, table: &Table, point: u32, row: u32) {
     if let Some(from) = cells.at(point) {
-        let to = Cell {
-            column: from.column,
-            row,
-        };
+        let to = Cell::new(from.column, row);
         let before = unevenness(cells, layout, table);
         exchange(cells, point, from, to);
         if before <= unevenness(cells, layout, table) {

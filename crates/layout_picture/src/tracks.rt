@@ -1,11 +1,12 @@
-// Points as dots with their names, and links as lines.
+// Points as dots, and links as lines.
 ghost use Rattle.std.specs.Prelude.{◌≡◌, IfOk, map};
+ghost use Rattle.layout_picture.specs.Drawn.{AreLines};
 ghost use Rattle.layout_picture.specs.Marks.{dot_at, bow_of, stroke_of, ends_of, ends_at, link_ends};
 
-use crate::frame::{Frame, Grid};
-use rail_model::{Layout, Link};
+use crate::frame::{Frame, Grid, View};
+use rail_model::Link;
 use std::alloc::{AllocError, Global};
-use svg_text::{Shape, Spot, label, line};
+use svg_text::{Shape, Spot, line};
 
 // The dot of a point.
 fn dot(alloc: Global, at: Spot) -> Result<Shape, AllocError>
@@ -29,56 +30,6 @@ pub(crate) fn dots(alloc: Global, spots: &[Spot]) -> Result<Vec<Shape>, AllocErr
     Ok(shapes)
 }
 
-/// Words at a spot: level, or turned by an angle.
-pub(crate) fn caption(
-    alloc: Global,
-    at: Spot,
-    words: &str,
-    angle: Option<i32>,
-) -> Result<Shape, AllocError> {
-    let mut shape = label(alloc, at, words)?;
-    match angle {
-        Some(angle) => {
-            let x = at.x;
-            let y = at.y;
-            let turn = format!(in alloc; "rotate({angle} {x} {y})")?;
-            shape.set(alloc, "transform", turn.as_str())?;
-        }
-        None => shape.set(alloc, "text-anchor", "middle")?,
-    }
-    Ok(shape)
-}
-
-// The name of a point, above its dot.
-fn name(alloc: Global, at: Spot, words: &str, rise: bool) -> Result<Shape, AllocError> {
-    if rise {
-        let foot = Spot {
-            x: at.x.saturating_add(4),
-            y: at.y.saturating_sub(14),
-        };
-        caption(alloc, foot, words, Some(-45))
-    } else {
-        let foot = Spot {
-            x: at.x,
-            y: at.y.saturating_sub(17),
-        };
-        caption(alloc, foot, words, None)
-    }
-}
-
-/// The name of each point.
-pub(crate) fn point_names(
-    alloc: Global,
-    layout: &Layout,
-    frame: &Frame,
-) -> Result<Vec<Shape>, AllocError> {
-    let mut shapes = Vec::new(alloc);
-    for (point, at) in layout.points().iter().zip(&frame.spots) {
-        shapes.push(name(alloc, *at, point.name(), frame.grid.rise)?)?;
-    }
-    Ok(shapes)
-}
-
 // Whether a number is one of two others, or between them.
 fn is_within(number: u64, a: u64, b: u64) -> bool {
     a.min(b) <= number && number <= a.max(b)
@@ -91,21 +42,22 @@ pub(crate) fn difference(to: u64, from: u64) -> i64 {
     to.saturating_sub(from)
 }
 
-fn is_same(a: Spot, b: Spot) -> bool {
-    a.x == b.x && a.y == b.y
-}
-
-// Whether a spot is on the line between two others.
+// Whether a spot is on the line between two others, and is neither of them.
 fn is_on_line(from: Spot, to: Spot, other: Spot) -> bool {
     let right = difference(to.x, from.x).saturating_mul(difference(other.y, from.y));
     let left = difference(other.x, from.x).saturating_mul(difference(to.y, from.y));
-    right == left && is_within(other.x, from.x, to.x) && is_within(other.y, from.y, to.y)
+    let is_end = is_same(other, from) || is_same(other, to);
+    right == left && is_within(other.x, from.x, to.x) && is_within(other.y, from.y, to.y) && !is_end
+}
+
+fn is_same(a: Spot, b: Spot) -> bool {
+    a.x == b.x && a.y == b.y
 }
 
 // Whether a line between two spots goes over another point.
 fn is_barred(spots: &[Spot], from: Spot, to: Spot) -> bool {
     for other in spots {
-        if is_on_line(from, to, *other) && !is_same(*other, from) && !is_same(*other, to) {
+        if is_on_line(from, to, *other) {
             return true;
         }
     }
@@ -137,6 +89,18 @@ fn spot_beside(grid: &Grid, from: Spot, to: Spot) -> Spot {
     }
 }
 
+/// A shape with a colour as its fill or its stroke.
+pub(crate) fn painted(
+    alloc: Global,
+    shape: Shape,
+    name: &str,
+    colour: &str,
+) -> Result<Shape, AllocError> {
+    let mut shape = shape;
+    shape.set(alloc, name, colour)?;
+    Ok(shape)
+}
+
 /// The way between two points that goes over no third one.
 pub(crate) fn way_between(frame: &Frame, first: u32, second: u32) -> Way
     ensures { ends_of result ≡ ends_at frame.now.spots.items first second }
@@ -151,8 +115,8 @@ pub(crate) fn way_between(frame: &Frame, first: u32, second: u32) -> Way
     Way { from, toward, to }
 }
 
-/// The way of each link.
-pub(crate) fn ways_of(alloc: Global, links: &[Link], frame: &Frame) -> Result<Vec<Way>, AllocError>
+// The way of each link.
+fn ways_of(alloc: Global, links: &[Link], frame: &Frame) -> Result<Vec<Way>, AllocError>
     ensures { IfOk result (λ ways. map ends_of ways.items ≡ map (link_ends frame.now.spots.items) links.now) }
 {
     let mut ways = Vec::new(alloc);
@@ -188,8 +152,8 @@ pub(crate) fn stroke(alloc: Global, way: Way) -> Result<Shape, AllocError>
     }
 }
 
-/// A line for each way.
-pub(crate) fn strokes(alloc: Global, ways: &[Way]) -> Result<Vec<Shape>, AllocError>
+// A line for each way.
+fn strokes(alloc: Global, ways: &[Way]) -> Result<Vec<Shape>, AllocError>
     ensures { IfOk result (λ shapes. shapes.items ≡ map stroke_of ways.now) }
 {
     let mut shapes = Vec::new(alloc);
@@ -197,4 +161,12 @@ pub(crate) fn strokes(alloc: Global, ways: &[Way]) -> Result<Vec<Shape>, AllocEr
         shapes.push(stroke(alloc, *way)?)?;
     }
     Ok(shapes)
+}
+
+/// A line for each link.
+pub(crate) fn links(view: &View) -> Result<Vec<Shape>, AllocError>
+    ensures { IfOk result (λ shapes. AreLines view.now.frame.now.spots.items view.now.layout.now.links shapes.items) }
+{
+    let ways = ways_of(view.alloc, view.layout.links(), view.frame)?;
+    strokes(view.alloc, &ways)
 }
