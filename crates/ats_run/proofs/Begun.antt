@@ -19,7 +19,7 @@ use Rattle.ats_run.specs.declared.tasks.Task.{Task}
 use Rattle.ats_run.specs.declared.tasks.Task.TheVariants.{Goes, Printed}
 use Rattle.ats_run.specs.Certificates.{AreAccepted}
 use Rattle.ats_run.specs.Checking.{nodes_below}
-use Rattle.ats_run.specs.Command.{Comes, IsDocWith, IsRunInput, IsResumedInput}
+use Rattle.ats_run.specs.Command.{Comes, IsRunInput, IsResumedInput}
 use Rattle.ats_run.specs.Generating.{IsDrilled}
 use Rattle.ats_run.specs.Headline.{Ends, plain_after}
 use Rattle.ats_run.specs.Journals.{IsCut, document_part, journal_part}

@@ -2,7 +2,7 @@ use Rattle.std.proofs.Common.{◌≡◌, ◌⊎◌, List, sym, ◌∙◌, subst}
 use Rattle.std.specs.Prelude.{IfErr}
 use Rattle.std.proofs.lemmas.Result.{err_from_is_err_and}
 use Rattle.rail_model.specs.Certificate.{Tree}
-use Rattle.ats_run.specs.Certificates.{AreAccepted, IsRejected}
+use Rattle.ats_run.specs.Certificates.{IsRejected}
 use Rattle.ats_run.specs.declared.failure.Failure.TheVariants.{Memory as NoMemory}
 use Rattle.ats_run.proofs.AcceptedInput.{only_memory}
 use Rattle.ats_run.proofs.Begun.{drill_leads, begun_at}
