@@ -21,7 +21,7 @@ pub struct Entries<'t> {
     pub values: &'t [Value],
 }
 
-/// An entry, or a part that is no list. Where something is told of a key of it, or of a name below the key, they are there too.
+/// An entry, or a part that is no list; with a key, or a key and a name below it, if a message is about these.
 #[derive(Clone, Copy)]
 pub struct Entry<'t> {
     pub kind: Kind,
@@ -98,7 +98,7 @@ impl<'t> Entry<'t> {
         }
     }
 
-    /// The same entry, for something that is told of a key.
+    /// The same entry, for a message about a key.
     pub fn at(&self, key: &'t str) -> Entry<'t> {
         Entry {
             key,
@@ -107,7 +107,7 @@ impl<'t> Entry<'t> {
         }
     }
 
-    /// The same entry and key, for something that is told of a name.
+    /// The same entry and key, for a message about a name.
     pub fn of(&self, name: &'t str) -> Entry<'t> {
         Entry { name, ..*self }
     }

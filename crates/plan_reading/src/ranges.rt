@@ -1,7 +1,7 @@
 // Numbers that are to be in a range.
 use plan_entries::{Entry, Faults, Part};
 
-/// From where to where the numbers of a kind go, and what is told of one that doesn't lie there.
+/// From where to where the numbers of a kind go, and the message about one that doesn't lie there.
 #[derive(Clone, Copy)]
 pub(crate) struct Range {
     pub least: u32,
