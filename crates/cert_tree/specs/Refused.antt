@@ -16,9 +16,9 @@ abbrev pub IsLeftOver : List Node → ℕ → Type 0
 IsLeftOver nodes used =
     (t : Tree) × (rest : List Node) × (nodes ≡ preorder t ++ rest) × (length (preorder t) ≡ used) × (0 < length rest)
 
--- The cause of a refusal: too many nodes first; want of memory may come at any list.
+-- The cause of a refusal: too many nodes first; out of memory may come at any list that isn't too long.
 abbrev pub IsRefused : List Node → CertRefused → Type 0
-IsRefused nodes Memory = Unit {0}
+IsRefused nodes Memory = length nodes ≤ most_nodes
 IsRefused nodes (TooMany n) = (n ≡ length nodes) × (most_nodes < length nodes)
 IsRefused nodes (Short missing) = (length nodes ≤ most_nodes) × (0 < missing) × IsMissing nodes missing
 IsRefused nodes (Over used) = (length nodes ≤ most_nodes) × IsLeftOver nodes used

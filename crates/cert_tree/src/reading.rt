@@ -34,7 +34,7 @@ impl From<AllocError> for CertRefused {
 ///
 /// # Errors
 ///
-/// Too many nodes are refused before all else. Want of memory may come for any list.
+/// Too many nodes are refused before all else. Out of memory may come for any list that isn't too long.
 pub fn tree(alloc: Global, nodes: &[Node]) -> Result<Cert, CertRefused>
     ensures spells { IfOk result (λ cert. nodes_of cert ≡ nodes.now) }
     ensures refused { IfErr result (IsRefused nodes.now) }

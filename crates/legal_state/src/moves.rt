@@ -1,5 +1,5 @@
 // What a train that asks to move is told.
-ghost use Rattle.std.specs.Prelude.{◌≡◌, ℕ, ◌<◌, ◌≤◌, length, MatchOption, IsTrue, ◌↔◌};
+ghost use Rattle.std.specs.Prelude.{◌≡◌, ℕ, ◌+◌, ◌<◌, ◌≤◌, length, MatchOption, IsTrue, ◌↔◌};
 ghost use Rattle.rail_model.specs.Table.{IsTable, trains, last, place};
 ghost use Rattle.rail_model.specs.State.{Legal};
 ghost use Rattle.rail_model.specs.Move.{advance, Answers, Blocks, IsHeldBy, IsOver, IsFirstOrNone};
@@ -29,34 +29,33 @@ fn blocker(table: &Table, state: &State, train: u32) -> Option<u32>
     None
 }
 
-// Whether a train's move takes a section over its limit.
-fn is_full(table: &Table, state: &State, train: u32, section: u32) -> bool
+// Whether a train's move to its next place takes a section over its limit.
+fn is_full(table: &Table, state: &State, train: u32, next: u32, section: u32) -> bool
     requires legal { Legal table.now state.now }
     requires train { train < trains table.now }
-    requires unfinished { place state.now train < last table.now train }
+    requires next { (next ≡ place state.now train + 1) × (next ≤ last table.now train) }
     requires section { section < length table.now.sections }
     ensures { IsTrue result ↔ IsOver table.now (advance state.now train) section }
 {
     let count = count_of(table, state, section) as i32;
-    let change = change_at(table, train, section, state.place(train) + 1);
+    let change = change_at(table, train, section, next);
     let limit = limit_of(table, section) as i32;
     limit < count + change
 }
 
-// Whether a section has no room for a train's move. The trains are counted only if the move adds to the count, which is within the limit before.
-fn lacks_room(table: &Table, state: &State, train: u32, section: u32) -> bool
+// Whether a section has no room for a train's move to its next place. The trains are counted only if the move adds to the count, which is within
+// the limit before.
+fn lacks_room(table: &Table, state: &State, train: u32, next: u32, section: u32) -> bool
     requires legal { Legal table.now state.now }
     requires train { train < trains table.now }
-    requires unfinished { place state.now train < last table.now train }
+    requires next { (next ≡ place state.now train + 1) × (next ≤ last table.now train) }
     requires section { section < length table.now.sections }
     ensures { IsTrue result ↔ IsOver table.now (advance state.now train) section }
 {
-    // This read gives the proof that a train has at most 127 places.
-    let _limit = limit_of(table, section);
-    if change_at(table, train, section, state.place(train) + 1) <= 0 {
+    if change_at(table, train, section, next) <= 0 {
         return false;
     }
-    is_full(table, state, train, section)
+    is_full(table, state, train, next, section)
 }
 
 // The first section without room for a train's move.
@@ -66,8 +65,10 @@ fn full_section(table: &Table, state: &State, train: u32) -> Option<u32>
     requires unfinished { place state.now train < last table.now train }
     ensures { IsFirstOrNone (IsOver table.now (advance state.now train)) result }
 {
-    for section in 0..sections_of(table) {
-        if lacks_room(table, state, train, section) {
+    let sections = sections_of(table);
+    let next = state.place(train) + 1;
+    for section in 0..sections {
+        if lacks_room(table, state, train, next, section) {
             return Some(section);
         }
     }
