@@ -11,7 +11,7 @@ use Rattle.ats_io.specs.Memory.{MustFail, HasMade, starting, after_pass, after_f
 pub fourth_fault : next_count 3 ≡ 4
 fourth_fault = refl
 
--- the count stands at the end of its type
+-- the count is at the end of its type
 pub full_count : next_count (2 ^ 64 - 1) ≡ 2 ^ 64 - 1
 full_count = refl
 

@@ -12,6 +12,6 @@ Adds (Some before) (Some now) bytes = now ≡ before ++ bytes
 abbrev pub AddsPrefix : Option (List ℕ) → Option (List ℕ) → List ℕ → Type 0
 AddsPrefix old new bytes = (count : ℕ) × Adds old new (take count bytes)
 
--- at most so many of the bytes that were left are gone
+-- at most this many of the bytes that were left are gone
 abbrev pub ConsumesAtMost : ℕ → Option (List ℕ) → Option (List ℕ) → Type 0
 ConsumesAtMost most old new = (taken : List ℕ) × Consumes old new taken × (length taken ≤ most)

@@ -5,6 +5,6 @@ use Rattle.std.specs.Prelude.{ℕ, ◌+◌, ◌-◌, ◌^◌, ◌≤◌, min}
 abbrev pub next_count : ℕ → ℕ
 next_count count = min (count + 1) (2 ^ 64 - 1)
 
--- the count has risen, or stands at the end of its type
+-- the count has risen, or is at the end of its type
 abbrev pub Rose : ℕ → ℕ → Type 0
 Rose before now = next_count before ≤ now

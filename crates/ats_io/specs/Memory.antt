@@ -21,7 +21,7 @@ after_pass plan = record plan { call = next_count plan.call }
 abbrev pub after_fault : Plan → Plan
 after_fault plan = record plan { call = next_count plan.call; faults = next_count plan.faults }
 
--- one of these numbers is that of a call that was made, where there were so many calls
+-- one of these numbers is that of a call that was made, where there were this many calls
 abbrev pub HasMade : List ℕ → ℕ → Type 0
 HasMade numbers calls = (number : ℕ) × Contains numbers number × Rose number calls
 

@@ -10,7 +10,7 @@ pub enum Moment {
     Taken,
     /// All numbers that it needs are known.
     Read,
-    /// Its entry stands in the history.
+    /// Its entry is in the history.
     Appended,
     /// The last number that it owed is written.
     Paid,

@@ -39,7 +39,7 @@ not_rejected : (D : Doc) (trees : List Tree) → AreAccepted D trees → (e : Fa
 not_rejected D trees good (failure.Certificate t bad) h = not_both (table_at D t) (tree_at trees t) bad h.first_bad (good.accepted t h.in_range)
 not_rejected D trees good e h = h
 
--- so its refusal is want of memory
+-- so its refusal is out of memory
 pub only_memory : (D : Doc) (trees : List Tree) → AreAccepted D trees → (e : Failure) → (e ≡ failure.Memory) ⊎ IsRejected D trees e → e ≡ failure.Memory
 only_memory D trees good e (inl memory) = memory
 only_memory D trees good e (inr h) = absurd (not_rejected D trees good e h)

@@ -150,7 +150,7 @@ too_long call order input g h =
     let few = g.good.0 in
     omega arith
 
--- the refusal of a good call is want of memory
+-- the refusal of a good call is out of memory
 only_memory : (call : Call) (order : Order) (input : List ℕ) → IsGoodCall call order input → (e : Failure) → IsCause call e → e ≡ failure.Memory
 only_memory call order input g failure.Memory h = refl
 only_memory call order input g failure.Words h = let both = sym h ∙ g.asked in absurd cc
@@ -159,7 +159,7 @@ only_memory call order input g failure.WriteFault h = absurd (g.sink h.2.1)
 only_memory call order input g failure.TooLong h = absurd (too_long call order input g h)
 only_memory call order input g e h = absurd (refused call order input g e h)
 
--- a good call that fails tells want of memory
+-- a good call that fails tells out of memory
 pub ends : (call : Call) (order : Order) (input : List ℕ) → IsGoodCall call order input → (cause told : Failure) (s : Status) → IsCause call cause
     → (told ≡ cause) ⊎ ((told ≡ failure.Memory) × IsLineMade cause) → s ≡ status_of told → IsDoneOrMemory s
 ends call order input g cause told s h kept is =

@@ -57,7 +57,7 @@ module _ (version : ℕ) (L : Layout) (n t : ℕ) (m : TableMembers) where
       let joined = unless-ok (connections_refusal b.value C) (record b.value { connections = C }) T (refused_as-ok (refused.Marks t) (connected b.value C) T b.behind) in
       ap (λ (U : Table). U.sections) (sym joined.1) ∙ ap (λ (U : Table). U.sections) (sym plain.1)
 
-  -- What stands in the table as the members have it.
+  -- What is in the table as the members have it.
   record IsFrom (y : DocTable) : Type 0 where
     sections : y.table.sections ≡ unwrap_or m.sections []
     times : y.times ≡ times_or_one y.table m.times

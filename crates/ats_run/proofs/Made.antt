@@ -66,7 +66,7 @@ none_at tables budget n trees T e so within table h = elim h [
       })
 ]
 
--- the table behind those that are done
+-- the table after those that are done
 pub table_behind : (tables done rest : List Table) (T : Table) → tables ≡ done ++ T ∷ rest → T ≡ table_in tables (length done)
 table_behind tables done rest T whole = sym (get_or-append_seam done T rest _) ∙ ap (λ ts. table_in ts (length done)) (sym whole)
 

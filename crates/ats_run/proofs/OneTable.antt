@@ -17,7 +17,7 @@ use Rattle.layout_json.proofs.Offered.{offer_count, table_offered}
 use Rattle.shared_run.specs.declared.crews.Crew.{Crew}
 use Rattle.ats_run.specs.Headline.{Ends, plain_after}
 
--- Behind the lines the table is the same, and as many moves more were made as fewer remain.
+-- After the lines the table is the same, and as many moves more were made as fewer remain.
 record IsBehind (T : Table) (y z : Yard) : Type 0 where
   table : z.table ≡ 0
   moves : remaining T z.positions + z.moves ≡ remaining T y.positions + y.moves

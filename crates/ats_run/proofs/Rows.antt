@@ -93,7 +93,7 @@ codes_of_making = refl
 codes_of_journals : map (λ e. code (status_of e)) (failure.NoJournal ∷ failure.Text text.NoEnd ∷ failure.Line line.Counts ∷ []) ≡ 9 ∷ 9 ∷ 9 ∷ []
 codes_of_journals = refl
 
--- want of memory isn't the journal's fault
+-- out of memory isn't the journal's fault
 faults_of_texts : map failure_of_text (text.Memory ∷ text.NoEnd ∷ text.Line 3 ∷ []) ≡ failure.Memory ∷ failure.Text text.NoEnd ∷ failure.Text (text.Line 3) ∷ []
 faults_of_texts = refl
 

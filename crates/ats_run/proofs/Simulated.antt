@@ -63,7 +63,7 @@ simulated D trees z lines ticks tick written doc accepted done s soon printed =
 next : {X : Type 0} (xs : List X) (i : ℕ) (d : X) → i < length xs → drop i xs ≡ get_or xs i d ∷ drop (i + 1) xs
 next xs i d within = drop-cons xs i d within ∙ (let more : suc i ≡ i + 1 = omega arith in ap (λ k. get_or xs i d ∷ drop k xs) more)
 
--- one line more stands behind its tick
+-- one line more comes after its tick
 pub timed_more : (N : Names) (ticks : List ℕ) (lines : List Line) (i : ℕ) (d : Line) (out longer whole : List ℕ) → i < length lines → length ticks ≡ length lines
     → out ++ timed_text N (drop i ticks) (drop i lines) ≡ whole
     → longer ≡ out ++ (decimal (get_or ticks i 0) ++ words N (get_or lines i d) ++ codes "\n")

@@ -59,7 +59,7 @@ divided_here T nodes part left right i m at later visits d at_left is_left is_ri
       ([], behind, refl, All-nil (IsGoodVisit T), omega (arith, left_ends), subst (λ (n : ℕ). IsCut T nodes n later behind) ends cut.5),
     )
 
--- so behind other parts
+-- so after other parts
 pub divided_behind : (T : Table) (nodes : List Node) (front : List Part) (part left right : Part) (i m at : ℕ) (later : List Part) (visits : List Visit) → IsDivided T nodes part i m
     → left.first ≡ part.first + 1 → left.ranges ≡ left_half part.ranges i m → right.ranges ≡ right_half part.ranges i m → IsEnd nodes (part.first + 1) right.first
     → IsCut T nodes at (front ++ part ∷ later) visits → IsCut T nodes at (front ++ left ∷ right ∷ later) visits

@@ -16,7 +16,7 @@ use Rattle.cert_checker.specs.Cut.{IsPart, IsLoad, IsChecked, ArePartsChecked, I
 abbrev Answer : Type 0
 Answer = Result (Unit {0}) CheckFault
 
--- what holds of two lists, one behind the other, holds of both
+-- what holds of two lists, one after the other, holds of both
 All-both : {X : Type 0} (P : X → Type 0) (xs ys : List X) → All P (xs ++ ys) → All P xs × All P ys
 All-both P [] ys all = (All-nil P, all)
 All-both P (x ∷ xs) ys all =

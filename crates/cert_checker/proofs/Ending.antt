@@ -22,7 +22,7 @@ nothing_begins nodes B later =
       omega (arith, ap (λ (vs : List Visit). length vs) (none (B ∷ []))),
     )
 
--- a leaf ends behind itself
+-- a leaf ends after itself
 pub leaf_ends : (nodes : List Node) (first : ℕ) (n : Node) → drop first nodes ≡ n ∷ drop (first + 1) nodes
     → ((B : List Range) (later : List (List Range)) → opened B n later ≡ later) → IsEnd nodes first (first + 1)
 leaf_ends nodes first n here leaf B later =

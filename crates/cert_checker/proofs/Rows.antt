@@ -52,7 +52,7 @@ loop_shut_otherwise = accepted loop (loop_tree (move 1) (move 1)) refl
 loop_walked : walked (full_box loop ∷ []) (preorder (loop_tree (move 1) (clash 0 1))) ≡ visits (full_box loop) (loop_tree (move 1) (clash 0 1))
 loop_walked = refl
 
--- behind a split its left half is visited, then its right half, then the box's range is given back
+-- after a split its left half is visited, then its right half, then the box's range is given back
 loop_waiting : waiting (full_box loop)
     (record { train = 0; span = record { lo = 0; hi = 0 }; visit = true }
     ∷ record { train = 0; span = record { lo = 1; hi = 2 }; visit = true } ∷ record { train = 0; span = record { lo = 0; hi = 2 }; visit = false } ∷ [])

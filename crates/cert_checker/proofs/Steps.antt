@@ -1,4 +1,4 @@
--- The steps behind a node lead to its halves and back.
+-- The steps after a node lead to its halves and back.
 use Rattle.std.proofs.Common.{◌≡◌, ℕ, ◌+◌, List, [], ◌∷◌, ◌++◌, true, false, reverse, Some, None, ◌∙◌, ap, subst}
 use Rattle.std.specs.Prelude.{slice_set}
 use Rattle.std.proofs.lemmas.List.{reverse-append, set-set, set-get_or}

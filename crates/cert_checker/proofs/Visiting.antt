@@ -1,4 +1,4 @@
--- The walk from the first node of a tree on: what is behind is good, and the open boxes are ahead.
+-- The walk from the first node of a tree on: what was visited is good, and the open boxes are ahead.
 use Rattle.std.proofs.Common.{◌≡◌, ℕ, ◌+◌, List, [], ◌∷◌, ◌++◌, Bool, false, length, reverse, drop, sym, ◌∙◌, ap, subst, arith, append_assoc, length-append}
 use Rattle.std.specs.Prelude.{All}
 use Rattle.std.proofs.lemmas.List.{append-nil}
@@ -24,7 +24,7 @@ next : (T : Table) (nodes : List Node) (first index : ℕ) (B C : List Range) (C
     → drop index nodes ≡ n ∷ later → walked (B ∷ []) (drop first nodes) ≡ v.front ++ ((C, n) ∷ walked (opened C n Cs) later)
 next T nodes first index B C Cs n later v here = v.visited ∙ ap (λ (ns : List Node). v.front ++ walked (C ∷ Cs) ns) here
 
--- a good node is behind
+-- a good node was visited
 pub passed : (T : Table) (nodes : List Node) (first index : ℕ) (B C : List Range) (Cs : List (List Range)) (n : Node) → Visiting T nodes first index B (C ∷ Cs)
     → drop index nodes ≡ n ∷ drop (index + 1) nodes → IsGood T C n → Visiting T nodes first (index + 1) B (opened C n Cs)
 passed T nodes first index B C Cs n v here good = record {
@@ -58,7 +58,7 @@ pub closed : (T : Table) (nodes : List Node) (first index : ℕ) (B : List Range
 closed T nodes first index B boxes v none =
     all_front T _ v.front _ v.visited (ap (λ (bs : List (List Range)). walked bs (drop index nodes)) none) v.good
 
--- behind the last step no box is shown
+-- after the last step no box is shown
 pub none_shown : (answer : Bool) (B : List Range) (steps : List Step) → answer ≡ false → steps ≡ [] → shown answer B (waiting B (reverse steps)) ≡ []
 none_shown answer B steps over none = ap (λ (b : Bool). shown b B (waiting B (reverse steps))) over ∙ ap (λ (s : List Step). waiting B (reverse s)) none
 

@@ -59,7 +59,7 @@ next : (T : Table) (c : Tree) (index : ℕ) (B : List Range) (Bs : List (List Ra
     → drop index (preorder c) ≡ n ∷ later → visits (full_box T) c ≡ p.front ++ ((B, n) ∷ walked (opened B n Bs) later)
 next T c index B Bs n later p here = p.visited ∙ ap (λ (ns : List Node). p.front ++ walked (B ∷ Bs) ns) here
 
--- a good node is behind
+-- a good node was visited
 pub passed : (T : Table) (c : Tree) (index : ℕ) (B : List Range) (Bs : List (List Range)) (n : Node) → Pending T c index (B ∷ Bs)
     → drop index (preorder c) ≡ n ∷ drop (index + 1) (preorder c) → IsGood T B n → Pending T c (index + 1) (opened B n Bs)
 passed T c index B Bs n p here good = record {
@@ -87,7 +87,7 @@ walk_nil : (boxes : List (List Range)) → walked boxes [] ≡ []
 walk_nil [] = refl
 walk_nil (B ∷ Bs) = refl
 
--- when all nodes are behind, the certificate is accepted
+-- when all nodes were visited, the certificate is accepted
 pub ended : (T : Table) (c : Tree) (index : ℕ) (boxes : List (List Range)) → Pending T c index boxes → length (preorder c) ≤ index → Accepts T c
 ended T c index boxes p all =
     let none : walked boxes (drop index (preorder c)) ≡ [] = ap (walked boxes) (drop_all index (preorder c) all) ∙ walk_nil boxes in

@@ -73,7 +73,7 @@ parts_of loads = flat_map (λ load. load.parts.items) loads
 abbrev pub IsLoad : Table → List Node → Load → Type 0
 IsLoad T nodes load = All (λ p. IsPart T nodes p) load.parts.items
 
--- The first fault of parts that are checked one after the other. Those behind it need not be checked.
+-- The first fault of parts that are checked one after the other. Those after it need not be checked.
 abbrev pub ArePartsChecked : Table → List Node → List Part → Result (Unit {0}) CheckFault → Type 0
 ArePartsChecked T nodes parts answer =
     (answers : List (Result (Unit {0}) CheckFault)) × AllZip (λ p r. IsChecked T nodes p r) parts answers × (answer ≡ first_fault answers)

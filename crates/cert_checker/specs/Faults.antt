@@ -11,7 +11,7 @@ use Rattle.cert_checker.specs.declared.faults.CheckFault.TheVariants.{Memory, Ba
 abbrev pub Judges : Table → List Range → Node → ℕ → Result (Unit {0}) Bad → Type 0
 Judges T B n index result = MatchResult result (λ _. IsGood T B n) (λ e. Refuses T B n e × (index_of e ≡ index))
 
--- Want of memory may come at any time; any other answer is the first bad node.
+-- Out of memory may come at any time; any other answer is the first bad node.
 abbrev pub HasFault : Table → Tree → CheckFault → Type 0
 HasFault T c Memory = Unit {0}
 HasFault T c (BadNode e) = FirstBad T c e

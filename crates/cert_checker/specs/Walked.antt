@@ -47,7 +47,7 @@ pub record IsFirstBad (T : Table) (visits : List (List Range × Node)) (first : 
   pub earlier : All (λ v. IsGood T v.0 v.1) front
   pub refused : Refuses T box node fault
 
--- Want of memory may come at any time; any other answer is the first bad visit.
+-- Out of memory may come at any time; any other answer is the first bad visit.
 abbrev pub StopsAt : Table → List (List Range × Node) → ℕ → CheckFault → Type 0
 StopsAt T visits first Memory = Unit {0}
 StopsAt T visits first (BadNode e) = IsFirstBad T visits first e

@@ -15,7 +15,7 @@ use std::alloc::Global;
 ///
 /// # Errors
 ///
-/// The first node that isn't. Want of memory may come for any certificate.
+/// The first node that isn't. Out of memory may come for any certificate.
 pub fn check(alloc: Global, table: &Table, cert: &Cert) -> Result<(), CheckFault>
     ensures accepted { OnOk result (Accepts table.now cert.now) }
     ensures bad { IfErr result (HasFault table.now cert.now) }

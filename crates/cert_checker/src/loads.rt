@@ -11,7 +11,7 @@ pub(crate) struct Load {
     pub parts: Vec<Part>,
 }
 
-/// The parts in loads, in order. A load is full if the next part begins at least so many nodes after its first.
+/// The parts in loads, in order. A load is full if the next part begins at least this many nodes after its first.
 pub(crate) fn loads_of(
     alloc: Global,
     parts: Vec<Part>,

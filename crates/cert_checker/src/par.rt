@@ -104,7 +104,7 @@ fn first_fault(answers: &[Result<(), CheckFault>]) -> Result<(), CheckFault>
 ///
 /// # Errors
 ///
-/// The bad node of least index. Want of memory may come for any certificate.
+/// The bad node of least index. Out of memory may come for any certificate.
 pub fn check_par(
     rt: &(impl Threads + Sync),
     alloc: Global,

@@ -53,7 +53,7 @@ pub(crate) fn clashes(table: &Table, ranges: &Ranges, first: u32, second: u32) -
     }
 }
 
-// Whether another train may stand at the point behind a train's place.
+// Whether another train may stand at the point after a train's place.
 fn is_ahead(table: &Table, ranges: &Ranges, train: u32, other: u32, place: u32) -> bool
     requires formed { IsTable table.now }
     requires boxed { IsBox table.now ranges.now }

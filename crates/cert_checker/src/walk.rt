@@ -33,7 +33,7 @@ fn step_back(sums: &RangeSums, train: u32) -> Step
     }
 }
 
-// The step to the places behind one.
+// The step to the places after one.
 fn step_right(sums: &RangeSums, train: u32, place: u32) -> Step
     requires train { train < length sums.now.ranges }
     requires place { place < (range sums.now.ranges train).hi }
@@ -90,7 +90,7 @@ fn plan_back(
     Ok(())
 }
 
-// Plans the steps behind a node: for a split to its left half, to its right half, and back.
+// Plans the steps after a node: for a split to its left half, to its right half, and back.
 fn plan(
     table: &Table,
     sums: &RangeSums,

@@ -112,7 +112,7 @@ fn next_from(number: Option<u32>, from: usize) -> usize
     }
 }
 
-// For each section its number in the table, where it is there behind the one before.
+// For each section its number in the table, where it is there after the one before.
 fn numbers_of(alloc: Global, former: &Table, table: &Table) -> Result<Vec<Option<u32>>, AllocError>
     requires missions { former.now.missions ≡ table.now.missions }
     requires connections { former.now.connections ≡ table.now.connections }

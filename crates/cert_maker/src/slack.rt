@@ -43,7 +43,7 @@ fn greatest_sum(table: &Table, lists: &Lists, ranges: &Ranges, section: u32) -> 
     sum
 }
 
-// A train's share behind the greatest place of its range and the other trains' greatest shares.
+// A train's share after the greatest place of its range and the other trains' greatest shares.
 fn most_behind(
     table: &Table,
     lists: &Lists,

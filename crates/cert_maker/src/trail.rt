@@ -94,7 +94,7 @@ impl Trail {
         }
     }
 
-    // Where the former nodes go on behind the next box.
+    // Where the former nodes go on after the next box.
     fn behind_next(&self, nodes: &[Node]) -> usize
         requires few { length nodes.now ≤ 1000000 }
         ensures { (T : TableValue) (B : List Range) (S : List (List Range)) → IsOnTrail T nodes.now self.now (B ∷ S)
@@ -117,7 +117,7 @@ impl Trail {
         self.at = end;
     }
 
-    // Goes on behind the next box.
+    // Goes on after the next box.
     fn pass(&mut self, nodes: &[Node])
         requires few { length nodes.now ≤ 1000000 }
         ensures { (T : TableValue) (B : List Range) (S : List (List Range)) → IsOnTrail T nodes.now self.old (B ∷ S) → IsOnTrail T nodes.now self.new S }
@@ -148,7 +148,7 @@ impl Trail {
         }
     }
 
-    /// Goes on behind the node of the next box.
+    /// Goes on after the node of the next box.
     pub(crate) fn follow(&mut self, nodes: &[Node], node: Node) -> Result<(), AllocError>
         requires few { length nodes.now ≤ 1000000 }
         ensures { (T : TableValue) (B : List Range) (S : List (List Range)) → IsOnTrail T nodes.now self.old (B ∷ S)

@@ -36,7 +36,7 @@ leaf_ends_one = refl
 coded : node_of (numbers (Split 3 5)) ≡ Split 3 5
 coded = refl
 
--- behind a split and its left half the right half is missing
+-- after a split and its left half the right half is missing
 one_missing : IsMissing (Split 0 0 ∷ Move 0 ∷ []) 1
 one_missing = next (Split 0 0 ∷ []) (Move 0) 2 (lit< tt) (next [] (Split 0 0) 1 (lit< tt) start)
 

@@ -65,7 +65,7 @@ each_one_more (t ∷ ts) =
       splits-append (preorder t) (forest_nodes ts),
     )
 
--- so many trees are missing as the splits want beside the leaves that are there
+-- as many trees are missing as the splits want beside the leaves that are there
 missing_is : (nodes : List Node) (n : ℕ) → IsMissing nodes n → leaves nodes + n ≡ splits nodes + 1
 missing_is nodes n missing =
     let ts = replicate n arrived in
@@ -84,7 +84,7 @@ missing_is nodes n missing =
 same_missing : (nodes : List Node) (m n : ℕ) → IsMissing nodes m → IsMissing nodes n → m ≡ n
 same_missing nodes m n one two = omega (arith, missing_is nodes m one, missing_is nodes n two)
 
--- a tree with nodes behind it begins no other tree
+-- a tree with nodes after it begins no other tree
 first_is : (t u : Tree) (rest : List Node) → preorder t ++ rest ≡ preorder u → t ≡ u
 first_is t u rest e = ap first_tree (sym (trees_of-preorder t rest)) ∙ ap (λ (ns : List Node). first_tree (trees_of ns)) e ∙ tree_of-preorder u
 

@@ -6,12 +6,12 @@ use Rattle.cert_tree.specs.declared.reading.CertRefused.{CertRefused}
 use Rattle.cert_tree.specs.declared.reading.CertRefused.TheVariants.{Memory, TooMany, Short, Over}
 use Rattle.cert_tree.specs.Spelling.{forest_nodes, most_nodes}
 
--- Any so many trees behind the list make it a tree's preorder.
+-- Any `missing` trees after the list make it a tree's preorder.
 abbrev pub IsMissing : List Node → ℕ → Type 0
 IsMissing nodes missing =
     (ts : List Tree) → length ts ≡ missing → (t : Tree) × (preorder t ≡ nodes ++ forest_nodes ts)
 
--- The first so many nodes are a tree's preorder, and some are left over.
+-- The first `used` nodes are a tree's preorder, and some are left over.
 abbrev pub IsLeftOver : List Node → ℕ → Type 0
 IsLeftOver nodes used =
     (t : Tree) × (rest : List Node) × (nodes ≡ preorder t ++ rest) × (length (preorder t) ≡ used) × (0 < length rest)

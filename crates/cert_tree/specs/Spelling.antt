@@ -19,7 +19,7 @@ put (Overfull s) later = overfull s ∷ later
 put Arrived later = arrived ∷ later
 put (Move i) later = move i ∷ later
 
--- the trees that a list of nodes spells, one behind the other
+-- the trees that a list of nodes spells, one after the other
 abbrev pub trees_of : List Node → List Tree
 trees_of [] = []
 trees_of (n ∷ later) = put n (trees_of later)
@@ -33,17 +33,17 @@ first_tree (t ∷ later) = t
 abbrev pub tree_of : List Node → Tree
 tree_of nodes = first_tree (trees_of nodes)
 
--- the nodes of trees, one tree behind the other
+-- the nodes of trees, one tree after the other
 abbrev pub forest_nodes : List Tree → List Node
 forest_nodes [] = []
 forest_nodes (t ∷ later) = preorder t ++ forest_nodes later
 
--- how many trees are wanted behind a node
+-- how many trees are wanted after a node
 abbrev pub wanted_behind : Node → ℕ → ℕ
 wanted_behind (Split i m) wanted = wanted + 1
 wanted_behind _ wanted = wanted - 1
 
--- The certificate's view rests on the two laws below: they stand here for that.
+-- The certificate's view rests on the two laws below: they are here for that.
 pub trees_of-preorder : (t : Tree) (later : List Node) → trees_of (preorder t ++ later) ≡ t ∷ trees_of later
 trees_of-preorder (clash i j) later = refl
 trees_of-preorder (overfull s) later = refl

@@ -54,7 +54,7 @@ impl Cert {
     }
 }
 
-/// The nodes in preorder, in a list of their own. The only error is want of memory.
+/// The nodes in preorder, in a list of their own. The only error is out of memory.
 pub fn preorder(alloc: Global, cert: &Cert) -> Result<Vec<Node>, AllocError>
     ensures { IfOk result (λ nodes. nodes.items ≡ nodes_of cert.now) }
 {

@@ -12,7 +12,7 @@ pub fn each_list_spells_one_tree()
     ensures { (c d : Tree) → preorder c ≡ preorder d → c ≡ d }
 {}
 
-/// But for want of memory: a list that is refused spells no certificate, and it is refused for one cause.
+/// Out of memory apart, a list that is refused spells no certificate, and it is refused for one cause.
 pub fn each_list_has_one_verdict()
     ensures not_both { (nodes : List NodeValue) (e : Refusal) (t : Tree)
         → e ≢ Memory → IsRefused nodes e → preorder t ≡ nodes → length nodes ≤ most_nodes → ⊥ }

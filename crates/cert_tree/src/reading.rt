@@ -14,11 +14,11 @@ use std::alloc::{AllocError, Global};
 pub enum CertRefused {
     /// There is no memory for the list.
     Memory,
-    /// There are so many nodes, more than `MOST_NODES`.
+    /// There are `count` nodes, more than `MOST_NODES`.
     TooMany { count: u64 },
-    /// The list ends while so many trees are still wanted.
+    /// The list ends while `missing` trees are still wanted.
     Short { missing: u64 },
-    /// The first so many nodes are a tree, and nodes are left.
+    /// The first `used` nodes are a tree, and nodes are left.
     Over { used: u64 },
 }
 
@@ -58,7 +58,7 @@ pub fn tree(alloc: Global, nodes: &[Node]) -> Result<Cert, CertRefused>
     Ok(Cert::spelled(nodes))
 }
 
-/// How many trees are wanted behind a node, where so many were before it.
+/// How many trees are wanted after a node, where this many were before it.
 pub fn behind(node: Node, wanted: u64) -> u64
     requires some { 0 < wanted }
     requires few { wanted ≤ most_nodes + 1 }

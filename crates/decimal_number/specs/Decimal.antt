@@ -3,7 +3,7 @@ use Rattle.std.specs.Prelude.{ℕ, ◌==◌, ◌^◌, ◌&&◌, not, List, lengt
 use Rattle.std.specs.Str.{all_ascii_digits}
 use Rattle.std.specs.Str.Parse.{digits_value}
 
--- a zero stands before another byte
+-- a zero comes before another byte
 abbrev pub has_leading_zero : List ℕ → Bool
 has_leading_zero word = slice_index word 0 == 48 && nat_lt 1 (length word)
 

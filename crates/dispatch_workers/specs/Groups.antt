@@ -10,7 +10,7 @@ abbrev pub IsOurGroup : SharedYard → Group → Type 0
 IsOurGroup yard (Drivers drivers) = AllOurs yard drivers.items
 IsOurGroup yard (Control control) = control.yard ≡ yard
 
--- The group made its rounds, in each of which a driver asks for so many steps at once, or the control its turns.
+-- The group made its rounds, in each of which a driver asks for this many steps at once, or the control its turns.
 abbrev pub GroupWorked : ℕ → ℕ → Group → Group → Type 0
 GroupWorked rounds steps (Drivers olds) (Drivers news) = Worked rounds steps olds.items news.items
 GroupWorked rounds steps (Control old) (Control new) = Turned rounds old new

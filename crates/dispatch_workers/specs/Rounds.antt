@@ -50,7 +50,7 @@ AllOurs yard drivers = All (λ d. d.yard ≡ yard) drivers
 abbrev pub Asked : ℕ → Bool → Pass → Pass → Type 0
 Asked steps ended old new = (round : Round) × GoesRound steps round old new × (ended ≡ true → IsEnd round)
 
--- What a driver did of so many rounds: it made this many of them, all or as many as end early.
+-- What a driver did of a number of rounds: it made this many of them, all or as many as end early.
 abbrev pub DriverWorked : ℕ → ℕ → ℕ → Pass → Pass → Type 0
 DriverWorked rounds steps made old new =
     (told : List Round) × (length told ≡ made) × Makes steps told old new × ((made ≡ rounds) ⊎ EndsEarly told)

@@ -31,6 +31,6 @@ IsOverfullAtEnd T s = pos (limit T s) <ℤ end_count T s
 abbrev pub end : Table → ℕ → Option ℕ
 end T i = point T i (last T i)
 
--- The two trains have one last point, and neither leaves the layout behind it.
+-- The two trains have one last point, and neither leaves the layout after it.
 abbrev pub EndTogether : Table → ℕ → ℕ → Type 0
 EndTogether T i j = (q : ℕ) × (end T i ≡ Some q) × (end T j ≡ Some q)

@@ -21,7 +21,7 @@ const TABLE_MEMBERS: [&str; 7] = [
 
 const SECTION_MEMBERS: [&str; 2] = ["limit", "changes"];
 
-// So many unknown members of one object are named, and so many characters of a name are shown.
+// This many unknown members of one object are named, and this many characters of a name are shown.
 const NAMED: usize = 8;
 
 const SHOWN: usize = 40;

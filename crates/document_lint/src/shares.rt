@@ -1,4 +1,4 @@
-// Shares that stand where changes are wanted.
+// Shares that are written where changes are wanted.
 use crate::remark::Remarks;
 use std::alloc::{AllocError, Global};
 

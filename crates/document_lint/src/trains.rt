@@ -46,7 +46,7 @@ pub(crate) fn add_trains(remarks: &mut Remarks, subject: &Subject) -> Result<(),
     Ok(())
 }
 
-// Whether a train is at a place or behind it from the start on.
+// Whether a train is at a place or after it from the start on.
 fn starts_from(start: &[u32], train: u32, place: u32) -> bool {
     match start.get(train as usize) {
         Some(position) => place <= *position,

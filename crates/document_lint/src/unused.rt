@@ -5,7 +5,7 @@ use layout_json::{Doc, layout_of, table_of, tables_of};
 use rail_model::{Layout, Link, points_of, zone_of, zones_of};
 use std::alloc::AllocError;
 
-// So many unused links are named.
+// This many unused links are named.
 const NAMED: usize = 8;
 
 // Whether some mission comes to a point.

@@ -16,7 +16,7 @@ change-up r k e = rw (eq-eqb k r.lo e) refl
 change-down : (r : Range) (k : ℕ) → k ≢ r.lo → k ≡ r.hi + 1 → change_of r k ≡ negsuc 0
 change-down r k d e = rw (ne_eqb k r.lo d, eq-eqb k (r.hi + 1) e) refl
 
--- the sum of the changes below n, before, within and behind the range
+-- the sum of the changes below n, before, within and after the range
 total-before : (r : Range) (n : ℕ) → r.lo ≤ r.hi → n ≤ r.lo → total_below (change_of r) n ≡ pos 0
 total-before r zero f h = refl
 total-before r (suc n) f h =

@@ -54,7 +54,7 @@ pub(crate) struct Cells {
 }
 
 impl Cells {
-    /// A grid for so many points, with none placed.
+    /// A grid for this many points, with none placed.
     pub(crate) fn new(alloc: Global, points: u32) -> Result<Cells, AllocError> {
         let items = vec![in alloc; None; points as usize]?;
         Ok(Cells { items })

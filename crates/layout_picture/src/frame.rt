@@ -68,12 +68,12 @@ fn train_letters(names: &Names) -> u64 {
     most
 }
 
-// How wide a name of so many letters is.
+// How wide a name of this many letters is.
 fn width_of(letters: u64) -> u64 {
     letters.saturating_mul(7).saturating_add(8)
 }
 
-// How far the names of so many letters reach up or down, and to the side where they are tilted.
+// How far the names of this many letters reach up or down, and to the side where they are tilted.
 fn reach_of(letters: u64, tilted: bool) -> u64 {
     if tilted {
         letters.saturating_mul(5).saturating_add(14)
@@ -87,7 +87,7 @@ fn spread(width: u64, gaps: u64) -> u64 {
     (width / gaps.max(1)).max(22).min(130)
 }
 
-// A grid for names of so many letters, with so many gaps between columns, and between rows.
+// A grid for names of this many letters, with this many gaps between columns, and between rows.
 fn grid_of(points: u64, trains: u64, columns: u64, rows: u64) -> Grid {
     let rise = spread(WIDTH - 2 * MARGIN, columns) < width_of(points);
     let above = reach_of(points, rise);

@@ -21,7 +21,7 @@ fn mark_train(inside: &mut Vec<bool>, table: &Table, section: u32, train: u32)
     }
 }
 
-// Whether each of so many points is in a section.
+// Whether each of this many points is in a section.
 fn inside_of(
     alloc: Global,
     table: &Table,

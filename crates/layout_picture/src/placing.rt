@@ -19,7 +19,7 @@ struct Stretch<'a> {
     rightward: bool,
 }
 
-// The column so many columns to the right, or to the left.
+// The column this many columns to the right, or to the left.
 fn moved(column: u32, steps: u32, rightward: bool) -> u32 {
     if rightward {
         column.saturating_add(steps)
@@ -40,7 +40,7 @@ fn gaps_of(points: &[u32]) -> u32 {
     points.len().min(512) as u32 + 1
 }
 
-// Moves the columns from the right one of two cells on, until there are so many gaps between the two. Nothing moves
+// Moves the columns from the right one of two cells on, until there are this many gaps between the two. Nothing moves
 // where they are in one column.
 fn make_room(cells: &mut Cells, before: Option<Cell>, after: Option<Cell>, gaps: u32) {
     if let (Some(before), Some(after)) = (before, after) {

@@ -61,7 +61,7 @@ held = refl
 freed : ask waiting (0 ∷ 1 ∷ []) 0 ≡ Yes
 freed = refl
 
--- two trains that leave the layout behind B
+-- two trains that leave the layout after B
 abbrev leaving : Table
 leaving = record {
   missions = record { points = 0 ∷ 1 ∷ []; exits = true } ∷ record { points = 2 ∷ 1 ∷ []; exits = true } ∷ [];

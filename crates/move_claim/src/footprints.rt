@@ -71,7 +71,7 @@ impl<'a> Footprint<'a> {
         self.fill_block(layout, table, train, place, 1);
     }
 
-    /// Becomes what the next steps of a train need, so many or all that remain.
+    /// Becomes what the next steps of a train need, this many or all that remain.
     pub fn fill_block(
         &mut self,
         layout: &Layout,

@@ -14,7 +14,7 @@ use Rattle.move_journal.specs.Words.{word_list, numbered_of, end_of}
 use Rattle.move_journal.proofs.Forms.{numbered_takes, end_takes, line_content, end_content, end_content_is}
 use Rattle.move_journal.proofs.Again.{IsOneLine, numbered_again, end_again, line-one_line, end-one_line, cut_once}
 
--- the forms of both texts in which a newline stands behind the content
+-- the forms of both texts in which a newline comes after the content
 pub line_cut : (N : Names) (rest : List ℕ) (n : ℕ) (l : Line) (later : List ℕ) → BeginsWithLine N rest n l later → rest ≡ (decimal n ++ words N l) ++ 10 ∷ later
 line_cut N rest n l later b = b.text ∙ append_assoc (decimal n ++ words N l) (codes "\n") later
 

@@ -17,7 +17,7 @@ use Rattle.decimal_number.proofs.Numbers.{number_takes}
 use Rattle.move_journal.proofs.Lookups.{called_takes}
 use Rattle.move_journal.proofs.Splitting.{words_joined}
 
--- the words of a line behind its number
+-- the words of a line after its number
 abbrev pub line_words : Names → Line → List (List ℕ)
 line_words N (Move i from to) = codes "move" ∷ train_name N i ∷ point_name N from ∷ target_name N to ∷ []
 line_words N (Table t) = codes "table" ∷ decimal t ∷ []

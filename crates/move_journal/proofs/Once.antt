@@ -59,7 +59,7 @@ abbrev pub Ends : Names → ℕ → List ℕ → Ending → Type 0
 Ends N k rest (bad e) = Stops N k rest e
 Ends N k rest (ended m t) = BeginsWithEnd rest m t []
 
--- where a right line stands, reading goes on
+-- where there is a right line, reading goes on
 goes_on : (N : Names) (k : ℕ) (rest : List ℕ) (l : Line) (later : List ℕ) (e : Ending) → IsNames N → BeginsWithLine N rest k l later → Ends N k rest e → ⊥
 goes_on N k rest l later (bad (BadLine j)) names b h = h.2.no_line k l later b
 goes_on N k rest l later (bad (Number j)) names b h = h.1.4 (sym (same_line N rest k h.1.0 l h.1.1 later h.1.2 names b h.1.3).0)

@@ -75,7 +75,7 @@ one_front N bytes K L names p q =
     let tables : K.tables ≡ L.tables = p.counts.1 ∙ ap (count_by is_table) lines ∙ sym q.counts.1 in
     (λ i. record { lines = lines i; moves = moves i; tables = tables i })
 
--- what an answer other than want of memory says
+-- what an answer other than out of memory says
 fault_of : (N : Names) (bytes : List ℕ) (e : BadText) → (e ≡ Memory → ⊥) → Answers N bytes (Err e) → HasFault N bytes e
 fault_of N bytes (BadLine j) h a = a
 fault_of N bytes (Number j) h a = a

@@ -56,7 +56,7 @@ Readable N bytes = (lines : List Line) × (e : Ending) × Way N bytes lines e
 stops : (N : Names) (bytes : List ℕ) (lines : List Line) (rest : List ℕ) (e : BadText) → Reads N bytes lines rest → Stops N (length lines + 1) rest e → Readable N bytes
 stops N bytes lines rest e reads why = (lines, bad e, record { rest = rest; reads = reads; ends = why })
 
--- an end line, with nothing behind it or with something
+-- an end line, with nothing after it or with something
 at_end : (N : Names) (bytes : List ℕ) (lines : List Line) (rest : List ℕ) (m t : ℕ) (later : List ℕ) → Reads N bytes lines rest → BeginsWithEnd rest m t later → Readable N bytes
 at_end N bytes lines rest m t [] reads is = (lines, ended m t, record { rest = rest; reads = reads; ends = is })
 at_end N bytes lines rest m t (b ∷ later) reads is = stops N bytes lines rest After reads (m, t, b ∷ later, is, omega arith)

@@ -74,7 +74,7 @@ round = (
     arrived zero lt = refl
     arrived (suc i) lt = absurd (omega (arith, lt))
 
--- the same point twice: T0 [A, B, A, C], and behind it a table with D in place of B
+-- the same point twice: T0 [A, B, A, C], and after it a table with D in place of B
 abbrev twice : List Offer
 twice = record { table = alone (0 ∷ 1 ∷ 0 ∷ 2 ∷ []); after = 0 } ∷ record { table = alone (0 ∷ 3 ∷ 0 ∷ 2 ∷ []); after = 2 } ∷ []
 

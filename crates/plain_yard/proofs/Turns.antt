@@ -18,13 +18,13 @@ use Rattle.rail_model.specs.Lines.{move_line}
 use Rattle.plain_yard.specs.Rounds.{Reaches, Finishes, Went}
 use Rattle.plain_yard.proofs.Reaching.{reaches_trans}
 
--- the train that is k places behind the last mover has no move
+-- the train that is k places after the last mover has no move
 abbrev pub Skips : List Offer → Yard → ℕ → ℕ → Type 0
 Skips tables y before k =
     let T = in_force tables y in
     Move T y.positions ((before + 1 + k) % trains T) (advance y.positions ((before + 1 + k) % trains T)) → ⊥
 
--- A turn of the round robin: from the last mover on, so many trains were asked, and none of them has a move.
+-- A turn of the round robin: from the last mover on, this many trains were asked, and none of them has a move.
 pub record Turn (tables : List Offer) (y0 : Yard) (b0 : ℕ) (ls0 : List Line) (y : Yard) (before asked : ℕ) (ls : List Line) : Type 0 where
   pub formed : IsTable (in_force tables y)
   pub reaches : Reaches tables y0 b0 ls0 y before ls

@@ -36,7 +36,7 @@ share_before points h route (suc place) = share_at points h route place
 abbrev pub change_at : List (String Global) → Holding → List (String Global) → ℕ → ℤ
 change_at points h route place = pos (share_at points h route place) -ℤ pos (share_before points h route place)
 
--- how many places a route has, with the one behind an exit
+-- how many places a route has, with the one after an exit
 abbrev pub places : List (String Global) → Bool → ℕ
 places route exits = length route + (if exits then 1 else 0)
 

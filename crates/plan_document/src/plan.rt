@@ -14,7 +14,7 @@ pub struct Plan {
     pub tables: Vec<TablePlan>,
 }
 
-/// A table of a plan: for each train its route, whether it exits behind it, and its travel times; sections, and who waits for whom.
+/// A table of a plan: for each train its route, whether it exits after it, and its travel times; sections, and who waits for whom.
 #[derive(Drop)]
 pub struct TablePlan {
     pub routes: Vec<Vec<String>>,
@@ -54,7 +54,7 @@ impl TablePlan {
         }
     }
 
-    /// Whether a train exits behind its route; false for a train that isn't there.
+    /// Whether a train exits after its route; false for a train that isn't there.
     pub fn exits_at(&self, train: usize) -> bool
         ensures { result ≡ slice_index_or self.now.exits.items train false }
     {

@@ -48,14 +48,14 @@ fn change_at(points: &[String], holding: &Holding, route: &[String], place: usiz
     i32::from(share_at(points, holding, route, place)) - i32::from(before)
 }
 
-// How many places a route has, with the one behind an exit.
+// How many places a route has, with the one after an exit.
 fn places(route: &[String], exits: bool) -> usize
     ensures { result ≡ spec.places route.now exits }
 {
     if exits { route.len() + 1 } else { route.len() }
 }
 
-/// The changes of a train's share of a section, one for each place of its route, and one for the place behind it where the train exits.
+/// The changes of a train's share of a section, one for each place of its route, and one for the place after it where the train exits.
 pub(crate) fn changes(
     alloc: Global,
     points: &[String],

@@ -122,7 +122,7 @@ impl<'t> Entry<'t> {
         }
     }
 
-    /// The entries of a kind: none, where they don't stand in a list.
+    /// The entries of a kind: none, where they aren't in a list.
     pub fn list(&self, kind: Kind) -> Entries<'t> {
         Entries {
             kind,
@@ -139,7 +139,7 @@ impl<'t> Entry<'t> {
         self.keys?.get(key)
     }
 
-    /// The values of the list at a key: none, where no list stands there.
+    /// The values of the list at a key: none, where there is no list.
     pub fn values(&self, key: &str) -> &'t [Value] {
         match self.value(key) {
             Some(Value::Array(values)) => values.as_slice(),

@@ -1,4 +1,4 @@
-// Where in the text of a plan an entry stands.
+// Where in the text of a plan an entry is.
 use crate::Entry;
 use std::alloc::{AllocError, Global};
 
@@ -58,7 +58,7 @@ fn begins_with(line: &str, key: &str) -> bool {
     first_key(line) == key || last_part(header_of(line)) == key
 }
 
-// Whether a name stands in a line between two of these quotes, or before the first or behind the last.
+// Whether a name is in a line between two of these quotes, or before the first or after the last.
 fn has_quoted(line: &str, quote: char, name: &str) -> bool {
     for piece in line.split(quote) {
         if piece == name {
@@ -68,7 +68,7 @@ fn has_quoted(line: &str, quote: char, name: &str) -> bool {
     false
 }
 
-// Whether a name stands in a line as a word.
+// Whether a name is in a line as a word.
 fn has_bare(line: &str, name: &str) -> bool {
     for piece in line.split(is_gap) {
         if piece == name {
@@ -78,7 +78,7 @@ fn has_bare(line: &str, name: &str) -> bool {
     false
 }
 
-// Whether a name stands in a line, in quotes or as a word.
+// Whether a name is in a line, in quotes or as a word.
 fn has_name(line: &str, name: &str) -> bool {
     has_quoted(line, '"', name) || has_quoted(line, '\'', name) || has_bare(line, name)
 }
@@ -93,7 +93,7 @@ impl<'a> Source<'a> {
         Ok(Source { lines })
     }
 
-    // A line, counted from 0; empty behind the last.
+    // A line, counted from 0; empty after the last.
     fn line(&self, index: usize) -> &'a str {
         self.lines.get(index).copied().unwrap_or("")
     }
@@ -148,7 +148,7 @@ impl<'a> Source<'a> {
         None
     }
 
-    // The first of these lines in which a name stands, or else the first of all.
+    // The first of these lines in which a name is, or else the first of all.
     fn name_line(&self, from: usize, end: usize, name: &str) -> usize {
         if name.is_empty() {
             return from;

@@ -216,7 +216,7 @@ fn check_entry(faults: &mut Faults, entry: &Entry) {
     }
 }
 
-// Tells what isn't a list at a key where one stands.
+// Tells what isn't a list at a key that has a value.
 fn check_list(faults: &mut Faults, entry: &Entry, key: &'static str) {
     if let Some(value) = entry.value(key)
         && !value.is_array()

@@ -55,7 +55,7 @@ fn distance(alloc: Global, name: &str, known: &str) -> Result<usize, AllocError>
     })
 }
 
-// The number of the name that is most like this one; one behind the last, if none differs in at most two letters.
+// The number of the name that is most like this one; one after the last, if none differs in at most two letters.
 fn nearest(alloc: Global, name: &str, known: &[&str]) -> Result<usize, AllocError> {
     let mut least = 3usize;
     let mut found = known.len();

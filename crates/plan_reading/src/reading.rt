@@ -30,7 +30,7 @@ fn line_after(bytes: &[u8]) -> u32 {
     line
 }
 
-// One fault, behind the first bytes of a text.
+// One fault, after the first bytes of a text.
 fn one_fault(
     alloc: Global,
     text: &[u8],

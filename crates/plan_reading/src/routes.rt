@@ -12,7 +12,7 @@ pub(crate) struct Scope<'a> {
     pub table: usize,
 }
 
-/// Where on a route a name stands.
+/// Where on a route a name is.
 #[derive(Clone, Copy)]
 pub(crate) enum Spot {
     At(usize),
@@ -37,7 +37,7 @@ impl<'a> Scope<'a> {
         }
     }
 
-    /// Whether a train exits behind its route.
+    /// Whether a train exits after its route.
     pub fn exits(&self, train: usize) -> bool {
         self.exits.get(train).copied().unwrap_or(false)
     }
@@ -57,7 +57,7 @@ fn nth_place(route: &[String], point: &str, before: usize) -> Option<usize> {
     None
 }
 
-/// The point of a name: what stands before `#`.
+/// The point of a name: what comes before `#`.
 pub(crate) fn point_of(name: &str) -> &str {
     match name.split_once("#") {
         Some((point, _)) => point,
@@ -76,7 +76,7 @@ fn counted_place(route: &[String], point: &str, count: &str) -> Spot {
     }
 }
 
-/// Where a name stands on a route: a point, or with `#2` behind it the second time that it comes.
+/// Where a name is on a route: a point, or with `#2` after it the second time that it comes.
 pub(crate) fn find_place(route: &[String], name: &str) -> Spot {
     if let Some((point, count)) = name.split_once("#") {
         return counted_place(route, point, count);
@@ -106,7 +106,7 @@ fn tell_on<'x>(
     faults.tell(at, form, &parts);
 }
 
-/// Tells a name that stands nowhere on a train's route.
+/// Tells a name that is nowhere on a train's route.
 pub(crate) fn check_comes<'x>(
     faults: &mut Faults,
     at: &Entry<'x>,

@@ -31,7 +31,7 @@ impl<'t> Service<'t> {
         own.or(self.first.names("route")).unwrap_or(&[])
     }
 
-    // Whether the train exits behind its route.
+    // Whether the train exits after its route.
     fn exits(&self) -> bool {
         let own = self.change.flag("exit");
         own.or(self.first.flag("exit")).unwrap_or(false)
@@ -58,7 +58,7 @@ impl<'t> Service<'t> {
     }
 }
 
-// The number of the first of these changes that is one of this train; one behind the last, if none is.
+// The number of the first of these changes that is one of this train; one after the last, if none is.
 fn change_of(changes: &Entries, name: &str) -> usize {
     let count = changes.values.len();
     for index in 0..count {

@@ -6,7 +6,7 @@ const ABOUT: &str = "Writes documents of ats from plans, and explains, checks an
 
 It reads standard input and writes standard output. What is wrong goes to standard error, a line each.";
 
-// An option: what its value is called, empty if it takes none, and the option that it can't stand with, if there is one.
+// An option: what its value is called, empty if it takes none, and the option that it can't go with, if there is one.
 #[derive(Clone, Copy)]
 struct Choice {
     name: &'static str,

@@ -17,7 +17,7 @@ use Rattle.rail_model.proofs.Moves.{legal_run}
 use Rattle.rail_model.proofs.Asks.{told, told_once}
 use Rattle.rail_model.proofs.Answered.{advanced_none, move_within, stops_once}
 
--- one step after so many is one step more
+-- one step after this many is one step more
 advanced_more : (p : List ℕ) (i k : ℕ) → i < length p → advance (advanced p i k) i ≡ advanced p i (suc k)
 advanced_more p i k lt =
     let now : place (advanced p i k) i ≡ place p i + k = get_or-set_same p i (place p i + k) 0 lt in
@@ -58,7 +58,7 @@ module _ (T : Table) (p : List ℕ) (i : ℕ) where
     next k made (Full s n) h = inr (record { step = k; ask = Full s n; before = omega arith; made = made; told = h; refused = λ e. absurd (cc e) })
     next k made (Waits c) h = inr (record { step = k; ask = Waits c; before = omega arith; made = made; told = h; refused = λ e. absurd (cc e) })
 
-    -- so many steps can be made, or one of them is the first that isn't granted
+    -- this many steps can be made, or one of them is the first that isn't granted
     goes : (k : ℕ) → Reaches k ⊎ Stops k
     goes zero = inl (advanced_none p i)
     goes (suc k) = elim (goes k) [

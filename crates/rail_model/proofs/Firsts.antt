@@ -6,7 +6,7 @@ use Rattle.std.specs.Result.{result_err}
 use Rattle.std.proofs.lemmas.Bool.Decides.{eqb_tells}
 use Rattle.rail_model.specs.Turns.{first_of, first_below, unless, Answers}
 
--- after rows that refuse nothing, the first refusal is that of the rows behind them
+-- after rows that refuse nothing, the first refusal is that of the rows after them
 pub first_of-after : {E : Type 0} (rs ss : List (Option E)) → first_of rs ≡ None → first_of (rs ++ ss) ≡ first_of ss
 first_of-after [] ss h = refl
 first_of-after (None ∷ rs) ss h = first_of-after rs ss h
@@ -126,7 +126,7 @@ pub Answers-err : {A B E : Type 0} (memory : E) (see : A → B) (result : Result
 Answers-err memory see (Ok a) wanted e is h = absurd is
 Answers-err memory see (Err y) wanted e is h = subst (λ x. (x ≡ memory) ⊎ (wanted ≡ Err x)) (sym is) h
 
--- a row without a refusal is passed over
+-- a row without a refusal is left out
 pub passed : {E : Type 0} (r : Option E) (rs : List (Option E)) (x : Option E) → None ≡ r → first_of rs ≡ x → first_of (r ∷ rs) ≡ x
 passed r rs x h k = ap (λ v. option_or v (first_of rs)) (sym h) ∙ k
 

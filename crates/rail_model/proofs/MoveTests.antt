@@ -69,7 +69,7 @@ Decides-move T p i =
     (Decides-and _ _ (Decides-and _ _ (Decides-legal T p) (Decides-ltb i (trains T))) (Decides-legal T (advance p i)))
     (Decides-not _ (Decides-any_get _ (λ k. ((k.train ≡ i) × (k.place ≡ place p i)) × (place p k.other < k.reached)) (Decides-held p i) T.connections)))
 
--- the state behind these trains' moves
+-- the state after these trains' moves
 abbrev pub behind : List ℕ → List ℕ → List ℕ
 behind p [] = p
 behind p (i ∷ later) = behind (advance p i) later

@@ -46,13 +46,13 @@ apart_at names i j lt within none same =
     let there : slice_index_or (take j names) i [] ≡ slice_index_or names j [] = get_or-take j names i [] lt ∙ same in
     not_from_Decides _ (bytes_decides (slice_index_or names j []) (slice_index_or (take j names) i [])) differs (sym there)
 
--- where no name stands twice, names at two places differ
+-- where no name is repeated, names at two places differ
 pub first_double-none : (names : List (List ℕ)) → first_double names ≡ None → (i j : ℕ) → i < j → j < length names → slice_index_or names i [] ≡ slice_index_or names j [] → ⊥
 first_double-none names h i j lt within =
     let none = pair_none (earlier names j) j (first_below-none (length names) (double_at names) h j within) in
     apart_at names i j lt within none
 
--- the name that stands twice first
+-- the name that is repeated first
 pub first_double-some : (names : List (List ℕ)) (first second : ℕ) → first_double names ≡ Some (first, second) → IsFirstDouble names first second
 first_double-some names first second h =
     let found = first_below-some (length names) (double_at names) (first, second) h in

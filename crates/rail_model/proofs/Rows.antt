@@ -94,7 +94,7 @@ kept_over = refl
 shut_node : is_good shut_corridor (full_box shut_corridor) (Overfull 0) ≡ true
 shut_node = refl
 
--- A B A C against A D A C, behind two moves
+-- A B A C against A D A C, after two moves
 kept_differs : admitted (one_train (0 ∷ 1 ∷ 0 ∷ 2 ∷ [])) (one_train (0 ∷ 3 ∷ 0 ∷ 2 ∷ [])) (2 ∷ []) ≡ Differs 0 1
 kept_differs = refl
 
@@ -117,7 +117,7 @@ after_history = refl
 lines_of_history : journal_of offered (opening (0 ∷ 0 ∷ [])) history ≡ MoveLine 0 0 (Some 1) ∷ KeptOver 1 0 1 ∷ []
 lines_of_history = refl
 
--- the least and the greatest share of the second train of the corridor behind its start
+-- the least and the greatest share of the second train of the corridor after its start
 least_inside : least_share corridor (record { lo = 0; hi = 0 } ∷ record { lo = 1; hi = 2 } ∷ []) 0 1 ≡ pos 1
 least_inside = refl
 

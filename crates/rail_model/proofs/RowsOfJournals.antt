@@ -35,7 +35,7 @@ right = (
 kept_over : IsLine offered one_moved (KeptOver 1 0 1)
 kept_over = (refl, over)
 
--- T1 leaves the layout behind B
+-- T1 leaves the layout after B
 exit_line : IsLine (record { table = leaving; after = 0 } ∷ []) (opening (0 ∷ 1 ∷ [])) (MoveLine 1 1 None)
 exit_line = ((Decides-move leaving (0 ∷ 1 ∷ []) 1).0 refl, refl, refl)
 
@@ -57,7 +57,7 @@ printed = rw (decimal_digit 1 (lit< tt), decimal_digit 2 (lit< tt), decimal_digi
 printed_over : text names (record { lines = KeptOver 2 3 5 ∷ []; moves = 0; tables = 0 }) ≡ codes "1 kept 2 over 3 5\nend moves=0 tables=0\n"
 printed_over = rw (decimal_digit 0 (lit< tt), decimal_digit 1 (lit< tt), decimal_digit 2 (lit< tt), decimal_digit 3 (lit< tt), decimal_digit 5 (lit< tt)) refl
 
--- the round robin begins behind the last train
+-- the round robin begins after the last train
 first_mover : IsNextMover (in_force three_tables opened) (0 ∷ 0 ∷ []) 1 0
 first_mover = record { steps = 0; in_round = lit< tt; reached = refl; skipped = λ k lt. absurd (omega (arith, lt)) }
 

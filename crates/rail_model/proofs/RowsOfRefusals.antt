@@ -15,7 +15,7 @@ use Rattle.rail_model.proofs.TreeTests.{all_pass}
 use Rattle.rail_model.proofs.Visits.{Visit}
 use Rattle.rail_model.proofs.Samples.{corridor, beside, loop, waiting}
 
--- at A the first train has a move; from B on the tree stands at the other node
+-- at A the first train has a move; from B on the tree is at the other node
 abbrev tree_with : Tree → Tree
 tree_with other = split 0 0 (move 0) other
 

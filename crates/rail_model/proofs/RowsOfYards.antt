@@ -18,7 +18,7 @@ use Rattle.rail_model.specs.Table.{count}
 abbrev pub opened : Yard
 opened = opening (0 ∷ 0 ∷ [])
 
--- behind T0's move, behind the answer to the second table, and behind T1's move
+-- after T0's move, after the answer to the second table, and after T1's move
 abbrev pub one_moved : Yard
 one_moved = record { positions = 1 ∷ 0 ∷ []; table = 0; tried = 0; moves = 1 }
 
@@ -28,7 +28,7 @@ one_kept_out = record { positions = 1 ∷ 0 ∷ []; table = 0; tried = 1; moves 
 abbrev pub both_moved : Yard
 both_moved = record { positions = 1 ∷ 1 ∷ []; table = 0; tried = 1; moves = 2 }
 
--- behind the exchange, and at the end
+-- after the exchange, and at the end
 abbrev pub one_exchanged : Yard
 one_exchanged = record { positions = 1 ∷ 1 ∷ []; table = 2; tried = 2; moves = 2 }
 

@@ -33,7 +33,7 @@ beside = record {
   connections = [];
 }
 
--- two trains that leave the layout behind B
+-- two trains that leave the layout after B
 abbrev pub leaving : Table
 leaving = record {
   missions = record { points = 0 ∷ 1 ∷ []; exits = true } ∷ record { points = 2 ∷ 1 ∷ []; exits = true } ∷ [];

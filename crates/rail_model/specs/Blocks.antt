@@ -15,7 +15,7 @@ pub record IsBlock (T : Table) (p : List ℕ) (i n : ℕ) : Type 0 where
   pub few : n ≤ 4
   pub remain : (n ≡ 1) ⊎ (place p i + n ≤ last T i)
 
--- the size of the block of a train that wants so many steps: all of them, or else those that remain, or one where none remains
+-- the size of the block of a train that wants this many steps: all of them, or else those that remain, or one where none remains
 abbrev pub steps_of : Table → List ℕ → ℕ → ℕ → ℕ
 steps_of T p i want = min want (max 1 (last T i - place p i))
 

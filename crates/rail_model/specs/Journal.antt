@@ -80,7 +80,7 @@ end_text moves tables = codes "end moves=" ++ decimal moves ++ codes " tables=" 
 abbrev pub text : Names → Journal → List ℕ
 text N J = lines_text N 1 J.lines ++ end_text J.moves J.tables
 
--- Counted round from behind the last mover, no train before train i has a move.
+-- Counted round from the train after the last mover, no train before train i has a move.
 pub record IsNextMover (T : Table) (p : List ℕ) (last i : ℕ) : Type 0 where
   pub steps : ℕ
   pub in_round : steps < trains T

@@ -1,4 +1,4 @@
--- Tests of names: whether a text is a name, and where a name stands twice.
+-- Tests of names: whether a text is a name, and where a name is repeated.
 use Rattle.std.specs.Prelude.{◌≡◌, ℕ, ◌<◌, Bool, List, [], length, take, Option, option_map, position, slice_index_or, bytes_eq, nat_lt, nat_le, ◌==◌, ◌&&◌, ◌||◌}
 use Rattle.std.specs.List.{list_all}
 use Rattle.rail_model.specs.Turns.{first_below}

@@ -2,7 +2,7 @@
 use Rattle.std.specs.Prelude.{◌≡◌, ◌≢◌, ◌<◌, ◌≤◌, ◌≤ℤ◌, ℕ, suc, ◌+◌, ◌-◌, ℤ, pos, List, [], length, Bool, false, if◌then◌else◌, Option, Some, slice_get, slice_index, slice_index_or}
 use Rattle.rail_model.specs.Sums.{total_below}
 
--- The points of a train's way, and whether the train leaves the layout behind the last one.
+-- The points of a train's way, and whether the train leaves the layout after the last one.
 pub record Mission : Type 0 where
   pub points : List ℕ
   pub exits : Bool

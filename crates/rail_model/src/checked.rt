@@ -6,7 +6,7 @@ ghost use Rattle.rail_model.specs.Table.{last_of};
 
 use crate::Mission;
 
-// There are at most so many trains and points, and a place is at most so high.
+// The most trains and points, and the greatest place.
 const MOST_TRAINS: usize = 32;
 
 const MOST_POINTS: u32 = 512;

@@ -7,12 +7,12 @@ use std::alloc::{AllocError, Global};
 
 /// What can be made a second time.
 pub trait TryCopy: Sized + Drop {
-    /// An equal value, or want of memory.
+    /// An equal value, or out of memory.
     fn try_copy(&self, alloc: Global) -> Result<Self, AllocError>
         ensures equal { IfOk result (λ copy. copy ≡ self.now) };
 }
 
-/// Equal values in the same order, or want of memory.
+/// Equal values in the same order, or out of memory.
 pub fn copy_all<T: TryCopy>(alloc: Global, items: &[T]) -> Result<Vec<T>, AllocError>
     ensures { IfOk result (λ copies. copies.items ≡ items.now) }
 {

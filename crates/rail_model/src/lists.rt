@@ -7,7 +7,7 @@ use crate::checked::are_missions;
 use std::alloc::{AllocError, Global};
 use std::marker::Model;
 
-/// The points of one train's way, in order, and whether the train leaves the layout behind the last one.
+/// The points of one train's way, in order, and whether the train leaves the layout after the last one.
 #[derive(Drop)]
 pub struct Mission {
     points: Vec<u32>,
@@ -38,7 +38,7 @@ impl Mission {
         self.points.len()
     }
 
-    /// Whether the train leaves the layout behind its last point.
+    /// Whether the train leaves the layout after its last point.
     pub fn exits(&self) -> bool
         ensures { result ≡ self.now.exits }
     {

@@ -1,4 +1,4 @@
--- The greatest shares behind a train's step from a rise, from the sum of all greatest shares.
+-- The greatest shares after a train's step from a rise, from the sum of all greatest shares.
 use Rattle.std.proofs.Common.{◌≡◌, ℕ, ◌+◌, ◌-◌, ◌<◌, pos, ◌+ℤ◌, ◌-ℤ◌, ◌≤ℤ◌, List, refl, sym, ◌∙◌, ap, arith}
 use Rattle.std.proofs.lemmas.Int.{ints}
 use Rattle.rail_model.specs.Sums.{greatest}
@@ -22,7 +22,7 @@ most_sum T B s i k lt =
     (λ j lt_j other. sym (other_share T B s i j other)) in
     omega (arith, ints, all, most_is T B s i k lt)
 
--- What the sum, the train's own extremes in its range and its share behind the rise make together.
+-- What the sum, the train's own extremes in its range and its share after the rise make together.
 pub record IsRoom (T : Table) (B : List Range) (i : ℕ) (r : Rise) (sum : Sum) (own : Extremes) : Type 0 where
   pub small : IsSmall sum
   pub few : IsFew own

@@ -137,7 +137,7 @@ is_rise = record { section_in = lit< tt; place_in = lit< tt; up = grind (arith, 
 not_rise : IsRise two 1 rise_0 → ⊥
 not_rise rise = omega (arith, rise.place_in)
 
--- while T1 may be at its end, the section may count 4 behind T0's step: as many as its limit, and too many for a limit of 3;
+-- while T1 may be at its end, the section may count 4 after T0's step: as many as its limit, and too many for a limit of 3;
 -- where T0 can't be at place 1, its step from there is not asked of
 abbrev spans : ℕ → ℕ → List Range
 spans lo hi = record { lo = lo; hi = hi } ∷ record { lo = 0; hi = 1 } ∷ []

@@ -92,14 +92,14 @@ module _ (T : Table) (B : List Range) (i : ℕ) (r : Range) (boxed : IsBox T B) 
       (x < length T.sections) × IsMoving T B (slice_set B i r) x sums × AreShared T i (x + 1) (length T.sections) later
   section_next x later sums h = (h.listed.1, moving_on T B i r h.done x sums boxed i_in some ends h.listed.0 h.listed.2 h.moving, h.listed.3)
 
-  -- behind it one more is
+  -- after it one more is
   pub narrowing_next : (x : ℕ) (later : List ℕ) (sums : List Sum) (sum : Sum) → IsNarrowing T B i r (x ∷ later) sums →
       IsSum T (slice_set B i r) x sum → IsNarrowing T B i r later (slice_set sums x sum)
   narrowing_next x later sums sum h here =
       let next = section_next x later sums h in
       record { done = x + 1; listed = next.2; moving = moving_next T B (slice_set B i r) x sums sum next.1 next.0 here }
 
-  -- behind the last one all are
+  -- after the last one all are
   pub narrowed : (sums : List Sum) → IsNarrowing T B i r [] sums → IsEach (IsSum T (slice_set B i r)) (length T.sections) no_sum sums
   narrowed sums h =
       let all = moving_on T B i r h.done (length T.sections) sums boxed i_in some ends h.listed.0 h.listed.1 h.moving in

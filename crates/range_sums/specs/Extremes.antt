@@ -31,7 +31,7 @@ abbrev pub IsJoinedRow : List Extremes → List Extremes → List Extremes → T
 IsJoinedRow first second row =
     IsEach (λ s e. e ≡ joined (slice_index_or first s nothing) (slice_index_or second s nothing)) (length first) nothing row
 
--- The rows of spans of so many places.
+-- The rows of spans of this many places.
 pub record Level : Type 0 where
   pub width : ℕ
   pub rows : List (List Extremes)
@@ -42,7 +42,7 @@ no_level = record { width = 0; rows = [] }
 abbrev pub level_at : List Level → ℕ → Level
 level_at levels l = slice_index_or levels l no_level
 
--- A row for each span of so many places of train i.
+-- A row for each span of this many places of train i.
 pub record IsLevel (T : Table) (i : ℕ) (L : Level) : Type 0 where
   pub some_places : 1 ≤ L.width
   pub fits : L.width ≤ last T i + 1

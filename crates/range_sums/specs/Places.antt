@@ -11,6 +11,6 @@ StaysAt T i r q = (a : ℕ) → IsIn a r → point T i a ≡ Some q
 abbrev pub IsAway : Table → List Range → ℕ → Type 0
 IsAway T B i = (i < trains T) × (IsAtEnd T B i → ⊥)
 
--- Train j has, at some place of its range, the point that train i has behind the place a.
+-- Train j has, at some place of its range, the point that train i has after the place a.
 abbrev pub IsAhead : Table → List Range → ℕ → ℕ → ℕ → Type 0
 IsAhead T B i j a = (b : ℕ) × (q : ℕ) × IsIn b (range B j) × (point T i (a + 1) ≡ Some q) × (point T j b ≡ Some q)

@@ -61,7 +61,7 @@ AreSteps T i rows = IsEach (λ a row. row ≡ rises_at T i a (length T.sections)
 abbrev pub AreRises : Table → List (List (List Rise)) → Type 0
 AreRises T rows = IsEach (AreSteps T) (trains T) [] rows
 
--- A rise of train i, with the train's share behind it.
+-- A rise of train i, with the train's share after it.
 pub record IsRise (T : Table) (i : ℕ) (r : Rise) : Type 0 where
   pub section_in : r.section < length T.sections
   pub place_in : r.place < last T i

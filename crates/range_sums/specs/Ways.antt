@@ -26,7 +26,7 @@ pub record AreWays (T : Table) (ways : List (List Spot)) : Type 0 where
   pub formed : IsTable T
   pub each_point : IsEach (λ q row. row ≡ spots T q (trains T)) 512 [] ways
 
--- The new rows are the old ones with some spots of each point behind them.
+-- The new rows are the old ones with some spots of each point after them.
 abbrev pub AreLonger : (ℕ → List Spot) → List (List Spot) → List (List Spot) → Type 0
 AreLonger more old new = IsEach (λ q row. row ≡ slice_index_or old q [] ++ more q) 512 [] new
 
@@ -38,7 +38,7 @@ is_covered B s = nat_le (range B s.train).lo s.place && nat_le s.place (range B 
 abbrev pub is_rival : List Range → ℕ → Spot → Bool
 is_rival B i s = not (s.train == i) && is_covered B s
 
--- Train j is another one and may stand at the point behind the place a of train i.
+-- Train j is another one and may stand at the point after the place a of train i.
 abbrev pub IsInWay : Table → List Range → ℕ → ℕ → ℕ → Type 0
 IsInWay T B i a j = (j < trains T) × (j ≢ i) × IsAhead T B i j a
 

@@ -87,7 +87,7 @@ pub fn first_row(alloc: Global, table: &Table, train: u32) -> Result<Row, AllocE
     Ok(Row { cells })
 }
 
-/// The row of the place behind one.
+/// The row of the place after one.
 pub fn next_row(
     alloc: Global,
     table: &Table,

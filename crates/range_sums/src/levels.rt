@@ -11,7 +11,7 @@ use rail_model::{Table, last_of, sections_of, trains_of};
 use std::alloc::{AllocError, Global};
 use std::marker::Model;
 
-/// The rows of all spans of so many places of one train, by the first place.
+/// The rows of all spans of this many places of one train, by the first place.
 #[derive(Drop)]
 pub struct Level {
     width: u32,

@@ -11,7 +11,7 @@ use rail_model::{Table, change_at, last_of, limit_of, sections_of, share_at, tra
 use std::alloc::{AllocError, Global};
 use std::marker::Model;
 
-/// A place from which a train's step adds to a section, its share behind the step, and by how much that is more.
+/// A place from which a train's step adds to a section, its share after the step, and by how much that is more.
 #[derive(Clone, Copy)]
 pub struct Rise {
     pub section: u32,
@@ -148,7 +148,7 @@ pub(crate) fn rises_of(alloc: Global, table: &Table) -> Result<Rises, AllocError
     Ok(Rises { trains: all })
 }
 
-// A train's share behind a rise and the other trains' greatest shares, by the rows of its range.
+// A train's share after a rise and the other trains' greatest shares, by the rows of its range.
 fn most_by_rows(table: &Table, shares: &Shares, sums: &RangeSums, train: u32, rise: Rise) -> i32
     requires formed { IsTable table.now }
     requires shares { IsShares table.now shares.now }
@@ -164,7 +164,7 @@ fn most_by_rows(table: &Table, shares: &Shares, sums: &RangeSums, train: u32, ri
     sums.sum(rise.section).greatest - i32::from(own.greatest) + rise.share
 }
 
-// A train's share behind a rise at its only place and the other trains' greatest shares: all that they have now, and the rise.
+// A train's share after a rise at its only place and the other trains' greatest shares: all that they have now, and the rise.
 fn most_from_one(table: &Table, sums: &RangeSums, train: u32, rise: Rise) -> i32
     requires formed { IsTable table.now }
     requires sums { AreSums table.now sums.now }
@@ -177,7 +177,7 @@ fn most_from_one(table: &Table, sums: &RangeSums, train: u32, rise: Rise) -> i32
     sums.sum(rise.section).greatest + rise.by
 }
 
-// A train's share behind a rise and the other trains' greatest shares.
+// A train's share after a rise and the other trains' greatest shares.
 fn most_behind(table: &Table, shares: &Shares, sums: &RangeSums, train: u32, rise: Rise) -> i32
     requires formed { IsTable table.now }
     requires shares { IsShares table.now shares.now }
@@ -194,7 +194,7 @@ fn most_behind(table: &Table, shares: &Shares, sums: &RangeSums, train: u32, ris
     most_by_rows(table, shares, sums, train, rise)
 }
 
-// Whether a train's share behind a rise and the other trains' greatest shares may pass the limit.
+// Whether a train's share after a rise and the other trains' greatest shares may pass the limit.
 fn lacks_room(table: &Table, shares: &Shares, sums: &RangeSums, train: u32, rise: Rise) -> bool
     requires shares { IsShares table.now shares.now }
     requires sums { AreSums table.now sums.now }

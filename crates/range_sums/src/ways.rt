@@ -143,7 +143,7 @@ fn first_covered(spots: &[Spot], ranges: &Ranges, train: u32) -> Option<Spot>
     None
 }
 
-// The first spot at which another train may stand at the point behind a place of a train.
+// The first spot at which another train may stand at the point after a place of a train.
 fn first_spot(ways: &Ways, table: &Table, ranges: &Ranges, train: u32, place: u32) -> Option<Spot>
     requires ways { AreWays table.now ways.now }
     requires boxed { IsBox table.now ranges.now }
@@ -157,7 +157,7 @@ fn first_spot(ways: &Ways, table: &Table, ranges: &Ranges, train: u32, place: u3
     }
 }
 
-/// The first other train that may stand at the point behind a place of a train.
+/// The first other train that may stand at the point after a place of a train.
 pub fn first_in_way(
     ways: &Ways,
     table: &Table,
@@ -175,7 +175,7 @@ pub fn first_in_way(
     Some(spot.train)
 }
 
-/// A place of a train, and a spot at the point behind it at which another train may stand in some box.
+/// A place of a train, and a spot at the point after it at which another train may stand in some box.
 #[derive(Clone, Copy)]
 pub struct Block {
     pub place: u32,
@@ -198,7 +198,7 @@ pub(crate) fn first_block(ways: &Ways, table: &Table, ranges: &Ranges, train: u3
     None
 }
 
-// Whether a spot has the point behind a place of a train.
+// Whether a spot has the point after a place of a train.
 fn is_ahead(table: &Table, train: u32, place: u32, spot: Spot) -> bool
     requires train { train < trains table.now }
     requires place { place < 2 ^ 31 }

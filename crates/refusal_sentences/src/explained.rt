@@ -12,7 +12,7 @@ pub enum Explained {
     Refusal(String),
     /// The positions are no legal state of the table.
     NotLegal { cause: Illegal, text: String },
-    /// The document has only so many tables.
+    /// The document has only this many tables.
     NoTable { tables: u32, text: String },
     /// `ats` refuses the document.
     NoDocument { refused: DocRefused, text: String },

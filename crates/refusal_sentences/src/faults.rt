@@ -29,7 +29,7 @@ fn write_no_document(out: &mut String, document: &[u8], words: &str) -> Result<(
     Ok(())
 }
 
-/// That the document has only so many tables.
+/// That the document has only this many tables.
 pub(crate) fn no_table_text(alloc: Global, table: u32, tables: u32) -> Result<String, AllocError> {
     if tables == 1 {
         return format!(in alloc; "There is no table {table}: the document has table 0 only.\n");

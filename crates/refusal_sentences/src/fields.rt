@@ -55,7 +55,7 @@ pub(crate) fn write_where(out: &mut String, scope: &Scope, line: &str) -> Result
     }
 }
 
-// Adds what stands before a field.
+// Adds what comes before a field.
 fn write_front(out: &mut String, is_first: bool) -> Result<(), AllocError> {
     if is_first {
         out.push_str("Where: ")

@@ -16,7 +16,7 @@ pub(crate) struct Positions {
     pub state: State,
 }
 
-// The number between two texts, or at the end behind the first one.
+// The number between two texts, or at the end after the first one.
 fn number_after(words: &str, front: &str) -> Option<u32> {
     let (_before, behind) = words.split_once(front)?;
     match behind.split_once(' ') {

@@ -15,7 +15,7 @@ use Rattle.shared_run.specs.declared.crews.Crew.{Crew}
 use Rattle.shared_run.specs.Crews.{trains_of}
 use Rattle.shared_run.specs.Shared.{IsWorkedTo, IsShared, IsAddedBy}
 
--- what so many workers add
+-- what this many workers add
 abbrev ByWorkers : Setup → Crew → List Line → ℕ → Type 0
 ByWorkers S crew added workers = elim workers [ zero ↦ IsRound S.tables S.opening.yard (trains_of S - 1) added | suc more ↦ IsShared S crew added ]
 

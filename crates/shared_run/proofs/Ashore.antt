@@ -20,7 +20,7 @@ none_aboard workers group yard root fresh = subst (AreAshore workers group) (sym
 pub begins : (workers group : ℕ) (root : Root) → AreAshore workers group root → Waits workers group 0 root
 begins workers group root ashore = record { trains = λ p at later h. ashore.0 p at h; the_control = ashore.1 }
 
--- a number is the first of a list or stands after it
+-- a number is the first of a list or comes after it
 first_or_later : (p q : ℕ) (ps : List ℕ) → has p (q ∷ ps) ≡ true → (p ≡ q) ⊎ (has p ps ≡ true)
 first_or_later p q ps h = dite (ℕ_discrete p q) (λ e. inl e) (λ ne. inr (subst (λ b. cond b true (has p ps) ≡ true) (ne_eqb p q ne) h))
 

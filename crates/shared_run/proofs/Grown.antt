@@ -19,7 +19,7 @@ use Rattle.dispatch_workers.specs.declared.rounds.Round.{Round}
 use Rattle.dispatch_workers.specs.declared.rounds.Round.TheVariants.{One, Block, Halved}
 use Rattle.dispatch_workers.specs.Rounds.{GoesRound, Makes, Tries}
 
--- It is the same pass, with at most so many entries more.
+-- It is the same pass, with at most this many entries more.
 pub record Grew (most : ℕ) (old new : Pass) : Type 0 where
   pub number : new.number ≡ old.number
   pub yard : new.yard ≡ old.yard

@@ -21,6 +21,6 @@ pub record IsCrew (crew : Crew) : Type 0 where
 abbrev pub trains_of : Setup → ℕ
 trains_of S = trains (offer S.tables 0).table
 
--- the trains of one worker, where the first n are dealt to so many in turn
+-- the trains of one worker, where the first n are dealt to this many in turn
 abbrev pub dealt : ℕ → ℕ → ℕ → List ℕ
 dealt n workers g = filter (λ i. i % workers == g) (below n)

@@ -12,7 +12,7 @@ use zone_yard::{Board, Driver, Root, Yard};
 
 const MOST_TRAINS: usize = 32;
 
-// The trains of one worker board, of the first `trains` that are dealt to so many. Where there is no memory for all, some have boarded.
+// The trains of one worker board, of the first `trains` that are dealt to this many. Where there is no memory for all, some have boarded.
 fn board_group(
     yard: &Yard<'_>,
     alloc: Global,

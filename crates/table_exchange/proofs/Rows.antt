@@ -39,7 +39,7 @@ differs = (((1, here), λ j lt. absurd (omega (arith, lt))), (here, first))
     first zero lt other = elim (other.2) [ inl short ↦ omega (arith, short) | inr ne ↦ ne refl ]
     first (suc k) lt other = omega (arith, lt)
 
--- a table without a legal state behind the corridor: its section is over its limit of 0 wherever T0 stands
+-- a table without a legal state after the corridor: its section is over its limit of 0 wherever T0 stands
 abbrev corridor : Table
 corridor = record {
   missions = record { points = 0 ∷ 1 ∷ 2 ∷ 3 ∷ []; exits = false } ∷ record { points = 4 ∷ 2 ∷ 1 ∷ 5 ∷ []; exits = false } ∷ [];

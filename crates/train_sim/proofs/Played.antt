@@ -25,7 +25,7 @@ next_entry tables c =
       ]
     ]
 
--- at most so many entries
+-- at most this many entries
 abbrev pub played : ℕ → List Offer → List (List (List ℕ)) → Clock → List Stamped
 played zero tables times c = []
 played (suc n) tables times c = elim (next_entry tables c) [

@@ -100,7 +100,7 @@ timed = (
     arrived (suc zero) lt = refl
     arrived (suc (suc i)) lt = absurd (omega (arith, lt))
 
--- behind a line that stood before
+-- after a line that was there before
 simulated : Simulates offers times (opening (both 0 0)) (TableLine 7 ∷ []) (TableLine 7 ∷ MoveLine 1 0 (Some 2) ∷ MoveLine 0 1 (Some 0) ∷ MoveLine 1 2 (Some 3) ∷ [])
     (0 ∷ 0 ∷ 1 ∷ 4 ∷ []) 4 (record { positions = both 1 2; table = 0; tried = 0; moves = 3 })
 simulated = record { entries = entries; timed = timed; lines_are = refl; ticks_are = refl; last_is = refl; end_is = refl }

@@ -1,4 +1,4 @@
--- Worked rows: travel times, who moves next, and the ticks behind a move.
+-- Worked rows: travel times, who moves next, and the ticks after a move.
 use Rattle.std.proofs.Common.{◌≡◌, ◌⊎◌, ℕ, zero, suc, ◌<◌, ◌≤◌, List, [], ◌∷◌, None, refl, lit<, lit≤, arith, inl, inr}
 use Rattle.std.specs.Prelude.{length, max, slice_index, slice_index_or}
 use Rattle.rail_model.specs.Move.{Move, advance}

@@ -73,7 +73,7 @@ fn by_turns(alloc: Global, tables: u32) -> Result<Vec<u8>, AllocError> {
     Ok(text)
 }
 
-/// A document with so many tables, in which the train goes to B and to C by turns. Each may take over at once.
+/// A document with this many tables, in which the train goes to B and to C by turns. Each may take over at once.
 pub(crate) fn document_by_turns(alloc: Global, tables: u32) -> Result<Doc, Fail> {
     read(alloc, &by_turns(alloc, tables)?)
 }

@@ -16,7 +16,7 @@ pub(crate) enum Call {
     Exchange,
 }
 
-/// A line of a scene as it stands; the pass; its call, if one begins here; and the moment or the answer with which the line ends.
+/// A line of a scene as it is written; the pass; its call, if one begins here; and the moment or the answer with which the line ends.
 #[derive(Clone, Copy)]
 pub(crate) struct Line {
     pub(crate) text: &'static str,
@@ -33,7 +33,7 @@ fn number_of(word: &str) -> Result<u32, Fail> {
     Ok(word.parse::<u32>().ok().ok_or("a pass")?)
 }
 
-// A call of so many steps, or without.
+// A call of this many steps, or without.
 fn call_of(words: &str) -> Result<Call, Fail> {
     let (name, steps) = words.split_once(' ').unwrap_or((words, "0"));
     let steps = steps.parse::<u32>().ok().ok_or("steps")?;

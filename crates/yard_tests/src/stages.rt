@@ -69,7 +69,7 @@ fn trains(doc: &Doc) -> Result<u32, Fail>
     Ok(count_trains(table_of(doc, 0)))
 }
 
-/// A scene at a yard that opens with the document's start, where each pass may make so many entries. The state to which it is closed.
+/// A scene at a yard that opens with the document's start, where each pass may make this many entries. The state to which it is closed.
 pub(crate) fn play_from_start<R: Threads + Wait + Sync>(
     rt: &R,
     alloc: Global,
@@ -123,7 +123,7 @@ pub(crate) fn play<R: AllocGlobal + Threads + Wait + Sync>(
     play_from_start(rt, alloc, &doc, &tables, calls, scene)
 }
 
-/// A scene at a yard of so many tables, in which the train goes to B and to C by turns.
+/// A scene at a yard of this many tables, in which the train goes to B and to C by turns.
 pub(crate) fn play_by_turns<R: AllocGlobal + Threads + Wait + Sync>(
     rt: &R,
     tables: u32,

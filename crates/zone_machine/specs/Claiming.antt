@@ -8,7 +8,7 @@ use Rattle.zone_machine.specs.Needs.{zones}
 use Rattle.zone_machine.specs.Entries.{known_table, driver_after, control_after}
 use Rattle.zone_machine.specs.Sound.{Is}
 
--- the actor after an entry of so many steps: the control's is of one
+-- the actor after an entry of this many steps: the control's is of one
 abbrev pub entered : Setup → ℕ → Actor → ℕ → Actor
 entered S p a n = if p == control then control_after S a else driver_after S p a n
 

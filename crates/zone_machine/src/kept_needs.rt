@@ -42,7 +42,7 @@ pub(crate) fn nothing_kept<'a>(alloc: Global) -> Result<Vec<Kept<'a>>, AllocErro
     Ok(kept)
 }
 
-/// What is kept of a driver's next steps, where it is of this table, this place and so many steps.
+/// What is kept of a driver's next steps, where it is of this table, this place and this many steps.
 pub(crate) fn kept_for<'k, 'a>(
     kept: &'k [Kept<'a>],
     number: u32,

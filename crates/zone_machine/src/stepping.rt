@@ -24,7 +24,7 @@ fn is_in_place(row: &Row, step: Step) -> bool
     }
 }
 
-// Whether so many steps may be asked for at once.
+// Whether this many steps may be asked for at once.
 fn is_block(steps: u32) -> bool
     ensures { result ≡ not ((steps == 0) || nat_lt 4 steps) }
 {

@@ -42,7 +42,7 @@ pub all_seen : (l : List Cell) (known : List (Cell × ℕ)) → ((j : ℕ) (c : 
 all_seen [] known h = refl
 all_seen (c ∷ cs) known h = rw (h 0 c (omega arith) refl) (all_seen cs known (λ j d lt e. h (suc j) d (omega arith) e))
 
--- a cell that stands in the list has a number there
+-- a cell that is in the list has a number there
 pub has_number : (xs : List (Cell × ℕ)) (k : ℕ) (x : Cell × ℕ) → slice_get xs k ≡ Some x → (n : ℕ) × (number_of x.0 xs ≡ Some n)
 has_number [] k x e = absurd (cc e)
 has_number (y ∷ ys) zero x e = let same = same_some y x e in (y.1, rw (subst (λ (z : Cell × ℕ). same_cell z.0 y.0 ≡ true) same (same_self y.0)) refl)

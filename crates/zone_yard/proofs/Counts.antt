@@ -84,7 +84,7 @@ total_less (suc n) most p more es lt h room = dite (ℕ_discrete p n)
     (λ e. let r = total_most n most es h in let one : length (entries_of n es) + more ≤ most = subst (λ q. length (entries_of q es) + more ≤ most) e room in omega (arith, suc-mul n most))
     (λ ne. let r = total_less n most p more es (omega arith) h room in let one = h n in omega (arith, suc-mul n most))
 
--- a pass that may make so many entries more finds room for them in the history
+-- a pass that may make this many entries more finds room for them in the history
 pub bounded : (S : Setup) (s : St) (kept : Kept S s) (p more : ℕ) → p < most_passes → length (entries_of p kept.world.history) + more ≤ S.calls
     → length kept.world.history + more ≤ most_passes * S.calls
 bounded S s kept p more low room =

@@ -22,7 +22,7 @@ pub record IsIdle (position : ℕ) (a : Actor) : Type 0 where
   pub still : a.closing ≡ false
   pub stands : a.position ≡ position
 
--- The seat is this pass, stands there, has made so many entries, and is idle.
+-- The seat is this pass, stands there, has made this many entries, and is idle.
 pub record IsPass (number position entries : ℕ) (me : Me (Unit {0}) View) : Type 0 where
   pub aboard : me.0.aboard ≡ true
   pub number_is : me.0.number ≡ number

@@ -48,7 +48,7 @@ StartsWith {A} whole front = (rest : List A) × (whole ≡ front ++ rest)
 abbrev pub HasBoarded : Root → ℕ → Type 0
 HasBoarded root p = has p root.boarded ≡ true
 
--- entries that stand in a row, each with its ticket
+-- entries in a row, each with its ticket
 abbrev pub receipts_from : ℕ → List Entry → List Receipt
 receipts_from ticket [] = []
 receipts_from ticket (e ∷ later) = record { ticket = ticket; entry = e } ∷ receipts_from (suc ticket) later

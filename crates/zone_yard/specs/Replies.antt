@@ -22,7 +22,7 @@ use Rattle.zone_yard.specs.Setup.{state_after}
 use Rattle.zone_yard.specs.Passes.{Pass, Try, IsFree}
 use Rattle.zone_yard.specs.Entering.{Enters, HasRoom, IsSpent, IsKept}
 
--- how many steps a request for so many asks for under a table: no more than remain, one where none remains, and no more than the pass
+-- how many steps a request for this many asks for under a table: no more than remain, one where none remains, and no more than the pass
 -- has entries left
 abbrev pub asked_steps : Table → Pass → ℕ → ℕ
 asked_steps T pass want = min want (min (max 1 (last T pass.number - pass.position)) (pass.yard.setup.calls - length pass.mine))
@@ -54,7 +54,7 @@ pub record IsBusy (want zone holder : ℕ) (old new : Pass) : Type 0 where
 abbrev pub IsTold : Pass → ℕ → Ask → Pass → Type 0
 IsTold old ticket answer new = HasRoom old × Enters ticket (entry.Driver answer ∷ []) old new
 
--- So many steps were granted at once: all that were asked for.
+-- This many steps were granted at once: all that were asked for.
 abbrev pub IsGranted : ℕ → Pass → ℕ → ℕ → Pass → Type 0
 IsGranted want old ticket steps new =
     HasRoom old × ((entered : Enters ticket (replicate steps (entry.Driver ask.Yes)) old new) × (steps ≡ steps_after old entered.before want))

@@ -51,7 +51,7 @@ Reads c m found after = (found < 2 ^ 31) × (after ≡ (read c found m.0, m.1))
 abbrev pub Pays : Cell → Sat → Sat → Type 0
 Pays c m after = after ≡ (paid c m.0, m.1)
 
--- The answer's entries are added to the history as it is: of a driver to a request of so many steps, of the control to the next table,
+-- The answer's entries are added to the history as it is: of a driver to a request of this many steps, of the control to the next table,
 -- where the positions that the control knows are legal.
 pub record Appends (steps : ℕ) (m : Sat) (found : ℕ) (after : Sat) : Type 0 where
   pub before : List Entry

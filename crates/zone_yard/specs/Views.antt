@@ -141,7 +141,7 @@ read_table found v = record (read TableCell found v) { noted = found }
 abbrev pub paid : Cell → View → View
 paid c v = with_actor v (record v.actor { owed = without_cell c v.actor.owed })
 
--- the entries with which a pass is answered: a driver of a block of so many steps, the control of the next table
+-- the entries with which a pass is answered: a driver of a block of this many steps, the control of the next table
 abbrev pub new_entries : ℕ → View → List Entry
 new_entries steps v =
     let S = core v.setup in

@@ -76,7 +76,7 @@ pub(crate) fn ask_on<G: Gate>(
     unreachable!()
 }
 
-// How many of so many steps the answer grants.
+// How many of this many steps the answer grants.
 fn count_granted(answer: BlockAsk, steps: u32) -> u32
     ensures { result ≡ granted_steps steps answer }
 {

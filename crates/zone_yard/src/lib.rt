@@ -1,4 +1,4 @@
-//! A yard that threads share: trains ask for steps and the control tries tables at once, and all answers stand in one legal history.
+//! A yard that threads share: trains ask for steps and the control tries tables at once, and all answers are in one legal history.
 #![tactic(auto)]
 
 mod asking;

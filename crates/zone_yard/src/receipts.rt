@@ -100,7 +100,7 @@ impl Receipts {
     }
 }
 
-// How many entries an answer to so many steps has.
+// How many entries an answer to this many steps has.
 pub(crate) fn entries_of(answer: BlockAsk, steps: u32) -> u32
     ensures { (p : ℕ) → result ≡ length (block_entries p steps answer) }
 {

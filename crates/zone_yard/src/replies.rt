@@ -36,7 +36,7 @@ pub enum Reply {
 /// The answer to a request for a block of steps, which are granted whole or not at all.
 #[derive(Clone, Copy, Debug, PartialEq, Eq)]
 pub enum BlockReply {
-    /// So many steps, at this ticket and those after it.
+    /// This many steps, at this ticket and those after it.
     Granted {
         ticket: u64,
         steps: u32,

@@ -155,7 +155,7 @@ pub(crate) fn pay<J: WhichCell>(
         .store::<Paying<J>>(seat, 8 * word, number as u64)
 }
 
-// So many entries are added to the history: the place of the first.
+// This many entries are added to the history: the place of the first.
 pub(crate) fn append<J: HowMany>(yard: &Yard<'_>, seat: &mut Place, steps: u32, entries: u64) -> u64
     requires ours { IsOurs yard.now seat.old.table_id seat.old.me.0 }
     requires steps { steps ≡ J.steps }

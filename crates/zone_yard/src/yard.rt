@@ -9,7 +9,7 @@ use std::alloc::{AllocError, Global};
 use std::marker::Model;
 use ticket_lines::TicketLine;
 
-/// Trains and the control work at it at once, each by a pass of its own. All answers stand in one legal history, and what a pass is
+/// Trains and the control work at it at once, each by a pass of its own. All answers are in one legal history, and what a pass is
 /// answered is the one-thread yard's answer at its ticket. It borrows the layout and the tables.
 #[derive(Drop)]
 pub struct Yard<'a> {

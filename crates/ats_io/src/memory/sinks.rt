@@ -9,7 +9,7 @@ use std::alloc::{AllocError, Global};
 use std::marker::Model;
 
 /// A sink in memory that tells what it took. It takes at most `most` bytes a call, fails at the calls
-/// whose numbers, from 0, stand in a list, and where its room of 1,048,576 bytes is full.
+/// whose numbers, from 0, are in a list, and where its room of 1,048,576 bytes is full.
 #[derive(Drop)]
 pub struct MemSink {
     room: Room,

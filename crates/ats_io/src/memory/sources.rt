@@ -8,7 +8,7 @@ use crate::{Failed, Source};
 use std::marker::Model;
 
 /// A source over bytes in memory that tells them. It gives at most `most` bytes a call, and the calls
-/// whose numbers, from 0, stand in a list fail.
+/// whose numbers, from 0, are in a list fail.
 #[derive(Drop)]
 pub struct MemSource {
     stock: Stock,
