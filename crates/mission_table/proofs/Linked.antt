@@ -6,7 +6,7 @@ use Rattle.rail_model.specs.Layout.{Layout, Link, AreLinked}
 use Rattle.mission_table.specs.Ways.{are_linked}
 
 -- a link between the two points
-abbrev joins : ℕ → ℕ → Link → Bool
+abbrev pub joins : ℕ → ℕ → Link → Bool
 joins a b l = (l.first == a && l.second == b) || (l.first == b && l.second == a)
 
 Decides-joins : (a b : ℕ) (l : Link) → Decides (joins a b l) (((l.first ≡ a) × (l.second ≡ b)) ⊎ ((l.first ≡ b) × (l.second ≡ a)))

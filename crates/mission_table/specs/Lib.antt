@@ -1,4 +1,5 @@
 pub mod Doubling
+pub mod Marks
 pub mod Roster
 pub mod Seen
 pub mod Ways

@@ -7,6 +7,7 @@ mod naming;
 mod refused;
 mod register;
 mod roster;
+mod tracks;
 
 pub use laws::{exactly_missions_of_the_layout_are_taken, exactly_trains_are_taken};
 pub use making::missions;

@@ -7,10 +7,10 @@ ghost use Rattle.mission_table.specs.Ways.{missions_from, other_lists, other_exi
 ghost use Rattle.track_layout.specs.Making.{number_in};
 ghost use Rattle.mission_table.specs.Seen.{names_seen, ways_seen};
 
+use crate::tracks::Tracks;
 use crate::{MissionRefused, Trains};
-use rail_model::{Layout, Mission, Missions, are_linked, points_of};
+use rail_model::{Layout, Mission, Missions};
 use std::alloc::Global;
-use track_layout::number_of;
 
 // The most places of a mission; the one after the exit counts.
 const MOST_PLACES: usize = 128;
@@ -30,10 +30,9 @@ pub fn missions(
 ) -> Result<Missions, MissionRefused>
     ensures { Answers MissionRefused.Memory (λ missions. missions) result (missions_from layout.now (length trains.now) (ways_seen lists.items) exits.items) }
 {
-    // This read gives the proof what a layout keeps.
-    let _points = points_of(layout);
     check_counts(trains.len(), lists.len(), exits.len())?;
-    let missions = each_mission(alloc, layout, &lists, &exits)?;
+    let tracks = Tracks::new(alloc, layout)?;
+    let missions = each_mission(alloc, &tracks, &lists, &exits)?;
     Ok(Missions::new(missions))
 }
 
@@ -52,17 +51,17 @@ fn check_counts(trains: usize, lists: usize, exits: usize) -> Result<(), Mission
 // The missions, train by train.
 fn each_mission(
     alloc: Global,
-    layout: &Layout,
+    tracks: &Tracks,
     lists: &[Vec<String>],
     exits: &[bool],
 ) -> Result<Vec<Mission>, MissionRefused>
     requires few { length lists.now ≤ 32 }
     requires one_each { length exits.now ≡ length lists.now }
-    ensures { Answers MissionRefused.Memory (λ missions. missions.items) result (unless (ways_refusal layout.now (length lists.now) (ways_seen lists.now) exits.now) (missions_value layout.now (ways_seen lists.now) exits.now)) }
+    ensures { Answers MissionRefused.Memory (λ missions. missions.items) result (unless (ways_refusal tracks.now (length lists.now) (ways_seen lists.now) exits.now) (missions_value tracks.now (ways_seen lists.now) exits.now)) }
 {
     let mut missions = Vec::new(alloc);
     for (train, names) in lists.iter().enumerate() {
-        missions.push(mission(alloc, layout, train as u32, names, exits[train])?)?;
+        missions.push(mission(alloc, tracks, train as u32, names, exits[train])?)?;
     }
     Ok(missions)
 }
@@ -70,15 +69,15 @@ fn each_mission(
 // The mission of a train.
 fn mission(
     alloc: Global,
-    layout: &Layout,
+    tracks: &Tracks,
     train: u32,
     names: &[String],
     exits: bool,
 ) -> Result<Mission, MissionRefused>
-    ensures { Answers MissionRefused.Memory (λ mission. mission) result (unless (mission_refusal layout.now train (names_seen names.now) exits) (mission_value layout.now (names_seen names.now) exits)) }
+    ensures { Answers MissionRefused.Memory (λ mission. mission) result (unless (mission_refusal tracks.now train (names_seen names.now) exits) (mission_value tracks.now (names_seen names.now) exits)) }
 {
     check_length(train, names.len(), exits)?;
-    let points = way(alloc, layout, train, names)?;
+    let points = way(alloc, tracks, train, names)?;
     Ok(Mission::new(points, exits))
 }
 
@@ -95,17 +94,17 @@ fn check_length(train: u32, count: usize, exits: bool) -> Result<(), MissionRefu
 // The points on a way, each linked to the one before.
 fn way(
     alloc: Global,
-    layout: &Layout,
+    tracks: &Tracks,
     train: u32,
     names: &[String],
 ) -> Result<Vec<u32>, MissionRefused>
     requires { length names.now ≤ 128 }
-    ensures { Answers MissionRefused.Memory (λ points. points.items) result (unless (way_refusal layout.now train (names_seen names.now)) (way_value layout.now (names_seen names.now))) }
+    ensures { Answers MissionRefused.Memory (λ points. points.items) result (unless (way_refusal tracks.now train (names_seen names.now)) (way_value tracks.now (names_seen names.now))) }
 {
     let mut points = Vec::new(alloc);
     let mut before = None;
     for (place, name) in names.iter().enumerate() {
-        let point = step(layout, train, place as u32, before, name)?;
+        let point = step(tracks, train, place as u32, before, name)?;
         points.push(point)?;
         before = Some(point);
     }
@@ -114,29 +113,30 @@ fn way(
 
 // The point at a place, by the point before it and its name.
 fn step(
-    layout: &Layout,
+    tracks: &Tracks,
     train: u32,
     place: u32,
     before: Option<u32>,
     name: &str,
 ) -> Result<u32, MissionRefused>
-    ensures { result ≡ unless (step_refusal layout.now train place before name.now) (number_in (point_names layout.now) name.now) }
+    ensures { result ≡ unless (step_refusal tracks.now train place before name.now) (number_in (point_names tracks.now) name.now) }
 {
-    let Some(point) = number_of(layout, name) else {
+    let Some(point) = tracks.number_of(name) else {
         return Err(MissionRefused::UnknownPoint { train, place });
     };
-    if is_cut(layout, before, point) {
+    if is_cut(tracks, before, point) {
         return Err(MissionRefused::NotLinked { train, place });
     }
     Ok(point)
 }
 
 // Whether there is a point before, and no link from it.
-fn is_cut(layout: &Layout, before: Option<u32>, point: u32) -> bool
-    ensures { result ≡ is_cut layout.now before point }
+fn is_cut(tracks: &Tracks, before: Option<u32>, point: u32) -> bool
+    requires { point < length tracks.now.points }
+    ensures { result ≡ is_cut tracks.now before point }
 {
     match before {
-        Some(before) => !are_linked(layout, before, point),
+        Some(before) => !tracks.are_linked(before, point),
         None => false,
     }
 }

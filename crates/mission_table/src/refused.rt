@@ -57,6 +57,16 @@ pub enum MissionRefused {
     Memory,
 }
 
+impl From<AllocError> for MissionRefused {
+    ghost use Rattle.mission_table.specs.declared.refused.MissionRefused.TheVariants.{Memory};
+
+    ghost from_gives = { λ _ e. e ≡ Memory };
+
+    fn from(_error: AllocError) -> MissionRefused {
+        MissionRefused::Memory
+    }
+}
+
 impl<T: Drop> From<AllocFailed<T>> for MissionRefused {
     ghost use Rattle.mission_table.specs.declared.refused.MissionRefused.TheVariants.{Memory};
 

@@ -16,7 +16,7 @@ read c =
 
 pub returns-in_err-mission : goal.returns-in_err-mission
 returns-in_err-mission c =
-    let L = c.args.layout.now in
+    let L = c.args.tracks.now in
     let lists = ways_seen c.args.lists.now in
     let exits = c.args.exits.now in
     let n = length c.args.lists.now in
@@ -34,7 +34,7 @@ returns-in_err-mission c =
 
 pub loop-train-preserved : goal.loop-train-preserved
 loop-train-preserved c =
-    let L = c.args.layout.now in
+    let L = c.args.tracks.now in
     let lists = ways_seen c.args.lists.now in
     let exits = c.args.exits.now in
     let i = c.loop-train.train in

@@ -1,4 +1,5 @@
-use Rattle.std.proofs.Common.{◌≡◌, ◌⊎◌, ◌∙◌, Ok, Err, ap, sym, inl, inr, arith, length}
+use Rattle.std.proofs.Common.{◌≡◌, ◌⊎◌, ◌∙◌, Ok, Err, ap, sym, inl, inr, arith, length, subst}
+use Rattle.rail_model.specs.Layout.{IsLayout}
 use Rattle.rail_model.specs.Turns.{first_of}
 use Rattle.rail_model.proofs.Firsts.{Answers-err}
 use Rattle.mission_table.specs.declared.refused.MissionRefused.TheVariants.{Memory}
@@ -17,8 +18,8 @@ counts c =
     c.len.ensures.count (omega (arith, c.args.lists.ok.0)) (omega (arith, c.args.exits.ok.0))
 
 -- the missions are made of what is given
-given : (c : After-each_mission) → each_of c.args.layout.now c.deref.result.now c.deref-2.result.now ≡ each_of c.args.layout.now c.args.lists.items c.args.exits.items
-given c = λ i. each_of c.args.layout.now (c.deref.ensures.value i) (c.deref-2.ensures.value i)
+given : (c : After-each_mission) → each_of c.in_ok-tracks.tracks c.deref.result.now c.deref-2.result.now ≡ each_of c.args.layout.now c.args.lists.items c.args.exits.items
+given c = λ i. each_of (c.in_ok-tracks.ensures.same i) (c.deref.ensures.value i) (c.deref-2.ensures.value i)
 
 pub returns-in_err-check_counts : goal.returns-in_err-check_counts
 returns-in_err-check_counts c =
@@ -45,19 +46,19 @@ returns-in_err-missions c =
     Answers-err Memory (λ missions. missions) c.from_residual-in_err-missions.result (missions_from L trains (ways_seen lists) exits) e
     c.from_residual-in_err-missions.ensures.1 answer
 
-pub new-requires : goal.new-requires
-new-requires c =
-    let at = goal.at.new-requires c in
+pub new-requires-2 : goal.new-requires-2
+new-requires-2 c =
+    let at = goal.at.new-requires-2 c in
     let lists = c.args.lists.items in
     let made = missions_made c.args.layout.now (length c.args.trains.now) lists c.args.exits.items
     (c.in_ok-check_counts.ensures ∙ counts at.After-check_counts) c.in_ok-missions.missions.items
     (sym (given at.After-each_mission) ∙ c.in_ok-missions.ensures) in
     missions_formed c.args.layout.now (length c.args.trains.now) (ways_seen lists) c.args.exits.items c.in_ok-missions.missions.items
-    c.points_of-points.ensures.formed c.len.ensures.formed.few made
+    (subst IsLayout c.in_ok-tracks.ensures.same c.in_ok-tracks.ensures.formed) c.len.ensures.formed.few made
 
 pub returns : goal.returns
 returns c =
     let at = goal.at.returns c in
     missions_made c.args.layout.now (length c.args.trains.now) c.args.lists.items c.args.exits.items
     (c.in_ok-check_counts.ensures ∙ counts at.After-check_counts) c.in_ok-missions.missions.items
-    (sym (given at.After-each_mission) ∙ c.in_ok-missions.ensures) ∙ ap Ok (sym c.new.ensures)
+    (sym (given at.After-each_mission) ∙ c.in_ok-missions.ensures) ∙ ap Ok (sym c.new-2.ensures)

@@ -18,7 +18,7 @@ read c = c.deref.ensures ∙ name_there c.args.names.now c.loop-place.place c.in
 
 pub returns-in_err-point : goal.returns-in_err-point
 returns-in_err-point c =
-    let L = c.args.layout.now in
+    let L = c.args.tracks.now in
     let names = names_seen c.args.names.now in
     let e = c.in_err-point.field-0.0 in
     let size : length names ≡ length c.args.names.now = length-map c.args.names.now string_bytes in
@@ -30,7 +30,7 @@ returns-in_err-point c =
 
 pub loop-place-preserved : goal.loop-place-preserved
 loop-place-preserved c =
-    let L = c.args.layout.now in
+    let L = c.args.tracks.now in
     let names = names_seen c.args.names.now in
     let q = c.in_ok-point.point in
     let name = read (goal.at.loop-place-preserved c).After-step in
@@ -45,7 +45,7 @@ loop-place-preserved c =
 
 pub returns : goal.returns
 returns c =
-    let L = c.args.layout.now in
+    let L = c.args.tracks.now in
     let names = names_seen c.args.names.now in
     let size : length names ≡ length c.args.names.now = length-map c.args.names.now string_bytes in
     let all : c.loop-place.place ≡ length c.args.names.now = omega arith in

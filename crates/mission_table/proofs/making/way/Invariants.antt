@@ -6,6 +6,6 @@ use Rattle.mission_table.proofs.making.way.Given as goal
 
 abbrev pub invariant-loop-place : goal.invariant-loop-place
 invariant-loop-place l =
-    (l.points.items ≡ way_value l.layout (names_seen (take l.place l.names)))
-    × (l.before ≡ point_before l.layout (names_seen l.names) l.place)
-    × (first_below l.place (λ k. step_refusal l.layout l.train k (point_before l.layout (names_seen l.names) k) (name_at (names_seen l.names) k)) ≡ None)
+    (l.points.items ≡ way_value l.tracks (names_seen (take l.place l.names)))
+    × (l.before ≡ point_before l.tracks (names_seen l.names) l.place)
+    × (first_below l.place (λ k. step_refusal l.tracks l.train k (point_before l.tracks (names_seen l.names) k) (name_at (names_seen l.names) k)) ≡ None)
