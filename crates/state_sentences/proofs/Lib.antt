@@ -2,3 +2,4 @@ pub mod Asking
 pub mod Verdicts
 pub mod Walks
 pub mod Joined
+pub mod Rows

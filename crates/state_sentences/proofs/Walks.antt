@@ -1,10 +1,10 @@
 -- Walks from a train to the one that it waits for, and so on; and what they say of circles.
-use Rattle.std.proofs.Common.{◌≡◌, ◌∙◌, ℕ, zero, suc, ◌+◌, ◌-◌, ◌<◌, ◌≤◌, List, [], ◌∷◌, ◌++◌, length, get_or, refl, sym, ap, subst, arith, inl, inr}
+use Rattle.std.proofs.Common.{◌≡◌, ◌∙◌, ℕ, zero, suc, ◌+◌, ◌-◌, ◌<◌, ◌≤◌, List, [], ◌∷◌, ◌++◌, length, get_or, sym, ap, subst, arith, inl, inr}
 use Rattle.std.specs.Prelude.{Option, Some, None}
 use Rattle.std.proofs.lemmas.Bool.{cases_lt, cases_eq}
 use Rattle.std.proofs.lemmas.List.{get_or_push, get_or_append_left, length_push}
 use Rattle.rail_model.specs.Table.{Table, trains}
-use Rattle.state_sentences.specs.Circle.{waits_for, IsCircle, IsCircleOrNone}
+use Rattle.state_sentences.specs.Circle.{waits_for, IsCircle, IsCircleFrom}
 
 -- n steps from the first train: each train waits for the next one, and none after the first is the first again.
 pub record IsWalk (T : Table) (p : List ℕ) (first n : ℕ) (w : List ℕ) : Type 0 where
@@ -19,16 +19,6 @@ some_same a b e = cc
 
 some_none : (o : Option ℕ) (j : ℕ) → o ≡ None → o ≡ Some j → ⊥
 some_none o j none some = cc
-
--- no step yet
-pub walk_starts : (T : Table) (p : List ℕ) (first : ℕ) → first < trains T → IsWalk T p first 0 (first ∷ [])
-walk_starts T p first lt = record {
-  size = refl;
-  starts = refl;
-  members = λ k low. let here : k ≡ 0 = omega arith in subst (λ (j : ℕ). get_or (first ∷ []) j 0 < trains T) (sym here) lt;
-  next = λ k low. absurd (omega arith);
-  away = λ k some low. absurd (omega arith);
-}
 
 -- one step more
 pub walk_goes : (T : Table) (p : List ℕ) (first n next : ℕ) (w : List ℕ) → IsWalk T p first n w
@@ -57,17 +47,47 @@ walk_goes T p first n next w walk step lt other = record {
     new : get_or (w ++ next ∷ []) (n + 1) 0 ≡ next
     new = get_or_push w next 0 (n + 1) walk.size
 
--- a walk that leads back is a circle
+-- from a train that a walk comes to twice it goes on the same way
+goes_alike : (T : Table) (p : List ℕ) (first n : ℕ) (w : List ℕ) (j k : ℕ) → IsWalk T p first n w → j < k → get_or w j 0 ≡ get_or w k 0
+    → (m : ℕ) → k + m ≤ n → get_or w (j + m) 0 ≡ get_or w (k + m) 0
+goes_alike T p first n w j k walk lt same zero low =
+    let here : j + 0 ≡ j = omega arith in
+    let there : k + 0 ≡ k = omega arith in
+    rw (here, there) same
+goes_alike T p first n w j k walk lt same (suc m) low =
+    let before = goes_alike T p first n w j k walk lt same m (omega arith) in
+    let here : waits_for T p (get_or w (j + m) 0) ≡ Some (get_or w (j + m + 1) 0) = walk.next (j + m) (omega arith) in
+    let there : waits_for T p (get_or w (k + m) 0) ≡ Some (get_or w (k + m + 1) 0) = walk.next (k + m) (omega arith) in
+    let one : j + suc m ≡ j + m + 1 = omega arith in
+    let other : k + suc m ≡ k + m + 1 = omega arith in
+    rw (one, other) (some_same _ _ (sym here ∙ ap (waits_for T p) before ∙ there))
+
+-- a walk that leads back comes to no train twice
+goes_once : (T : Table) (p : List ℕ) (first n : ℕ) (w : List ℕ) (j k : ℕ) → IsWalk T p first n w
+    → waits_for T p (get_or w n 0) ≡ Some first → j < k → k ≤ n → get_or w j 0 ≡ get_or w k 0 → ⊥
+goes_once T p first n w j k walk step lt low same =
+    let whole : k + (n - k) ≡ n = omega arith in
+    let met : get_or w (j + (n - k)) 0 ≡ get_or w (k + (n - k)) 0 = goes_alike T p first n w j k walk lt same (n - k) (omega arith) in
+    let onward : waits_for T p (get_or w (j + (n - k)) 0) ≡ Some (get_or w (j + (n - k) + 1) 0) = walk.next (j + (n - k)) (omega arith) in
+    let home : get_or w (j + (n - k) + 1) 0 ≡ first
+    = some_same _ _ (sym onward ∙ ap (waits_for T p) (met ∙ ap (λ (i : ℕ). get_or w i 0) whole) ∙ step) in
+    walk.away (j + (n - k) + 1) (omega arith) (omega arith) home
+
+-- a walk that leads back is a circle, once round
 pub walk_closes : (T : Table) (p : List ℕ) (first n : ℕ) (w : List ℕ) → IsWalk T p first n w → n < trains T
-    → waits_for T p (get_or w n 0) ≡ Some first → IsCircle T p w
+    → waits_for T p (get_or w n 0) ≡ Some first → IsCircleFrom T p first w
 walk_closes T p first n w walk few step = record {
-  some = omega (arith, walk.size);
-  few = omega (arith, walk.size);
-  members = λ k lt. walk.members k (omega (arith, walk.size));
-  next = λ k lt. walk.next k (omega (arith, walk.size));
-  back =
-      let last : length w - 1 ≡ n = omega (arith, walk.size) in
-      ap (λ (j : ℕ). waits_for T p (get_or w j 0)) last ∙ step ∙ ap Some (sym walk.starts);
+  circle = record {
+    some = omega (arith, walk.size);
+    few = omega (arith, walk.size);
+    members = λ k lt. walk.members k (omega (arith, walk.size));
+    next = λ k lt. walk.next k (omega (arith, walk.size));
+    back =
+        let last : length w - 1 ≡ n = omega (arith, walk.size) in
+        ap (λ (j : ℕ). waits_for T p (get_or w j 0)) last ∙ step ∙ ap Some (sym walk.starts);
+  };
+  first = walk.starts;
+  once = λ j k lt within. goes_once T p first n w j k walk step lt (omega (arith, walk.size));
 }
 
 -- a circle from the first train goes as the walk goes
@@ -112,11 +132,6 @@ no_circle_at_end T p c first n w circle head walk none = elim (cases_lt n (lengt
       some_none _ onward.0 none (ap (waits_for T p) (sym same) ∙ onward.1)
   | inr low ↦ no_short_circle T p c first n w circle head walk low
 ]
-
--- a circle that begins with no train is none
-pub no_circle : (T : Table) (p : List ℕ) → ((k : ℕ) → k < trains T → (later : List ℕ) → IsCircle T p (k ∷ later) → ⊥) → IsCircleOrNone T p []
-no_circle T p none [] circle = absurd (omega (arith, circle.some))
-no_circle T p none (k ∷ later) circle = none k (circle.members 0 circle.some) later circle
 
 -- whom the last train of a walk waits for
 pub walk_end : (T : Table) (p : List ℕ) (first n : ℕ) (c : List ℕ) (train : ℕ) (o : Option ℕ) → IsWalk T p first n (c ++ train ∷ [])

@@ -1,7 +1,7 @@
 // Trains that wait for one another in a circle.
-ghost use Rattle.std.specs.Prelude.{◌≡◌, ◌<◌, ◌++◌, ◌∷◌, ℕ, List, length, slice_index, IfOk, IfSome, OnOk, MatchOption, string_bytes};
+ghost use Rattle.std.specs.Prelude.{◌≡◌, ◌<◌, ◌++◌, ℕ, length, slice_index, IfOk, IfSome, OnOk, MatchOption, string_bytes};
 ghost use Rattle.rail_model.specs.Table.{trains};
-ghost use Rattle.state_sentences.specs.Circle.{waits_for as waits_for_of, IsCircle, IsCircleOrNone};
+ghost use Rattle.state_sentences.specs.Circle.{waits_for as waits_for_of, BeginsNone, IsCircleFrom, IsCircleOrNone};
 ghost use Rattle.state_sentences.specs.Explanation.{pair_words, circle_words};
 
 use crate::Scene;
@@ -20,12 +20,12 @@ fn waits_for(scene: &Scene, train: u32) -> Option<u32>
     }
 }
 
-// The circle that begins with a train, if each train leads on to the one that it waits for, and so back to the first.
+// The circle that begins with a train, once round, if each train leads on to the one that it waits for, and so back to the first.
 fn circle_from(alloc: Global, scene: &Scene, first: u32) -> Result<Option<Vec<u32>>, AllocError>
     requires { first < trains scene.now.table.now }
     ensures { IfOk result (λ found. MatchOption found
-        ((later : List ℕ) → IsCircle scene.now.table.now scene.now.state.now (first ∷ later) → ⊥)
-        (λ circle. IsCircle scene.now.table.now scene.now.state.now circle.items)) }
+        (BeginsNone scene.now.table.now scene.now.state.now first)
+        (λ circle. IsCircleFrom scene.now.table.now scene.now.state.now first circle.items)) }
 {
     let mut circle = Vec::new(alloc);
     let mut train = first;

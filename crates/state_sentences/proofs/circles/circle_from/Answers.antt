@@ -1,6 +1,6 @@
 use Rattle.std.proofs.Common.{◌∙◌, ◌++◌, ◌∷◌, [], List, ℕ, refl, sym, ap, subst, arith, ◌+◌}
 use Rattle.std.specs.Prelude.{Some, None}
-use Rattle.state_sentences.specs.Circle.{IsCircle}
+use Rattle.state_sentences.specs.Circle.{IsCircleFrom}
 use Rattle.state_sentences.proofs.Walks.{IsWalk, walk_goes, walk_closes, no_short_circle, no_circle_at_end, walk_end}
 use Rattle.state_sentences.proofs.circles.circle_from.Goals as goal
 
@@ -17,7 +17,7 @@ returns-then-next-first c =
     let path = c.loop.circle.items ++ c.loop.train ∷ [] in
     let step = walk_end scene.table.now scene.state.now c.args.first c.loop.counter c.loop.circle.items c.loop.train (Some c.in-Some.next) c.loop.invariant
     (sym c.in-Some.ensures.waits) in
-    subst (IsCircle scene.table.now scene.state.now) (sym c.in_ok-push.ensures.items)
+    subst (IsCircleFrom scene.table.now scene.state.now c.args.first) (sym c.in_ok-push.ensures.items)
     (walk_closes scene.table.now scene.state.now c.args.first c.loop.counter path c.loop.invariant (omega arith) (step ∙ ap Some c.if-next-first.true))
 
 pub loop-preserved : goal.loop-preserved
