@@ -30,7 +30,7 @@ use Rattle.document_shapes.specs.declared.refused.ShapeRefused.TheVariants as re
 use Rattle.document_shapes.specs.declared.table.TableMembers.{TableMembers}
 use Rattle.document_shapes.specs.declared.token_document.FoundDocument.{FoundDocument}
 use Rattle.document_shapes.specs.declared.token_table.FoundTable.{FoundTable}
-use Rattle.document_shapes.proofs.DocWritten as written_doc
+use Rattle.document_shapes.proofs.WrittenBack as written_doc
 use Rattle.document_shapes.proofs.FoundLemmas.{need-found, may-found}
 use Rattle.document_shapes.proofs.TableWritten as written_table
 use Rattle.document_shapes.proofs.TableWritten.{since-back}

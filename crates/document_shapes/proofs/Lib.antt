@@ -14,13 +14,13 @@ pub mod BackLemmas
 pub mod Trailing
 pub mod AddedLemmas
 pub mod ListWritten
-pub mod PartsBack
 pub mod SeenLemmas
 pub mod TableOrder
 pub mod TableWritten
 pub mod TableValue
 pub mod DocWritten
 pub mod TextBack
+pub mod WrittenBack
 pub mod NumberLemmas
 pub mod TokenLemmas
 pub mod FoundLemmas

@@ -10,7 +10,7 @@ use Rattle.serde_json.specs.Read.{number_of}
 use Rattle.serde_json.proofs.Numbers.{number_of-decimal, number_of-negative}
 use Rattle.document_shapes.specs.Shape.{Shape, whole, change}
 use Rattle.document_shapes.specs.Taken.{number_read}
-use Rattle.document_shapes.proofs.BackLemmas.{whole-back, change-back}
+use Rattle.document_shapes.proofs.BackLemmas.{whole-as, change-back}
 
 -- the number that a text is
 pub number_read-is : {A : Type 0} (shape : Shape A) (s : List ℕ) (k : Num) → number_of s ≡ Some k → number_read shape s ≡ shape (number k)
@@ -29,7 +29,7 @@ whole-number : (s : List ℕ) (n : ℕ) → decimal.number_of s ≡ Some n → n
 whole-number s n h = let t = number_takes s n h in ap number_of t.text ∙ number_of-decimal n (omega (arith, t.small))
 
 pub whole-read : (s : List ℕ) (n : ℕ) → decimal.number_of s ≡ Some n → number_read whole s ≡ Some n
-whole-read s n h = number_read-is whole s (unsigned n) (whole-number s n h) ∙ whole-back n (number_takes s n h).small
+whole-read s n h = number_read-is whole s (unsigned n) (whole-number s n h) ∙ (whole-as n (number_takes s n h).small).back
 
 -- a text of one digit
 pub digit-read : (s : List ℕ) (n : ℕ) → 1 ≤ length s → length s < 2 → n ≡ slice_index_or s 0 0 - 48 → 48 ≤ slice_index_or s 0 0 → slice_index_or s 0 0 < 58
@@ -45,7 +45,7 @@ pub change-read : (s : List ℕ) (n : ℕ) → decimal.number_of s ≡ Some n �
 change-read s n h small =
     let low : neg_ℤ (pos (2 ^ 31)) ≤ℤ pos n = omega (arith, ints) in
     let high : pos n ≤ℤ pos (2 ^ 31 - 1) = omega (arith, ints) in
-    number_read-is change s (unsigned n) (whole-number s n h) ∙ change-back (pos n) low high
+    number_read-is change s (unsigned n) (whole-number s n h) ∙ change-back (pos n) (low, high)
 
 minus-number : (s : List ℕ) (n : ℕ) → decimal.number_of s ≡ Some (suc n) → number_of (45 ∷ s) ≡ Some (negative (negsuc n))
 minus-number s n h = let t = number_takes s (suc n) h in ap (λ r. number_of (45 ∷ r)) t.text ∙ number_of-negative n (omega (arith, t.small))
@@ -55,4 +55,4 @@ minus-read s zero h some small = absurd (omega arith)
 minus-read s (suc n) h some small =
     let low : neg_ℤ (pos (2 ^ 31)) ≤ℤ negsuc n = omega (arith, ints) in
     let high : negsuc n ≤ℤ pos (2 ^ 31 - 1) = omega (arith, ints) in
-    number_read-is change (45 ∷ s) (negative (negsuc n)) (minus-number s n h) ∙ change-back (negsuc n) low high
+    number_read-is change (45 ∷ s) (negative (negsuc n)) (minus-number s n h) ∙ change-back (negsuc n) (low, high)

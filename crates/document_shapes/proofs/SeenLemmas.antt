@@ -1,11 +1,9 @@
 -- What stands for lists of values, as definitions see them.
-use Rattle.std.proofs.Common.{◌≡◌, ℕ, List, [], ◌∷◌, map, Option, Some, None, option_map, refl, sym, ap, ap₂, ◌∙◌, Vec, String, Global, string_bytes}
-use Rattle.std.specs.Prelude.{MatchOption, ⊤}
+use Rattle.std.proofs.Common.{◌≡◌, List, [], ◌∷◌, map, Option, Some, None, option_map, refl, ap, ap₂, Vec, String, Global, string_bytes}
 use Rattle.serde_json.specs.Data.{Data, string, array, item}
 use Rattle.serde_json.specs.View.{items_of}
-use Rattle.document_shapes.specs.ReadsBack.{IsPlain, ReadsBack}
+use Rattle.document_shapes.specs.InRange.{IfGiven}
 use Rattle.document_shapes.specs.Seen.{names_seen}
-use Rattle.document_shapes.specs.Shape.{Shape}
 use Rattle.document_shapes.specs.Written.{list_data}
 
 module _ {X A : Type 0} (put : X → Data) (look : A → Data) (see : X → A) (same : (x : X) → put x ≡ look (see x)) where
@@ -20,16 +18,10 @@ module _ {X A : Type 0} (put : X → Data) (look : A → Data) (see : X → A) (
   given-seen None = refl
   given-seen (Some x) = ap Some (same x)
 
-  -- what reads back, reads as it is seen
-  pub given-reads : (levels : ℕ) (R : Data → X → Type 0) (shape : Shape A) → ((d : Data) (x : X) → R d x → shape d ≡ Some (see x)) → (o : Option X)
-      → MatchOption o ⊤ (ReadsBack put levels R) → MatchOption (option_map see o) ⊤ (λ a. shape (look a) ≡ Some a)
-  given-reads levels R shape agrees None h = tt
-  given-reads levels R shape agrees (Some x) h = ap shape (sym (same x)) ∙ agrees (put x) x h.back
-
-pub given-plain : {X : Type 0} (put : X → Data) (levels : ℕ) (R : Data → X → Type 0) (o : Option X) → MatchOption o ⊤ (ReadsBack put levels R)
-    → MatchOption (option_map put o) ⊤ (IsPlain levels)
-given-plain put levels R None h = tt
-given-plain put levels R (Some x) h = h.plain
+-- what holds of what there is, as it is seen
+pub given-kept : {X A : Type 0} (P : X → Type 0) (Q : A → Type 0) (see : X → A) → ((x : X) → P x → Q (see x)) → (o : Option X) → IfGiven P o → IfGiven Q (option_map see o)
+given-kept P Q see kept None h = tt
+given-kept P Q see kept (Some x) h = kept x h
 
 -- what stands for a text, and for a list of names
 abbrev pub put_text : String Global → Data

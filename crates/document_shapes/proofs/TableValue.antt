@@ -1,31 +1,20 @@
 -- What stands for a table's members.
-use Rattle.std.proofs.Common.{◌≡◌, ℕ, ◌≤◌, Bool, List, [], ◌∷◌, ◌++◌, map, codes, Option, Some, None, option_map, Ok, refl, sym, ap, ◌∙◌, arith, subst, Vec, String, Global, string_bytes}
-use Rattle.std.specs.Prelude.{MatchOption, ⊤}
+use Rattle.std.proofs.Common.{◌≡◌, ℕ, Bool, List, [], ◌∷◌, ◌++◌, map, codes, All, option_map, IsUtf8, refl, ap, ◌∙◌, Vec, String, Global, string_bytes}
+use Rattle.std.proofs.lemmas.List.Elements.{All-map, All-weaker}
 use Rattle.rail_model.specs.declared.types.Node.{Node}
 use Rattle.rail_model.specs.Table.{Connection}
 use Rattle.json.specs.Token.{begin_object, end_object}
 use Rattle.serde_json.specs.Data.{Data, boolean, string, object, no_members}
 use Rattle.document_shapes.specs.Added.{tokens_of, member_tokens, given_tokens}
-use Rattle.document_shapes.specs.Parts.{node, section, connection}
-use Rattle.document_shapes.specs.Raw.{IsOfVersion, table_members}
-use Rattle.document_shapes.specs.Readings.{ReadsList}
-use Rattle.document_shapes.specs.ReadsBack.{IsPlain, ReadsBack}
+use Rattle.document_shapes.specs.InRange.{IsSmall, NodeIsSmall, ConnectionIsSmall, SectionIsSmall, IfGiven, TableInRange}
 use Rattle.document_shapes.specs.Seen.{names_seen, seen_table}
 use Rattle.document_shapes.specs.SeenSection.{seen_section}
-use Rattle.document_shapes.specs.Shape.{whole, truth, text, list_of}
 use Rattle.document_shapes.specs.Written.{list_data, whole_data, node_data, section_data, connection_data, table_data}
 use Rattle.document_shapes.specs.declared.parts.SectionMembers.{SectionMembers}
 use Rattle.document_shapes.specs.declared.table.TableMembers.{TableMembers}
-use Rattle.document_shapes.proofs.Agreement.{agrees-list, agrees-items, agrees-text, agrees-truth, agrees-section, agrees-connection, agrees-node, agrees-train_times}
 use Rattle.document_shapes.proofs.AddedLemmas.{given-tokens}
-use Rattle.document_shapes.proofs.PlainLemmas.{plain-no_members, plain-member, plain-given, plain-object, plain-within}
-use Rattle.document_shapes.proofs.SeenLemmas.{list-seen, given-seen, given-reads, given-plain, put_names, names-seen}
+use Rattle.document_shapes.proofs.SeenLemmas.{list-seen, given-seen, given-kept, put_names, names-seen}
 use Rattle.document_shapes.proofs.TableOrder.{Standing, from_times, from_missions, from_exits, from_connections, from_certificate, all_members, standing_for}
-use Rattle.document_shapes.proofs.TableWritten.{MembersRead, table-back}
-
-given-within : (j k : ℕ) (o : Option Data) → j ≤ k → MatchOption o ⊤ (IsPlain j) → MatchOption o ⊤ (IsPlain k)
-given-within j k None deep h = tt
-given-within j k (Some d) deep h = plain-within j k d deep h
 
 -- what stands for the lists of a table
 abbrev put_missions : Vec (Vec (String Global) Global) Global → Data
@@ -100,48 +89,17 @@ module _ (t : TableMembers) where
       let after = ap (λ ts. given_tokens (codes "after") s.after ++ ts) certificate ∙ given-tokens (codes "after") s.after (from_certificate s) in
       ap (λ ts. begin_object ∷ ts) after ∙ ap tokens_of table-seen
 
-  module _
-      (missions : ReadsBack put_missions 2 (λ d v. ReadsList (λ e (w : Vec (String Global) Global). ReadsList (λ f s. text f ≡ Some (string_bytes s)) e w.items) d v.items) t.missions)
-      (exits : MatchOption t.exits ⊤ (ReadsBack put_exits 1 (λ d v. ReadsList (λ e b. truth e ≡ Some b) d v.items)))
-      (sections : MatchOption t.sections ⊤ (ReadsBack put_sections 4 (λ d v. ReadsList (λ e s. section e ≡ Some (seen_section s)) d v.items)))
-      (connections : MatchOption t.connections ⊤ (ReadsBack put_connections 2 (λ d v. ReadsList (λ e k. connection e ≡ Some k) d v.items)))
-      (certificate : MatchOption t.certificate ⊤ (ReadsBack put_nodes 2 (λ d v. ReadsList (λ e n. node e ≡ Some n) d v.items)))
-      (times : MatchOption t.times ⊤ (ReadsBack put_times 2 (λ d v. ReadsList (λ e x. list_of whole e ≡ Some x) d v.items)))
-      (after : MatchOption t.after ⊤ (ReadsBack whole_data 0 (λ d n. whole d ≡ Some n))) where
-    members-read : MembersRead (seen_table t)
-    members-read = record {
-      missions = ap (list_of (list_of text)) (sym (missions-seen t.missions)) ∙ (agrees-list (agrees-list agrees-text)).reads (put_missions t.missions) t.missions missions.back;
-      exits = given-reads put_exits (list_data boolean) (λ v. v.items) (λ v. refl) 1 _ (list_of truth) (agrees-items agrees-truth).reads t.exits exits;
-      sections = given-reads put_sections (list_data section_data) (λ v. map seen_section v.items) sections-seen 4 _ (list_of section) (agrees-list agrees-section).reads t.sections sections;
-      connections = given-reads put_connections (list_data connection_data) (λ v. v.items) (λ v. refl) 2 _ (list_of connection) (agrees-items agrees-connection).reads t.connections connections;
-      certificate = given-reads put_nodes (list_data node_data) (λ v. v.items) (λ v. refl) 2 _ (list_of node) (agrees-items agrees-node).reads t.certificate certificate;
-      times = given-reads put_times (list_data (list_data whole_data)) (λ v. v.items) (λ v. refl) 2 _ (list_of (list_of whole)) (agrees-items agrees-train_times).reads t.times times;
-      after = after_read t.after after;
-    }
-      where
-        after_read : (o : Option ℕ) → MatchOption o ⊤ (ReadsBack whole_data 0 (λ d n. whole d ≡ Some n)) → MatchOption o ⊤ (λ n. whole (whole_data n) ≡ Some n)
-        after_read None h = tt
-        after_read (Some n) h = h.back
-
-    table-plain : IsPlain 5 (table_data (seen_table t))
-    table-plain =
-        let s = standing in
-        let of_times = given-within 2 4 s.times (omega arith) (given-plain put_times 2 _ t.times times) in
-        let of_sections = given-within 4 4 s.sections (omega arith) (given-plain put_sections 4 _ t.sections sections) in
-        let of_exits = given-within 1 4 s.exits (omega arith) (given-plain put_exits 1 _ t.exits exits) in
-        let of_connections = given-within 2 4 s.connections (omega arith) (given-plain put_connections 2 _ t.connections connections) in
-        let of_certificate = given-within 2 4 s.certificate (omega arith) (given-plain put_nodes 2 _ t.certificate certificate) in
-        let of_after = given-within 0 4 s.after (omega arith) (given-plain whole_data 0 _ t.after after) in
-        let with_times = plain-given 4 (codes "times") (codes "~") refl s.times no_members of_times (plain-no_members 4 (codes "~")) in
-        let with_sections = plain-given 4 (codes "sections") (codes "times") refl s.sections _ of_sections with_times in
-        let with_missions = plain-member 4 (codes "missions") (codes "sections") refl s.missions _ (plain-within 2 4 s.missions (omega arith) missions.plain) with_sections in
-        let with_exits = plain-given 4 (codes "exits") (codes "missions") refl s.exits _ of_exits with_missions in
-        let with_connections = plain-given 4 (codes "connections") (codes "exits") refl s.connections _ of_connections with_exits in
-        let with_certificate = plain-given 4 (codes "certificate") (codes "connections") refl s.certificate _ of_certificate with_connections in
-        let with_after = plain-given 4 (codes "after") (codes "certificate") refl s.after _ of_after with_certificate in
-        subst (IsPlain 5) table-seen (plain-object 4 (codes "after") _ with_after)
-
-    -- the table reads back
-    pub table-reads_back : ReadsBack (λ u. table_data (seen_table u)) 5
-        (λ d u. (version number : ℕ) → IsOfVersion version (seen_table u) → table_members version number d ≡ Ok (seen_table u)) t
-    table-reads_back = record { plain = table-plain; back = λ version number of. table-back version number (seen_table t) members-read of }
+  -- the table is in range where its lists are
+  pub table-in_range : All (λ w. All (λ x. IsUtf8 (string_bytes x)) w.items) t.missions.items → IfGiven (λ v. All (λ x. SectionIsSmall (seen_section x)) v.items) t.sections
+      → IfGiven (λ v. All ConnectionIsSmall v.items) t.connections → IfGiven (λ v. All NodeIsSmall v.items) t.certificate
+      → IfGiven (λ v. All (All IsSmall) v.items) t.times → IfGiven IsSmall t.after → TableInRange (seen_table t)
+  table-in_range missions sections connections certificate times after = record {
+    missions =
+        All-map (All IsUtf8) names_seen t.missions.items
+        (All-weaker (λ w. All (λ x. IsUtf8 (string_bytes x)) w.items) (λ w. All IsUtf8 (names_seen w)) (λ w. All-map IsUtf8 string_bytes w.items) t.missions.items missions);
+    sections = given-kept _ (All SectionIsSmall) (λ v. map seen_section v.items) (λ v. All-map SectionIsSmall seen_section v.items) t.sections sections;
+    connections = given-kept _ (All ConnectionIsSmall) (λ v. v.items) (λ v h. h) t.connections connections;
+    certificate = given-kept _ (All NodeIsSmall) (λ v. v.items) (λ v h. h) t.certificate certificate;
+    times = given-kept _ (All (All IsSmall)) (λ v. v.items) (λ v h. h) t.times times;
+    after = after;
+  }

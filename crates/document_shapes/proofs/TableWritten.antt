@@ -1,6 +1,6 @@
 -- A table's members, as they are written, read as they were.
-use Rattle.std.proofs.Common.{◌≡◌, ℕ, ◌<◌, Bool, false, List, codes, Option, Some, None, option_map, Result, Ok, Equal, Ordering, Less, Greater, refl, sym, ap, ◌∙◌, arith, inl, inr, is_eq, true≢false}
-use Rattle.std.specs.Prelude.{MatchOption, ⊤, option_and_then, ok_or}
+use Rattle.std.proofs.Common.{◌≡◌, ℕ, ◌<◌, ◌≤◌, Bool, false, List, codes, Option, Some, None, option_map, Result, Ok, Equal, Ordering, Less, Greater, refl, sym, ap, ◌∙◌, arith, inl, inr, is_eq, true≢false}
+use Rattle.std.specs.Prelude.{option_and_then, ok_or}
 use Rattle.std.specs.Ordering.{nat_cmp, match_ordering}
 use Rattle.std.specs.Cmp.Lexicographic.{slice_cmp}
 use Rattle.std.proofs.lemmas.Bool.Decides.{leb_tells}
@@ -8,6 +8,7 @@ use Rattle.rail_model.specs.declared.types.Node.{Node}
 use Rattle.rail_model.specs.Table.{Section, Connection}
 use Rattle.serde_json.specs.Data.{Data, boolean, string, object, Members, no_members}
 use Rattle.serde_json.specs.Find.{get_member}
+use Rattle.document_shapes.specs.InRange.{IfGiven}
 use Rattle.document_shapes.specs.Members.{name_of, need, may, since, shaped}
 use Rattle.document_shapes.specs.Parts.{node, section, connection}
 use Rattle.document_shapes.specs.Raw.{TableMembers, IsOfVersion, table_members}
@@ -17,7 +18,9 @@ use Rattle.document_shapes.specs.declared.member.Member.{Member}
 use Rattle.document_shapes.specs.declared.member.Member.TheVariants as names
 use Rattle.document_shapes.specs.declared.refused.ShapeRefused.{ShapeRefused}
 use Rattle.document_shapes.specs.declared.refused.ShapeRefused.TheVariants as refused
+use Rattle.document_shapes.proofs.BackLemmas.{ReadsAs}
 use Rattle.document_shapes.proofs.InTurn.{table_in_turn}
+use Rattle.document_shapes.proofs.PlainLemmas.{IsPlain, plain-no_members, plain-member, plain-given, plain-object, plain-within}
 use Rattle.document_shapes.proofs.TableOrder.{Standing, from_times, from_sections, from_missions, from_exits, from_connections, from_certificate, all_members, standing_for}
 
 -- ---- what is found under a name
@@ -92,14 +95,14 @@ pub needed-back : {A : Type 0} (t : Option ℕ) (m : Member) (shape : Shape A) (
 needed-back t m shape ms d x found reads =
     ap (λ o. ok_or (option_and_then shape o) (refused.Shape t m)) found ∙ ap (λ o. ok_or o (refused.Shape t m)) reads
 
-shaped-back : {A : Type 0} (e : ShapeRefused) (shape : Shape A) (put : A → Data) (o : Option A) → MatchOption o ⊤ (λ x. shape (put x) ≡ Some x) → shaped e shape (option_map put o) ≡ Ok o
-shaped-back e shape put None h = refl
-shaped-back e shape put (Some x) h = ap (λ r. ok_or (option_map Some r) e) h
+module _ {A : Type 0} (put : A → Data) (levels : ℕ) (shape : Shape A) where
+  shaped-back : (e : ShapeRefused) (o : Option A) → IfGiven (ReadsAs put levels shape) o → shaped e shape (option_map put o) ≡ Ok o
+  shaped-back e None h = refl
+  shaped-back e (Some x) h = ap (λ r. ok_or (option_map Some r) e) h.back
 
-given-back : {A : Type 0} (t : ℕ) (m : Member) (shape : Shape A) (put : A → Data) (o : Option A) (ms : Members) → get_member (name_of m) ms ≡ option_map put o
-    → MatchOption o ⊤ (λ x. shape (put x) ≡ Some x) → may t m shape (object ms) ≡ Ok o
-given-back t m shape put o ms found reads =
-    ap (shaped (refused.Shape (Some t) m) shape) found ∙ shaped-back (refused.Shape (Some t) m) shape put o reads
+  given-back : (t : ℕ) (m : Member) (o : Option A) (ms : Members) → get_member (name_of m) ms ≡ option_map put o → IfGiven (ReadsAs put levels shape) o
+      → may t m shape (object ms) ≡ Ok o
+  given-back t m o ms found reads = ap (shaped (refused.Shape (Some t) m) shape) found ∙ shaped-back (refused.Shape (Some t) m) o reads
 
 pub since-back : {A : Type 0} (least version : ℕ) (r : Result (Option A) ShapeRefused) (o : Option A) → (version < least → o ≡ None) → r ≡ Ok o → since least version r ≡ Ok o
 since-back least version r o older is = elim (leb_tells least version) [
@@ -114,27 +117,48 @@ pub all_read : {E : Type 0} (missions : Result (List (List (List ℕ))) E) (exit
     → table_in_turn missions exits sections connections certificate times after ≡ Ok t
 all_read _ _ _ _ _ _ _ t missions exits sections connections certificate times after = rw (missions, exits, sections, connections, certificate, times, after) refl
 
--- What is written of the members reads as they do, each by itself.
-pub record MembersRead (t : TableMembers) : Type 0 where
-  pub missions : list_of (list_of text) (list_data (list_data string) t.missions) ≡ Some t.missions
-  pub exits : MatchOption t.exits ⊤ (λ xs. list_of truth (list_data boolean xs) ≡ Some xs)
-  pub sections : MatchOption t.sections ⊤ (λ xs. list_of section (list_data section_data xs) ≡ Some xs)
-  pub connections : MatchOption t.connections ⊤ (λ xs. list_of connection (list_data connection_data xs) ≡ Some xs)
-  pub certificate : MatchOption t.certificate ⊤ (λ xs. list_of node (list_data node_data xs) ≡ Some xs)
-  pub times : MatchOption t.times ⊤ (λ xs. list_of (list_of whole) (list_data (list_data whole_data) xs) ≡ Some xs)
-  pub after : MatchOption t.after ⊤ (λ n. whole (whole_data n) ≡ Some n)
+-- Each member of a table reads as it is.
+pub record TableReads (t : TableMembers) : Type 0 where
+  pub missions : ReadsAs (list_data (list_data string)) 2 (list_of (list_of text)) t.missions
+  pub exits : IfGiven (ReadsAs (list_data boolean) 1 (list_of truth)) t.exits
+  pub sections : IfGiven (ReadsAs (list_data section_data) 4 (list_of section)) t.sections
+  pub connections : IfGiven (ReadsAs (list_data connection_data) 2 (list_of connection)) t.connections
+  pub certificate : IfGiven (ReadsAs (list_data node_data) 2 (list_of node)) t.certificate
+  pub times : IfGiven (ReadsAs (list_data (list_data whole_data)) 2 (list_of (list_of whole))) t.times
+  pub after : IfGiven (ReadsAs whole_data 0 whole) t.after
 
 -- a table reads back
-pub table-back : (version number : ℕ) (t : TableMembers) → MembersRead t → IsOfVersion version t → table_members version number (table_data t) ≡ Ok t
+pub table-back : (version number : ℕ) (t : TableMembers) → TableReads t → IsOfVersion version t → table_members version number (table_data t) ≡ Ok t
 table-back version number t h of =
     let s = standing_for t in
     let ms = all_members s in
     all_read _ _ _ _ _ _ _ t
-    (needed-back (Some number) names.Missions (list_of (list_of text)) ms s.missions t.missions (at_missions s) h.missions)
-    (since-back 2 version _ t.exits of.exits (given-back number names.Exits (list_of truth) (list_data boolean) t.exits ms (at_exits s) h.exits))
-    (given-back number names.Sections (list_of section) (list_data section_data) t.sections ms (at_sections s) h.sections)
-    (since-back 3 version _ t.connections of.connections
-    (given-back number names.Connections (list_of connection) (list_data connection_data) t.connections ms (at_connections s) h.connections))
-    (given-back number names.Certificate (list_of node) (list_data node_data) t.certificate ms (at_certificate s) h.certificate)
-    (given-back number names.Times (list_of (list_of whole)) (list_data (list_data whole_data)) t.times ms (at_times s) h.times)
-    (given-back number names.After whole whole_data t.after ms (at_after s) h.after)
+    (needed-back (Some number) names.Missions (list_of (list_of text)) ms s.missions t.missions (at_missions s) h.missions.back)
+    (since-back 2 version _ t.exits of.exits (given-back (list_data boolean) 1 (list_of truth) number names.Exits t.exits ms (at_exits s) h.exits))
+    (given-back (list_data section_data) 4 (list_of section) number names.Sections t.sections ms (at_sections s) h.sections)
+    (since-back 3 version _ t.connections of.connections (given-back (list_data connection_data) 2 (list_of connection) number names.Connections t.connections ms (at_connections s) h.connections))
+    (given-back (list_data node_data) 2 (list_of node) number names.Certificate t.certificate ms (at_certificate s) h.certificate)
+    (given-back (list_data (list_data whole_data)) 2 (list_of (list_of whole)) number names.Times t.times ms (at_times s) h.times)
+    (given-back whole_data 0 whole number names.After t.after ms (at_after s) h.after)
+
+given-within : {A : Type 0} (put : A → Data) (levels k : ℕ) (shape : Shape A) (o : Option A) → levels ≤ k → IfGiven (ReadsAs put levels shape) o → IfGiven (IsPlain k) (option_map put o)
+given-within put levels k shape None deep h = tt
+given-within put levels k shape (Some x) deep h = plain-within levels k (put x) deep h.plain
+
+-- and is plain
+pub table-plain : (t : TableMembers) → TableReads t → IsPlain 5 (table_data t)
+table-plain t h =
+    let of_times = given-within (list_data (list_data whole_data)) 2 4 (list_of (list_of whole)) t.times (omega arith) h.times in
+    let of_sections = given-within (list_data section_data) 4 4 (list_of section) t.sections (omega arith) h.sections in
+    let of_exits = given-within (list_data boolean) 1 4 (list_of truth) t.exits (omega arith) h.exits in
+    let of_connections = given-within (list_data connection_data) 2 4 (list_of connection) t.connections (omega arith) h.connections in
+    let of_certificate = given-within (list_data node_data) 2 4 (list_of node) t.certificate (omega arith) h.certificate in
+    let of_after = given-within whole_data 0 4 whole t.after (omega arith) h.after in
+    let with_times = plain-given 4 (codes "times") (codes "~") refl refl _ no_members of_times (plain-no_members 4 (codes "~")) in
+    let with_sections = plain-given 4 (codes "sections") (codes "times") refl refl _ _ of_sections with_times in
+    let with_missions = plain-member 4 (codes "missions") (codes "sections") refl refl _ _ (plain-within 2 4 _ (omega arith) h.missions.plain) with_sections in
+    let with_exits = plain-given 4 (codes "exits") (codes "missions") refl refl _ _ of_exits with_missions in
+    let with_connections = plain-given 4 (codes "connections") (codes "exits") refl refl _ _ of_connections with_exits in
+    let with_certificate = plain-given 4 (codes "certificate") (codes "connections") refl refl _ _ of_certificate with_connections in
+    let with_after = plain-given 4 (codes "after") (codes "certificate") refl refl _ _ of_after with_certificate in
+    plain-object 4 (codes "after") _ with_after

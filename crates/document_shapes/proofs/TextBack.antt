@@ -1,5 +1,5 @@
 -- The text of plain data, with a newline behind it, reads as the data.
-use Rattle.std.proofs.Common.{◌≡◌, ◌≤◌, ℕ, List, [], ◌∷◌, ◌++◌, Some, refl, sym, ap, ◌∙◌, arith, append-nil, IsUtf8}
+use Rattle.std.proofs.Common.{◌≡◌, ◌≤◌, ℕ, List, [], ◌∷◌, ◌++◌, Some, refl, sym, ap, ◌∙◌, arith, append-nil}
 use Rattle.std.specs.Prelude.{option_and_then, ok_or}
 use Rattle.std.proofs.lemmas.Str.{IsUtf8-append}
 use Rattle.json.specs.Json as json
@@ -14,9 +14,9 @@ use Rattle.serde_json.specs.Written.{outline, compact_text}
 use Rattle.serde_json.proofs.Texts.{print-outline}
 use Rattle.document_shapes.specs.Raw.{DocMembers, doc_members, members_of}
 use Rattle.document_shapes.specs.Reading.{reading}
-use Rattle.document_shapes.specs.ReadsBack.{IsPlain}
 use Rattle.document_shapes.specs.Written.{doc_data, text_of}
 use Rattle.document_shapes.specs.declared.refused.ShapeRefused.TheVariants.{NotJson}
+use Rattle.document_shapes.proofs.PlainLemmas.{IsPlain}
 use Rattle.document_shapes.proofs.ReadingLemmas.{reading-text}
 use Rattle.document_shapes.proofs.Trailing.{tokens-newline}
 
@@ -33,9 +33,9 @@ module _ (k : ℕ) (d : Data) (h : IsPlain k d) where
       ap (λ ts. option_and_then of_json (option_and_then (λ p. json.if_last p.0 p.1) (json.value max_depth ts))) same
       ∙ ap (λ o. option_and_then of_json (option_and_then (λ p. json.if_last p.0 p.1) o)) value ∙ h.same
 
-  pub reading-line : IsUtf8 text → k ≤ max_depth → reading (text ++ 10 ∷ []) ≡ Some d
-  reading-line utf8 deep = reading-text (text ++ 10 ∷ []) (IsUtf8-append text (10 ∷ []) utf8 (IsUtf8-are_ascii (10 ∷ []) refl)) ∙ read-line deep
+  reading-line : k ≤ max_depth → reading (text ++ 10 ∷ []) ≡ Some d
+  reading-line deep = reading-text (text ++ 10 ∷ []) (IsUtf8-append text (10 ∷ []) h.utf8 (IsUtf8-are_ascii (10 ∷ []) refl)) ∙ read-line deep
 
 -- the text of a document's members
-pub members-text : (m : DocMembers) → IsPlain 7 (doc_data m) → IsUtf8 (compact_text (doc_data m)) → members_of (text_of m) ≡ doc_members (doc_data m)
-members-text m plain utf8 = ap (λ o. in_turn (ok_or o NotJson) doc_members) (reading-line 7 (doc_data m) plain utf8 (omega arith))
+pub members-text : (m : DocMembers) → IsPlain 7 (doc_data m) → members_of (text_of m) ≡ doc_members (doc_data m)
+members-text m plain = ap (λ o. in_turn (ok_or o NotJson) doc_members) (reading-line 7 (doc_data m) plain (omega arith))

@@ -9,7 +9,7 @@ pub mod Values
 pub mod SeenSection
 pub mod Seen
 pub mod Written
-pub mod ReadsBack
+pub mod InRange
 pub mod Added
 pub mod Taken
 pub mod SectionFound

@@ -5,6 +5,7 @@ mod document;
 mod from_members;
 mod from_tokens;
 mod from_value;
+mod laws;
 mod member;
 mod members;
 mod number_text;
@@ -18,6 +19,7 @@ mod token_table;
 mod writing;
 
 pub use document::{DocMembers, read_document};
+pub use laws::written_members_read_back;
 pub use member::Member;
 pub use parts::SectionMembers;
 pub use refused::ShapeRefused;

@@ -1,11 +1,8 @@
 // Values of one shape, written as the tokens of JSON.
-ghost use Rattle.std.specs.Prelude.{◌≡◌, ◌+◌, ℕ, All, OnOk, Some, max, string_bytes};
+ghost use Rattle.std.specs.Prelude.{All, IsUtf8, OnOk, ⊤, string_bytes};
 ghost use Rattle.serde_json.specs.Data.{Data, boolean, string};
 ghost use Rattle.document_shapes.specs.Added.{Adds, member_tokens, tokens_of};
-ghost use Rattle.document_shapes.specs.Parts as part;
-ghost use Rattle.document_shapes.specs.Readings.{ReadsList, ReadsPair};
-ghost use Rattle.document_shapes.specs.ReadsBack.{ReadsBack};
-ghost use Rattle.document_shapes.specs.Shape as shape;
+ghost use Rattle.document_shapes.specs.InRange.{IsSmall, IsChange, NodeIsSmall, ConnectionIsSmall, SectionIsSmall};
 ghost use Rattle.document_shapes.specs.Written as written;
 ghost use Rattle.document_shapes.specs.Written.{list_data, pair_data};
 
@@ -19,24 +16,19 @@ pub(crate) trait ToTokens {
     /// The data that stand for the value.
     ghost stands: { Self → Data };
 
-    /// How deep they nest at most.
-    ghost levels: { ℕ };
-
-    /// The data read as this.
-    ghost reads: { Data → Self → Type 0 };
+    /// Its numbers are in range and its texts are UTF-8.
+    ghost in_range: { Self → Type 0 };
 
     /// Writes the data.
     fn to_tokens(&self, writer: &mut Writer) -> Result<(), AllocError>
         ensures tokens { OnOk result (Adds (tokens_of (stands self.now)) writer.old writer.new) }
-        ensures back { OnOk result (ReadsBack stands levels reads self.now) };
+        ensures in_range { OnOk result (in_range self.now) };
 }
 
 impl ToTokens for bool {
     ghost stands = { boolean };
 
-    ghost levels = { 0 };
-
-    ghost reads = { λ d b. shape.truth d ≡ Some b };
+    ghost in_range = { λ _. ⊤ };
 
     fn to_tokens(&self, writer: &mut Writer) -> Result<(), AllocError> {
         writer.boolean(*self)
@@ -46,9 +38,7 @@ impl ToTokens for bool {
 impl ToTokens for u32 {
     ghost stands = { written.whole_data };
 
-    ghost levels = { 0 };
-
-    ghost reads = { λ d n. shape.whole d ≡ Some n };
+    ghost in_range = { IsSmall };
 
     fn to_tokens(&self, writer: &mut Writer) -> Result<(), AllocError> {
         writer.u64(u64::from(*self))
@@ -58,9 +48,7 @@ impl ToTokens for u32 {
 impl ToTokens for i32 {
     ghost stands = { written.change_data };
 
-    ghost levels = { 0 };
-
-    ghost reads = { λ d z. shape.change d ≡ Some z };
+    ghost in_range = { IsChange };
 
     fn to_tokens(&self, writer: &mut Writer) -> Result<(), AllocError> {
         writer.i64(i64::from(*self))
@@ -70,9 +58,7 @@ impl ToTokens for i32 {
 impl ToTokens for String {
     ghost stands = { λ s. string (string_bytes s) };
 
-    ghost levels = { 0 };
-
-    ghost reads = { λ d s. shape.text d ≡ Some (string_bytes s) };
+    ghost in_range = { λ s. IsUtf8 (string_bytes s) };
 
     fn to_tokens(&self, writer: &mut Writer) -> Result<(), AllocError> {
         writer.string(self.as_str())
@@ -82,9 +68,7 @@ impl ToTokens for String {
 impl ToTokens for Node {
     ghost stands = { written.node_data };
 
-    ghost levels = { 1 };
-
-    ghost reads = { λ d n. part.node d ≡ Some n };
+    ghost in_range = { NodeIsSmall };
 
     fn to_tokens(&self, writer: &mut Writer) -> Result<(), AllocError> {
         match *self {
@@ -100,9 +84,7 @@ impl ToTokens for Node {
 impl ToTokens for Connection {
     ghost stands = { written.connection_data };
 
-    ghost levels = { 1 };
-
-    ghost reads = { λ d k. part.connection d ≡ Some k };
+    ghost in_range = { ConnectionIsSmall };
 
     fn to_tokens(&self, writer: &mut Writer) -> Result<(), AllocError> {
         write_list(
@@ -115,9 +97,7 @@ impl ToTokens for Connection {
 impl ToTokens for TrainTimes {
     ghost stands = { list_data written.whole_data };
 
-    ghost levels = { 1 };
-
-    ghost reads = { λ d t. shape.list_of shape.whole d ≡ Some t };
+    ghost in_range = { All IsSmall };
 
     fn to_tokens(&self, writer: &mut Writer) -> Result<(), AllocError> {
         write_list(writer, self.as_slice())
@@ -129,9 +109,7 @@ impl ToTokens for SectionMembers {
 
     ghost stands = { λ s. written.section_data (seen_section s) };
 
-    ghost levels = { 3 };
-
-    ghost reads = { λ d s. part.section d ≡ Some (seen_section s) };
+    ghost in_range = { λ s. SectionIsSmall (seen_section s) };
 
     fn to_tokens(&self, writer: &mut Writer) -> Result<(), AllocError> {
         writer.begin_object()?;
@@ -148,7 +126,7 @@ pub(crate) fn write_named<T: ToTokens>(
     item: &T,
 ) -> Result<(), AllocError>
     ensures tokens { OnOk result (Adds (member_tokens name.now (T.ToTokens.stands item.now)) writer.old writer.new) }
-    ensures back { OnOk result (ReadsBack T.ToTokens.stands T.ToTokens.levels T.ToTokens.reads item.now) }
+    ensures in_range { OnOk result (T.ToTokens.in_range item.now) }
 {
     writer.key(name)?;
     item.to_tokens(writer)
@@ -157,9 +135,7 @@ pub(crate) fn write_named<T: ToTokens>(
 impl<T: ToTokens> ToTokens for Vec<T> {
     ghost stands = { λ v. list_data T.ToTokens.stands v.items };
 
-    ghost levels = { T.ToTokens.levels + 1 };
-
-    ghost reads = { λ d v. ReadsList T.ToTokens.reads d v.items };
+    ghost in_range = { λ v. All T.ToTokens.in_range v.items };
 
     fn to_tokens(&self, writer: &mut Writer) -> Result<(), AllocError> {
         write_list(writer, self.as_slice())
@@ -169,7 +145,7 @@ impl<T: ToTokens> ToTokens for Vec<T> {
 // Writes the list of what stands for each item.
 fn write_list<T: ToTokens>(writer: &mut Writer, items: &[T]) -> Result<(), AllocError>
     ensures tokens { OnOk result (Adds (tokens_of (list_data T.ToTokens.stands items.now)) writer.old writer.new) }
-    ensures back { OnOk result (All (ReadsBack T.ToTokens.stands T.ToTokens.levels T.ToTokens.reads) items.now) }
+    ensures in_range { OnOk result (All T.ToTokens.in_range items.now) }
 {
     writer.begin_array()?;
     for item in items {
@@ -181,9 +157,7 @@ fn write_list<T: ToTokens>(writer: &mut Writer, items: &[T]) -> Result<(), Alloc
 impl<A: ToTokens, B: ToTokens> ToTokens for (A, B) {
     ghost stands = { pair_data A.ToTokens.stands B.ToTokens.stands };
 
-    ghost levels = { max A.ToTokens.levels B.ToTokens.levels + 1 };
-
-    ghost reads = { λ d p. ReadsPair A.ToTokens.reads B.ToTokens.reads d p };
+    ghost in_range = { λ p. A.ToTokens.in_range p.0 × B.ToTokens.in_range p.1 };
 
     fn to_tokens(&self, writer: &mut Writer) -> Result<(), AllocError> {
         writer.begin_array()?;

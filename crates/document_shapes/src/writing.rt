@@ -1,9 +1,9 @@
 // The text of a document.
-ghost use Rattle.std.specs.Prelude.{◌≡◌, ℕ, IfOk, OnOk, Ok, MatchOption, option_map, ⊤};
+ghost use Rattle.std.specs.Prelude.{◌≡◌, IfOk, OnOk, Ok, option_map};
 ghost use Rattle.document_shapes.specs.Added.{Adds, member_tokens, given_tokens};
+ghost use Rattle.document_shapes.specs.InRange.{InRange, TableInRange, IfGiven};
 ghost use Rattle.document_shapes.specs.Members.{name_of};
-ghost use Rattle.document_shapes.specs.Raw.{table_members, doc_members, members_of, IsOfVersion, IsRead};
-ghost use Rattle.document_shapes.specs.ReadsBack.{ReadsBack};
+ghost use Rattle.document_shapes.specs.Raw.{members_of, IsRead};
 ghost use Rattle.document_shapes.specs.Seen.{seen_document, seen_table};
 ghost use Rattle.document_shapes.specs.Written.{table_data, doc_data, text_of};
 
@@ -20,7 +20,7 @@ fn write_member<T: ToTokens>(
 ) -> Result<(), AllocError>
     ensures tokens { OnOk result
         (Adds (member_tokens (name_of member) (T.ToTokens.stands item.now)) writer.old writer.new) }
-    ensures back { OnOk result (ReadsBack T.ToTokens.stands T.ToTokens.levels T.ToTokens.reads item.now) }
+    ensures in_range { OnOk result (T.ToTokens.in_range item.now) }
 {
     write_named(writer, member.name(), item)
 }
@@ -33,8 +33,7 @@ fn write_given<T: ToTokens>(
 ) -> Result<(), AllocError>
     ensures tokens { OnOk result
         (Adds (given_tokens (name_of member) (option_map T.ToTokens.stands item.now)) writer.old writer.new) }
-    ensures back { OnOk result
-        (MatchOption item.now ⊤ (ReadsBack T.ToTokens.stands T.ToTokens.levels T.ToTokens.reads)) }
+    ensures in_range { OnOk result (IfGiven T.ToTokens.in_range item.now) }
 {
     match item {
         Some(item) => write_member(writer, member, item),
@@ -45,10 +44,7 @@ fn write_given<T: ToTokens>(
 impl ToTokens for TableMembers {
     ghost stands = { λ t. table_data (seen_table t) };
 
-    ghost levels = { 5 };
-
-    ghost reads = { λ d t. (version number : ℕ) → IsOfVersion version (seen_table t)
-        → table_members version number d ≡ Ok (seen_table t) };
+    ghost in_range = { λ t. TableInRange (seen_table t) };
 
     fn to_tokens(&self, writer: &mut Writer) -> Result<(), AllocError> {
         writer.begin_object()?;
@@ -66,9 +62,7 @@ impl ToTokens for TableMembers {
 impl ToTokens for DocMembers {
     ghost stands = { λ m. doc_data (seen_document m) };
 
-    ghost levels = { 7 };
-
-    ghost reads = { λ d m. IsRead (seen_document m) → doc_members d ≡ Ok (seen_document m) };
+    ghost in_range = { λ m. InRange (seen_document m) };
 
     fn to_tokens(&self, writer: &mut Writer) -> Result<(), AllocError> {
         writer.begin_object()?;

@@ -1,9 +1,9 @@
-use Rattle.std.proofs.Common.{◌∙◌, ◌++◌, [], ◌∷◌, ap, subst, IsUtf8}
+use Rattle.std.proofs.Common.{◌∙◌, ◌++◌, [], ◌∷◌, ap}
 use Rattle.document_shapes.specs.Raw.{members_of}
 use Rattle.document_shapes.specs.Seen.{seen_document}
 use Rattle.document_shapes.specs.Written.{doc_data}
-use Rattle.document_shapes.proofs.AddedLemmas.{printed, printed-text}
-use Rattle.document_shapes.proofs.TextBack.{members-text}
+use Rattle.document_shapes.proofs.AddedLemmas.{printed-text}
+use Rattle.document_shapes.proofs.WrittenBack.{text-back}
 use Rattle.document_shapes.proofs.writing.write_document.Goals as goal
 
 pub returns-clause-text : goal.returns-clause-text
@@ -14,6 +14,4 @@ returns-clause-text c =
 
 pub returns-clause-reads_back : goal.returns-clause-reads_back
 returns-clause-reads_back c of =
-    let m = seen_document c.args.document.now in
-    let utf8 = subst IsUtf8 (printed (doc_data m) _ _ c.new-writer.ensures.tokens c.in_ok-to_tokens.ensures.tokens) c.into_inner-bytes.ensures.utf8 in
-    ap members_of (returns-clause-text c) ∙ members-text m c.in_ok-to_tokens.ensures.back.plain utf8 ∙ c.in_ok-to_tokens.ensures.back.back of
+    ap members_of (returns-clause-text c) ∙ text-back (seen_document c.args.document.now) of c.in_ok-to_tokens.ensures.in_range

@@ -1,16 +1,13 @@
-use Rattle.std.proofs.Common.{◌≡◌, ◌∙◌, ◌<◌, ◌^◌, ap, refl, subst, sym, ℤ, Vec, Global, OnOk, Some, rules}
+use Rattle.std.proofs.Common.{◌≡◌, refl, subst, ℤ, Vec, Global, OnOk, All, rules}
+use Rattle.std.proofs.lemmas.List.Elements.{All-map}
 use Rattle.std.proofs.lemmas.Result.{on_ok_weaker}
 use Rattle.serde_json.specs.Data.{Data}
 use Rattle.document_shapes.specs.Added.{Adds, tokens_of}
-use Rattle.document_shapes.specs.Parts.{section}
-use Rattle.document_shapes.specs.Shape.{list_of, change}
+use Rattle.document_shapes.specs.InRange.{IsSmall, IsChange, SectionIsSmall}
 use Rattle.document_shapes.specs.SeenSection.{seen_section}
-use Rattle.document_shapes.specs.ReadsBack.{IsPlain, ReadsBack}
-use Rattle.document_shapes.specs.Written.{list_data, change_data, section_data, section_of}
+use Rattle.document_shapes.specs.Written.{list_data, change_data, section_of}
 use Rattle.document_shapes.specs.declared.parts.SectionMembers.{SectionMembers}
 use Rattle.document_shapes.proofs.AddedLemmas.{adds-two}
-use Rattle.document_shapes.proofs.Agreement.{agrees-list, agrees-items, agrees-change}
-use Rattle.document_shapes.proofs.PartsBack.{section-back, section-plain}
 use Rattle.document_shapes.proofs.SeenLemmas.{list-seen}
 use Rattle.document_shapes.proofs.to_tokens.SectionMembersToTokens.to_tokens.Goals as goal
 
@@ -28,13 +25,10 @@ returns-clause-tokens c =
     (adds-two _ _ _ _ _ _ _ c.end_object.result (record { tokens = c.in_ok-begin_object.ensures.ok; before = c.begin_object.ensures.room.0 })
     c.in_ok-write_named.ensures.tokens c.in_ok-write_named-2.ensures.tokens c.end_object.ensures)
 
-pub returns-clause-back : goal.returns-clause-back
-returns-clause-back c =
+pub returns-clause-in_range : goal.returns-clause-in_range
+returns-clause-in_range c =
     let s = c.args.self.now in
-    let small : s.limit < 2 ^ 32 = search rules in
-    let changes = c.in_ok-write_named.ensures.back in
-    let read : list_of (list_of change) (list_data (list_data change_data) (seen_section s).changes) ≡ Some (seen_section s).changes =
-    ap (list_of (list_of change)) (sym (changes-seen s)) ∙ (agrees-list (agrees-items agrees-change)).reads (put_changes s.changes) s.changes changes.back in
-    let back : ReadsBack (λ t. section_data (seen_section t)) 3 (λ d t. section d ≡ Some (seen_section t)) s =
-    record { plain = section-plain (seen_section s) (subst (IsPlain 2) (changes-seen s) changes.plain) small; back = section-back (seen_section s) read small } in
-    on_ok_weaker c.end_object.result (λ _. back) c.end_object.ensures.ok
+    let small : IsSmall s.limit = search rules in
+    let changes = c.in_ok-write_named.ensures.in_range in
+    let whole : SectionIsSmall (seen_section s) = record { limit = small; changes = All-map (All IsChange) (λ (v : Vec ℤ Global). v.items) s.changes.items changes } in
+    on_ok_weaker c.end_object.result (λ _. whole) c.end_object.ensures.ok

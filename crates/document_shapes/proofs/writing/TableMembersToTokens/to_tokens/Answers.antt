@@ -2,7 +2,7 @@ use Rattle.std.proofs.Common.{OnOk, subst}
 use Rattle.std.proofs.lemmas.Result.{on_ok_weaker}
 use Rattle.document_shapes.specs.Added.{Adds}
 use Rattle.document_shapes.proofs.AddedLemmas.{adds-seven}
-use Rattle.document_shapes.proofs.TableValue.{table-tokens, table-reads_back}
+use Rattle.document_shapes.proofs.TableValue.{table-tokens, table-in_range}
 use Rattle.document_shapes.proofs.writing.TableMembersToTokens.to_tokens.Goals as goal
 
 pub returns-clause-tokens : goal.returns-clause-tokens
@@ -13,9 +13,9 @@ returns-clause-tokens c =
     c.in_ok-write_given.ensures.tokens c.in_ok-write_given-2.ensures.tokens c.in_ok-write_given-3.ensures.tokens c.in_ok-write_given-4.ensures.tokens
     c.in_ok-write_member.ensures.tokens c.in_ok-write_given-5.ensures.tokens c.in_ok-write_given-6.ensures.tokens c.end_object.ensures)
 
-pub returns-clause-back : goal.returns-clause-back
-returns-clause-back c =
+pub returns-clause-in_range : goal.returns-clause-in_range
+returns-clause-in_range c =
     on_ok_weaker c.end_object.result
-    (λ _. table-reads_back c.args.self.now c.in_ok-write_member.ensures.back c.in_ok-write_given-4.ensures.back c.in_ok-write_given-5.ensures.back
-    c.in_ok-write_given-3.ensures.back c.in_ok-write_given-2.ensures.back c.in_ok-write_given-6.ensures.back c.in_ok-write_given.ensures.back)
+    (λ _. table-in_range c.args.self.now c.in_ok-write_member.ensures.in_range c.in_ok-write_given-5.ensures.in_range c.in_ok-write_given-3.ensures.in_range
+    c.in_ok-write_given-2.ensures.in_range c.in_ok-write_given-6.ensures.in_range c.in_ok-write_given.ensures.in_range)
     c.end_object.ensures.ok
