@@ -42,7 +42,7 @@ after-last : (k l : List ℕ) (d : Data) (ms : Members) → Precedes k l → IsA
 after-last k l d no_members less h = (less, tt)
 after-last k l d (member n e ms) less h = (nat_list_cmp_total.trans n k l h.0 less, after-last k l d ms less h.1)
 
--- They are read as they stand, behind any members whose names come before this one.
+-- They are read in their order, after any members whose names come before this one.
 abbrev pub AreReadFrom : List ℕ → Members → Type 0
 AreReadFrom name ms = (found : Members) → IsAfter name found → of_members (members_outline ms) found ≡ Some (followed found ms)
 
@@ -56,6 +56,6 @@ member-read name next d ms less same rest found h =
     ∙ rest (followed found (member name d no_members)) (after-last name next d found less h)
     ∙ ap Some (followed-member found name d ms)
 
--- nothing stands under the name
+-- nothing has the name
 pub skipped-read : (name next : List ℕ) (ms : Members) → Precedes name next → AreReadFrom next ms → AreReadFrom name ms
 skipped-read name next ms less rest found h = rest found (later-after name next found less h)

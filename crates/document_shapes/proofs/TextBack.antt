@@ -1,4 +1,4 @@
--- The text of plain data, with a newline behind it, reads as the data.
+-- The text of plain data, with a newline after it, reads as the data.
 use Rattle.std.proofs.Common.{◌≡◌, ◌≤◌, ℕ, List, [], ◌∷◌, ◌++◌, Some, refl, sym, ap, ◌∙◌, arith, append-nil}
 use Rattle.std.specs.Prelude.{option_and_then, ok_or}
 use Rattle.std.proofs.lemmas.Str.{IsUtf8-append}

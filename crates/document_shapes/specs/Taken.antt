@@ -27,7 +27,7 @@ abbrev pub TakesMembers : {X : Type 0} → (Members → X → Type 0) → ℕ �
 TakesMembers F depth tokens x rest =
     (js : json.Members) × (ms : Members) × (json.members (json.value depth) (length tokens) tokens ≡ Some (js, rest)) × (of_members js no_members ≡ Some ms) × F ms x
 
--- The token stands first, where what it opens may nest one deeper.
+-- The token comes first, where what it opens may nest one deeper.
 abbrev pub Opens : Token → ℕ → List Token → ℕ → List Token → Type 0
 Opens t depth tokens inner rest = (depth ≡ inner + 1) × (tokens ≡ t ∷ rest)
 

@@ -154,7 +154,7 @@ fn read_members(alloc: Global, value: &Value) -> Result<DocMembers, ShapeRefused
 ///
 /// # Errors
 ///
-/// Want of memory, or the first refusal: the bytes are no JSON, no object; the version has another shape or is not
+/// Out of memory, or the first refusal: the bytes are no JSON, no object; the version has another shape or is not
 /// known; a member is missing or has another shape, in the order of [`DocMembers`] and, table by table, of
 /// [`TableMembers`].
 pub fn read_document(alloc: Global, bytes: &[u8]) -> Result<DocMembers, ShapeRefused>

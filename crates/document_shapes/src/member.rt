@@ -23,7 +23,7 @@ pub enum Member {
 }
 
 impl Member {
-    /// The name as it stands in a document.
+    /// The name as it is in a document.
     pub fn name(self) -> &'static str
         ensures { result.now ≡ name_of self }
     {

@@ -3,7 +3,7 @@ use Rattle.std.specs.Prelude.{◌≡◌, ℕ, ◌+◌, ◌*◌, ◌<◌, Bool, f
 use Rattle.rail_model.specs.Layout.{Layout}
 use Rattle.mission_table.specs.Ways.{are_linked}
 
--- the mark of a point in the row of another, where rows have so many places; none past the end
+-- the mark of a point in the row of another, where rows have this many places; none past the end
 abbrev pub mark : ℕ → List Bool → ℕ → ℕ → Bool
 mark width marks a b = slice_index_or marks (a * width + b) false
 
