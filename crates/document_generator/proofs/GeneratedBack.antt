@@ -1,4 +1,4 @@
--- The text of a generated document reads as its members.
+-- The members of a generated document are in range, and its text reads as them.
 use Rattle.std.proofs.Common.{◌≡◌, ℕ, zero, suc, ◌+◌, ◌-◌, ◌*◌, ◌%◌, ◌==◌, ◌<◌, ◌≤◌, ◌^◌, ℤ, pos, negsuc, Bool, true, false, List, [], ◌∷◌, ◌++◌, map, length, get_or, codes, All, Ok, IsUtf8, refl, arith}
 use Rattle.std.specs.Prelude.{flat_map, min, nat_lt, if◌then◌else◌}
 use Rattle.std.specs.Fmt.{decimal}
@@ -9,19 +9,14 @@ use Rattle.std.proofs.lemmas.Int.{ints}
 use Rattle.std.proofs.lemmas.List.Elements.{All-nil, All-cons, All-from_recursion, All-append, All-map, All-take, All-replicate, All-head, All-tail, All-weaker}
 use Rattle.std.proofs.lemmas.Str.{IsUtf8-append, IsUtf8-from_ascii}
 use Rattle.json.proofs.Printed.Utf8.{IsUtf8-are_ascii}
-use Rattle.serde_json.specs.Data.{string}
 use Rattle.rail_model.specs.Checks.{below}
-use Rattle.document_shapes.specs.Parts.{node, section}
-use Rattle.document_shapes.specs.Raw.{members_of}
-use Rattle.document_shapes.specs.Shape.{whole, change, text, list_of, pair}
-use Rattle.document_shapes.specs.Written.{list_data, pair_data, whole_data, change_data, node_data, section_data}
+use Rattle.document_shapes.specs.InRange.{IsSmall, IsChange, NodeIsSmall, SectionIsSmall, TableInRange, InRange}
+use Rattle.document_shapes.specs.Raw.{IsOfVersion, IsRead, members_of}
+use Rattle.document_shapes.proofs.WrittenBack.{text-back}
 use Rattle.document_generator.specs.Draws.{draw, next_draw, drawn_of}
 use Rattle.document_generator.specs.Generated.{generated, document_of, table_of, train_name}
 use Rattle.document_generator.specs.Pairs.{Pair, times_from, pair_after, loops_after, pairs_from, pair_count, all_pairs}
 use Rattle.document_generator.specs.Pieces.{joint, upper, lower, zone, loop_points, points_of, loop_links, links_of, way_up, way_back, ways_of, change_in, changes_in, pair_changes, section_of, sections_of}
-use Rattle.document_generator.proofs.DocumentBack.{TableReads, DocReads, text-read}
-use Rattle.document_generator.proofs.Members.{generated_is_read}
-use Rattle.document_generator.proofs.ShapesBack.{ReadsAs, whole-as, change-as, text-as, list-as, pair-as, section-as}
 
 -- ---- lists of pieces
 
@@ -47,41 +42,42 @@ All-pieces P f n h = All-flat_map P f (below n) (All-weaker (λ k. k < n) (λ k.
 -- ---- pairs
 
 -- The number and the loops are small, and so are the travel times.
-record IsSmall (g : Pair) : Type 0 where
+record PairIsSmall (g : Pair) : Type 0 where
   number : g.number ≤ 2 ^ 32
   loops : g.loops ≤ 8
-  times : All (All (λ n. n < 2 ^ 32)) g.times
-
-time-small : (d : ℕ) → 1 + d % 9 < 2 ^ 32
-time-small d = omega arith
+  times : All (All IsSmall) g.times
 
 loops-small : (x : ℕ) → loops_after x ≤ 8
 loops-small x = omega arith
 
-pairs-small : (n number first left x : ℕ) → number + n ≤ 2 ^ 32 → All IsSmall (pairs_from n number first left x)
-pairs-small zero number first left x few = All-nil IsSmall
+time-small : (d : ℕ) → IsSmall (1 + d % 9)
+time-small d = omega arith
+
+times-small : (steps x : ℕ) → All IsSmall (times_from steps x)
+times-small steps x = All-below IsSmall (λ k. 1 + draw (k + 1) x % 9) steps (λ k lt. time-small _)
+
+pairs-small : (n number first left x : ℕ) → number + n ≤ 2 ^ 32 → All PairIsSmall (pairs_from n number first left x)
+pairs-small zero number first left x few = All-nil PairIsSmall
 pairs-small (suc n) number first left x few =
-    let trains = min left 2 in
-    let small : IsSmall (pair_after number first trains x) =
+    let steps = 2 * loops_after x in
+    let small : PairIsSmall (pair_after number first (min left 2) x) =
     record {
       number = omega (arith, few);
       loops = loops-small x;
-      times =
-          All-below (All (λ n. n < 2 ^ 32)) (λ t. times_from (2 * loops_after x) (draw (t * (2 * loops_after x)) (next_draw x))) trains
-          (λ t lt. All-below (λ n. n < 2 ^ 32) (λ k. 1 + draw (k + 1) (draw (t * (2 * loops_after x)) (next_draw x)) % 9) (2 * loops_after x) (λ k below. time-small _));
+      times = All-below (All IsSmall) (λ t. times_from steps (draw (t * steps) (next_draw x))) (min left 2) (λ t lt. times-small steps _);
     } in
-    All-cons IsSmall (pair_after number first trains x) _ small (pairs-small n (number + 1) _ _ _ (omega (arith, few)))
+    All-cons PairIsSmall (pair_after number first (min left 2) x) _ small (pairs-small n (number + 1) _ _ _ (omega (arith, few)))
 
 -- ---- names
 
-name-utf8 : (g : Pair) (letter : List ℕ) (r : ℕ) → IsUtf8 letter → IsSmall g → r ≤ 8 → IsUtf8 (codes "P" ++ (decimal g.number ++ (letter ++ decimal r)))
+name-utf8 : (g : Pair) (letter : List ℕ) (r : ℕ) → IsUtf8 letter → PairIsSmall g → r ≤ 8 → IsUtf8 (codes "P" ++ (decimal g.number ++ (letter ++ decimal r)))
 name-utf8 g letter r u small few =
     let number = small.number in
     IsUtf8-append (codes "P") _ (IsUtf8-are_ascii (codes "P") refl)
     (IsUtf8-append (decimal g.number) _ (IsUtf8-from_ascii (decimal g.number) (IsAscii-decimal g.number (omega (arith, number))))
     (IsUtf8-append letter (decimal r) u (IsUtf8-from_ascii (decimal r) (IsAscii-decimal r (omega (arith, few))))))
 
-module _ (g : Pair) (small : IsSmall g) where
+module _ (g : Pair) (small : PairIsSmall g) where
   joint-utf8 : (r : ℕ) → r ≤ 8 → IsUtf8 (joint g r)
   joint-utf8 r few = name-utf8 g (codes "J") r (IsUtf8-are_ascii (codes "J") refl) small few
 
@@ -96,44 +92,38 @@ module _ (g : Pair) (small : IsSmall g) where
 
 -- ---- points, links and ways
 
-abbrev PointReads : List ℕ × ℕ → Type 0
-PointReads p = ReadsAs (pair_data string whole_data) 1 (pair text whole) p
+abbrev PointInRange : List ℕ × ℕ → Type 0
+PointInRange p = IsUtf8 p.0 × IsSmall p.1
 
-abbrev LinkReads : List ℕ × List ℕ → Type 0
-LinkReads l = ReadsAs (pair_data string string) 1 (pair text text) l
+abbrev LinkInRange : List ℕ × List ℕ → Type 0
+LinkInRange l = IsUtf8 l.0 × IsUtf8 l.1
 
-point-as : (name : List ℕ) (q : ℕ) → IsUtf8 name → PointReads (name, zone q)
-point-as name q u = pair-as 0 string whole_data text whole (name, zone q) (text-as name u) (whole-as (zone q) (omega arith))
+zone-small : (q : ℕ) → IsSmall (zone q)
+zone-small q = omega arith
 
-link-as : (from to : List ℕ) → IsUtf8 from → IsUtf8 to → LinkReads (from, to)
-link-as from to u v = pair-as 0 string string text text (from, to) (text-as from u) (text-as to v)
-
-module _ (g : Pair) (small : IsSmall g) where
-  points-read : All PointReads (points_of g)
-  points-read =
-      All-cons PointReads (joint g 0, zone g.first) (flat_map (loop_points g) (below g.loops)) (point-as (joint g 0) g.first (joint-utf8 g small 0 (omega arith)))
-      (All-pieces PointReads (loop_points g) g.loops
-      (λ r lt.
+module _ (g : Pair) (small : PairIsSmall g) where
+  loop_points-in_range : (r : ℕ) → r < g.loops → All PointInRange (loop_points g r)
+  loop_points-in_range r lt =
       let few = within g small r lt in
-      All-from_recursion PointReads (loop_points g r) (
-        point-as (upper g r) (g.first + 3 * r + 1) (upper-utf8 g small r (omega (arith, few))),
-        (
-          point-as (lower g r) (g.first + 3 * r + 2) (lower-utf8 g small r (omega (arith, few))),
-          (point-as (joint g (r + 1)) (g.first + 3 * r + 3) (joint-utf8 g small (r + 1) few), tt),
-        ),
-      )))
+      All-from_recursion PointInRange (loop_points g r) (
+        (upper-utf8 g small r (omega (arith, few)), zone-small _),
+        ((lower-utf8 g small r (omega (arith, few)), zone-small _), ((joint-utf8 g small (r + 1) few, zone-small _), tt)),
+      )
 
-  links-read : All LinkReads (links_of g)
-  links-read =
-      All-pieces LinkReads (loop_links g) g.loops
+  points-in_range : All PointInRange (points_of g)
+  points-in_range =
+      All-cons PointInRange (joint g 0, zone g.first) _ (joint-utf8 g small 0 (omega arith), zone-small g.first) (All-pieces PointInRange (loop_points g) g.loops loop_points-in_range)
+
+  links-in_range : All LinkInRange (links_of g)
+  links-in_range =
+      All-pieces LinkInRange (loop_links g) g.loops
       (λ r lt.
       let few = within g small r lt in
       let here = joint-utf8 g small r (omega (arith, few)) in
       let next = joint-utf8 g small (r + 1) few in
       let up = upper-utf8 g small r (omega (arith, few)) in
       let low = lower-utf8 g small r (omega (arith, few)) in
-      All-from_recursion LinkReads (loop_links g r)
-      (link-as (joint g r) (upper g r) here up, (link-as (upper g r) (joint g (r + 1)) up next, (link-as (joint g (r + 1)) (lower g r) next low, (link-as (lower g r) (joint g r) low here, tt)))))
+      All-from_recursion LinkInRange (loop_links g r) ((here, up), ((up, next), ((next, low), ((low, here), tt)))))
 
   up-utf8 : All IsUtf8 (way_up g)
   up-utf8 =
@@ -154,95 +144,86 @@ module _ (g : Pair) (small : IsSmall g) where
       (joint-utf8 g small (g.loops - k) (omega (arith, few)), (lower-utf8 g small (g.loops - k - 1) (omega (arith, few)), tt))))
       (All-from_recursion IsUtf8 (joint g 0 ∷ []) (joint-utf8 g small 0 (omega arith), tt))
 
-  ways-read : All (ReadsAs (list_data string) 1 (list_of text)) (ways_of g)
-  ways-read =
-      let way = λ (names : List (List ℕ)) (u : All IsUtf8 names). list-as string 0 text names (All-weaker IsUtf8 (ReadsAs string 0 text) text-as names u) in
-      let P = ReadsAs (list_data string) 1 (list_of text) in
-      All-take P (length g.times) (way_up g ∷ way_back g ∷ []) (All-from_recursion P (way_up g ∷ way_back g ∷ []) (way (way_up g) up-utf8, (way (way_back g) back-utf8, tt)))
-
-  times-read : All (ReadsAs (list_data whole_data) 1 (list_of whole)) g.times
-  times-read =
-      All-weaker (All (λ n. n < 2 ^ 32)) (ReadsAs (list_data whole_data) 1 (list_of whole))
-      (λ ns few. list-as whole_data 0 whole ns (All-weaker (λ n. n < 2 ^ 32) (ReadsAs whole_data 0 whole) whole-as ns few)) g.times small.times
+  ways-utf8 : All (All IsUtf8) (ways_of g)
+  ways-utf8 = All-take (All IsUtf8) (length g.times) _ (All-from_recursion (All IsUtf8) (way_up g ∷ way_back g ∷ []) (up-utf8, (back-utf8, tt)))
 
 -- ---- sections
 
-abbrev ChangeReads : ℤ → Type 0
-ChangeReads z = ReadsAs change_data 0 change z
-
-either : (b : Bool) (y z : ℤ) → ChangeReads y → ChangeReads z → ChangeReads (if b then y else z)
+either : (b : Bool) (y z : ℤ) → IsChange y → IsChange z → IsChange (if b then y else z)
 either true y z h k = h
 either false y z h k = k
 
-none-read : ChangeReads (pos 0)
-none-read = change-as (pos 0) (omega (arith, ints)) (omega (arith, ints))
+none-in_range : IsChange (pos 0)
+none-in_range = (omega (arith, ints), omega (arith, ints))
 
-change-read : (g h : Pair) (k : ℕ) → ChangeReads (change_in g h k)
-change-read g h k =
-    let one = change-as (pos 1) (omega (arith, ints)) (omega (arith, ints)) in
-    let out = change-as (negsuc 0) (omega (arith, ints)) (omega (arith, ints)) in
-    either (g.number == h.number) _ (pos 0) (either (k == 1) (pos 1) _ one (either (k == 2 * h.loops) (negsuc 0) (pos 0) out none-read)) none-read
+change-in_range : (g h : Pair) (k : ℕ) → IsChange (change_in g h k)
+change-in_range g h k =
+    let one : IsChange (pos 1) = (omega (arith, ints), omega (arith, ints)) in
+    let out : IsChange (negsuc 0) = (omega (arith, ints), omega (arith, ints)) in
+    either (g.number == h.number) _ (pos 0) (either (k == 1) (pos 1) _ one (either (k == 2 * h.loops) (negsuc 0) (pos 0) out none-in_range)) none-in_range
 
-abbrev TrainReads : List ℤ → Type 0
-TrainReads zs = ReadsAs (list_data change_data) 1 (list_of change) zs
+module _ (all : List Pair) (g : Pair) where
+  section-small : SectionIsSmall (section_of all g)
+  section-small = record {
+    limit = omega arith;
+    changes =
+        All-flat_map (All IsChange) (pair_changes g) all
+        (λ k d lt.
+        let h = get_or all k d in
+        All-replicate (All IsChange) (length h.times) (changes_in g h) (All-below IsChange (change_in g h) (2 * h.loops + 1) (λ j _. change-in_range g h j)));
+  }
 
-changes-read : (all : List Pair) (g : Pair) → All TrainReads (flat_map (pair_changes g) all)
-changes-read all g =
-    All-flat_map TrainReads (pair_changes g) all
-    (λ k d lt.
-    let h = get_or all k d in
-    All-replicate TrainReads (length h.times) (changes_in g h)
-    (list-as change_data 0 change (changes_in g h) (All-below ChangeReads (change_in g h) (2 * h.loops + 1) (λ j _. change-read g h j))))
-
-section-read : (all : List Pair) (g : Pair) → ReadsAs section_data 3 section (section_of all g)
-section-read all g = section-as (section_of all g) (list-as (list_data change_data) 1 (list_of change) _ (changes-read all g)) (omega arith)
-
-sections-read : (all : List Pair) (g : Pair) → All (ReadsAs section_data 3 section) (sections_of all g)
-sections-read all g = given (nat_lt 0 (length g.times))
-  where
-    given : (b : Bool) → All (ReadsAs section_data 3 section) (if b then section_of all g ∷ [] else [])
-    given true = All-from_recursion (ReadsAs section_data 3 section) (section_of all g ∷ []) (section-read all g, tt)
-    given false = All-nil (ReadsAs section_data 3 section)
+  sections-small : All SectionIsSmall (sections_of all g)
+  sections-small = given (nat_lt 0 (length g.times))
+    where
+      given : (b : Bool) → All SectionIsSmall (if b then section_of all g ∷ [] else [])
+      given true = All-from_recursion SectionIsSmall (section_of all g ∷ []) (section-small, tt)
+      given false = All-nil SectionIsSmall
 
 -- ---- the document
 
-module _ (all : List Pair) (small : All IsSmall all) where
-  -- what the pieces of each pair are, all pieces are
-  each-pair : {Y : Type 0} (P : Y → Type 0) (f : Pair → List Y) → ((g : Pair) → IsSmall g → All P (f g)) → All P (flat_map f all)
-  each-pair P f h = All-flat_map P f all (All-weaker IsSmall (λ g. All P (f g)) h all small)
-
-  table-reads : TableReads (table_of all)
-  table-reads = record {
-    missions = list-as (list_data string) 1 (list_of text) _ (each-pair (ReadsAs (list_data string) 1 (list_of text)) ways_of ways-read);
-    exits = tt;
-    sections = list-as section_data 3 section _ (each-pair (ReadsAs section_data 3 section) (sections_of all) (λ g _. sections-read all g));
-    connections = tt;
-    certificate = list-as node_data 1 node [] (All-nil (ReadsAs node_data 1 node));
-    times = list-as (list_data whole_data) 1 (list_of whole) _ (each-pair (ReadsAs (list_data whole_data) 1 (list_of whole)) (λ g. g.times) times-read);
-    after = whole-as 0 (omega arith);
+module _ (all : List Pair) where
+  -- in version 1
+  is-read : (trains : ℕ) → IsRead (document_of trains all)
+  is-read trains = record {
+    first = omega arith;
+    last = omega arith;
+    tables = All-from_recursion (IsOfVersion 1) (table_of all ∷ []) (record { exits = λ early. refl; connections = λ early. refl }, tt);
   }
 
-  doc-reads : (trains : ℕ) → trains ≤ 32 → DocReads (document_of trains all)
-  doc-reads trains few = record {
-    points = list-as (pair_data string whole_data) 1 (pair text whole) _ (each-pair PointReads points_of points-read);
-    links = list-as (pair_data string string) 1 (pair text text) _ (each-pair LinkReads links_of links-read);
-    zones = omega arith;
-    trains =
-        list-as string 0 text _
-        (All-below (ReadsAs string 0 text) train_name trains
-        (λ i lt.
-        text-as _ (IsUtf8-append (codes "T") (decimal i) (IsUtf8-are_ascii (codes "T") refl) (IsUtf8-from_ascii (decimal i) (IsAscii-decimal i (omega (arith, lt, few)))))));
-    start = list-as whole_data 0 whole _ (All-replicate (ReadsAs whole_data 0 whole) trains 0 (whole-as 0 (omega arith)));
-    tables = All-from_recursion TableReads (table_of all ∷ []) (table-reads, tt);
-  }
+  module _ (small : All PairIsSmall all) where
+    -- what the pieces of each pair are, all pieces are
+    each-pair : {Y : Type 0} (P : Y → Type 0) (f : Pair → List Y) → ((g : Pair) → PairIsSmall g → All P (f g)) → All P (flat_map f all)
+    each-pair P f h = All-flat_map P f all (All-weaker PairIsSmall (λ g. All P (f g)) h all small)
+
+    table-in_range : TableInRange (table_of all)
+    table-in_range = record {
+      missions = each-pair (All IsUtf8) ways_of ways-utf8;
+      sections = each-pair SectionIsSmall (sections_of all) (λ g _. sections-small all g);
+      connections = tt;
+      certificate = All-nil NodeIsSmall;
+      times = each-pair (All IsSmall) (λ g. g.times) (λ g h. h.times);
+      after = omega arith;
+    }
+
+    in_range : (trains : ℕ) → trains ≤ 32 → InRange (document_of trains all)
+    in_range trains few = record {
+      points = each-pair PointInRange points_of points-in_range;
+      links = each-pair LinkInRange links_of links-in_range;
+      zones = omega arith;
+      trains =
+          All-below IsUtf8 train_name trains
+          (λ i lt. IsUtf8-append (codes "T") (decimal i) (IsUtf8-are_ascii (codes "T") refl) (IsUtf8-from_ascii (decimal i) (IsAscii-decimal i (omega (arith, lt, few)))));
+      start = All-replicate IsSmall trains 0 (omega arith);
+      tables = All-from_recursion TableInRange (table_of all ∷ []) (table-in_range, tt);
+    }
 
 few-pairs : (trains : ℕ) → trains ≤ 32 → 0 + pair_count trains ≤ 2 ^ 32
 few-pairs trains few = grind (arith, nat_tests)
 
--- each member of a generated document reads as it is
-pub generated-reads : (seed trains : ℕ) → trains ≤ 32 → DocReads (document_of trains (all_pairs seed trains))
-generated-reads seed trains few = doc-reads (all_pairs seed trains) (pairs-small (pair_count trains) 0 0 trains (drawn_of seed) (few-pairs trains few)) trains few
+pub generated-in_range : (seed trains : ℕ) → trains ≤ 32 → InRange (document_of trains (all_pairs seed trains))
+generated-in_range seed trains few = in_range (all_pairs seed trains) (pairs-small (pair_count trains) 0 0 trains (drawn_of seed) (few-pairs trains few)) trains few
 
 pub generated-read : (seed trains : ℕ) → trains ≤ 32 → members_of (generated seed trains) ≡ Ok (document_of trains (all_pairs seed trains))
 generated-read seed trains few =
-    let all = all_pairs seed trains in text-read (document_of trains all) (generated-reads seed trains few) (generated_is_read trains all)
+    let all = all_pairs seed trains in text-back (document_of trains all) (is-read all trains) (generated-in_range seed trains few)
