@@ -15,7 +15,7 @@ pub fn names(alloc: Global, layout: &Layout, trains: &Trains) -> Result<Names, A
     Ok(Names::new(points, trains))
 }
 
-fn names_of_points(alloc: Global, points: &[Point]) -> Result<Vec<String>, AllocError>
+pub(crate) fn names_of_points(alloc: Global, points: &[Point]) -> Result<Vec<String>, AllocError>
     ensures { IfOk result (λ names. map string_bytes names.items ≡ map (λ p. p.name) points.now) }
 {
     let mut names = Vec::new(alloc);
