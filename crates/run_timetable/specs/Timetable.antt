@@ -1,5 +1,6 @@
 -- When trains arrive, leave and wait.
-use Rattle.std.specs.Prelude.{ℕ, ◌+◌, ◌-◌, ◌==◌, max, List, [], ◌∷◌, fold, Option, Some, None, if◌then◌else◌}
+use Rattle.std.specs.Prelude.{ℕ, ◌+◌, ◌-◌, ◌==◌, max, min, List, [], ◌∷◌, fold, Option, Some, None, if◌then◌else◌, length, slice_index_or}
+use Rattle.rail_model.specs.Layout.{Layout}
 use Rattle.run_timetable.specs.declared.run.Step.{Step}
 use Rattle.run_timetable.specs.declared.rows.Row.{Row}
 
@@ -10,6 +11,18 @@ arrival s = s.tick + s.takes
 -- the end of the last step, or 0
 abbrev pub end_of : List Step → ℕ
 end_of steps = fold (λ end s. max end (arrival s)) 0 steps
+
+-- how many trains there are, by the points at which they begin: no more than 32
+abbrev pub trains_of : List (Option ℕ) → ℕ
+trains_of starts = min (length starts) 32
+
+-- the point at which train i begins, if there is such a train
+abbrev pub start_of : List (Option ℕ) → ℕ → Option ℕ
+start_of starts i = slice_index_or starts i None
+
+-- the name of a point, or no letters
+abbrev pub name_of : Layout → ℕ → List ℕ
+name_of L q = (slice_index_or L.points q (record { name = []; zone = 0 })).name
 
 -- the row of the place that a step leads to: the train arrives at the end of the step
 abbrev pub arriving : Step → Row

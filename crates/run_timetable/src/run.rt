@@ -1,6 +1,7 @@
 // A run: its steps and the tables that took over, with their ticks.
 ghost use Rattle.std.specs.Prelude.{◌≡◌};
-ghost use Rattle.run_timetable.specs.Timetable.{arrival, end_of};
+ghost use Rattle.rail_model.specs.Names.{train_name as name_of_train};
+ghost use Rattle.run_timetable.specs.Timetable.{arrival, end_of, name_of, start_of, trains_of};
 
 use rail_model::{Layout, Names};
 
@@ -41,12 +42,16 @@ pub struct Run {
 
 impl Run {
     /// The number of trains.
-    pub fn trains(&self) -> u32 {
+    pub fn trains(&self) -> u32
+        ensures { result ≡ trains_of self.now.starts.items }
+    {
         self.starts.len().min(32) as u32
     }
 
     /// The point at which a train begins, if there is such a train.
-    pub fn start(&self, train: u32) -> Option<u32> {
+    pub fn start(&self, train: u32) -> Option<u32>
+        ensures { result ≡ start_of self.now.starts.items train }
+    {
         self.starts.get(train as usize).copied().flatten()
     }
 
@@ -68,7 +73,9 @@ fn end_of_steps(steps: &[Step]) -> u64
 }
 
 /// The name of a point, or no letters for a number that no point has.
-pub fn point_name(layout: &Layout, point: u32) -> &str {
+pub fn point_name(layout: &Layout, point: u32) -> &str
+    ensures { result.now ≡ name_of layout.now point }
+{
     match layout.points().get(point as usize) {
         Some(point) => point.name(),
         None => "",
@@ -76,7 +83,9 @@ pub fn point_name(layout: &Layout, point: u32) -> &str {
 }
 
 /// The name of a train, or no letters for a number that no train has.
-pub fn train_name(names: &Names, train: u32) -> &str {
+pub fn train_name(names: &Names, train: u32) -> &str
+    ensures { result.now ≡ name_of_train names.now train }
+{
     if (train as usize) < names.trains() {
         names.train(train)
     } else {
