@@ -1,5 +1,5 @@
 -- A document that members make, with the certificates that are made for it, has a text that reads as it.
-use Rattle.std.proofs.Common.{◌≡◌, ◌∙◌, ℕ, ◌<◌, ◌≤◌, ◌^◌, List, [], length, map, get_or, All, Option, Some, Ok, sym, ap, subst, arith}
+use Rattle.std.proofs.Common.{◌≡◌, ◌∙◌, ℕ, ◌<◌, ◌≤◌, List, [], length, map, get_or, All, Option, Some, Ok, IsUtf8, sym, ap, subst, arith}
 use Rattle.std.specs.Prelude.{unwrap_or}
 use Rattle.std.proofs.lemmas.List.Elements.{All-map}
 use Rattle.rail_model.specs.Certificate.{Tree, Accepts, arrived}
@@ -13,15 +13,11 @@ use Rattle.mission_table.proofs.Taken.{trains_taken}
 use Rattle.section_marks.specs.Marking.{table_from, sections_refusal}
 use Rattle.section_marks.specs.Connecting.{connected, connections_refusal}
 use Rattle.section_marks.proofs.Made.{table_of as marked}
-use Rattle.serde_json.specs.Data.{Data, string}
 use Rattle.document_shapes.specs.Each.{each_from}
-use Rattle.document_shapes.specs.Parts.{section}
+use Rattle.document_shapes.specs.InRange.{IsSmall, SectionIsSmall, IfGiven, TableInRange, InRange}
 use Rattle.document_shapes.specs.Raw.{DocMembers, TableMembers}
-use Rattle.document_shapes.specs.Shape.{Shape, whole, text, list_of, pair}
-use Rattle.document_shapes.specs.Written.{list_data, pair_data, whole_data, section_data}
 use Rattle.document_shapes.proofs.EachLemmas.{in_turn-ok, each-good}
-use Rattle.document_generator.proofs.DocumentBack.{GivenReads, TableReads, DocReads, text-read}
-use Rattle.document_generator.proofs.ShapesBack.{ReadsAs}
+use Rattle.document_shapes.proofs.WrittenBack.{text-back}
 use Rattle.layout_json.specs.Doc.{Doc, DocTable, IsDoc, table_at, names_of}
 use Rattle.layout_json.specs.Keeps.{IsTaken}
 use Rattle.layout_json.specs.Members.{members_in, table_members_in}
@@ -38,7 +34,7 @@ use Rattle.layout_json.proofs.TableBack.{refused_as-ok, doc_table-made}
 use Rattle.layout_json.proofs.Taken.{Makes, makes}
 use Rattle.layout_json.proofs.WaysBack.{missions-made_of}
 use Rattle.layout_json.proofs.WrittenBack.{doc-back}
-use Rattle.ats_run.proofs.SmallNodes.{certificate-read}
+use Rattle.ats_run.proofs.SmallNodes.{certificate-small}
 
 -- ---- a table has its members' sections, times and delay
 
@@ -82,14 +78,14 @@ module _ (version : ℕ) (L : Layout) (n t : ℕ) (m : TableMembers) where
       record { sections = sections_made T b.first; times = sym on_time.1; after = sym due.1 } in
       subst IsFrom whole made
 
--- ---- each table of a document whose members read as they are
+-- ---- each table of a document whose members are in range
 
--- Every member of the table but its certificate, of version 1, reads as it is.
+-- Every member of the table but its certificate, of version 1, is in range.
 record IsGoodTable (N : Names) (y : DocTable) : Type 0 where
-  missions : ReadsAs (list_data (list_data string)) 2 (list_of (list_of text)) (table_members_in 1 N y).missions
-  sections : ReadsAs (list_data section_data) 4 (list_of section) y.table.sections
-  times : ReadsAs (list_data (list_data whole_data)) 2 (list_of (list_of whole)) y.times
-  after : ReadsAs whole_data 0 whole y.after
+  missions : All (All IsUtf8) (table_members_in 1 N y).missions
+  sections : All SectionIsSmall y.table.sections
+  times : All (All IsSmall) y.times
+  after : IsSmall y.after
 
 -- Sections, times and a delay are given.
 pub record AreGiven (m : TableMembers) : Type 0 where
@@ -100,11 +96,11 @@ pub record AreGiven (m : TableMembers) : Type 0 where
   pub after : ℕ
   pub after_is : m.after ≡ Some after
 
--- what is given reads as it is
-given : {A : Type 0} (put : A → Data) (levels : ℕ) (form : Shape A) (o : Option A) (x : A) → o ≡ Some x → GivenReads put levels form o → ReadsAs put levels form x
-given put levels form o x some h = subst (GivenReads put levels form) some h
+-- what is given is so
+given : {A : Type 0} (P : A → Type 0) (o : Option A) (x : A) → o ≡ Some x → IfGiven P o → P x
+given P o x some h = subst (IfGiven P) some h
 
-good_table : (L : Layout) (names : List (List ℕ)) (t : ℕ) (m : TableMembers) (y : DocTable) → AreGiven m × TableReads m → doc_table_of 1 L (length names) t m ≡ Ok y
+good_table : (L : Layout) (names : List (List ℕ)) (t : ℕ) (m : TableMembers) (y : DocTable) → AreGiven m × TableInRange m → doc_table_of 1 L (length names) t m ≡ Ok y
     → IsGoodTable (record { points = point_names L; trains = names }) y
 good_table L names t m y h made =
     let n = length names in
@@ -112,31 +108,28 @@ good_table L names t m y h made =
     let from = made-from 1 L n t m y made in
     let ways = missions-made_of L n m.missions (exits_or_none n m.exits) y.table.missions (doc_table-made 1 L n t m y made).table.missions in
     record {
-      missions = subst (ReadsAs (list_data (list_data string)) 2 (list_of (list_of text))) (sym ways.ways_are) h.1.missions;
+      missions = subst (All (All IsUtf8)) (sym ways.ways_are) h.1.missions;
       sections =
-          subst (ReadsAs (list_data section_data) 4 (list_of section)) (sym (from.sections ∙ ap (λ o. unwrap_or o []) g.sections_are))
-          (given (list_data section_data) 4 (list_of section) m.sections g.sections g.sections_are h.1.sections);
-      times =
-          subst (ReadsAs (list_data (list_data whole_data)) 2 (list_of (list_of whole))) (sym (from.times ∙ ap (times_or_one y.table) g.times_are))
-          (given (list_data (list_data whole_data)) 2 (list_of (list_of whole)) m.times g.times g.times_are h.1.times);
-      after = subst (ReadsAs whole_data 0 whole) (sym (from.after ∙ ap (λ o. unwrap_or o 0) g.after_is)) (given whole_data 0 whole m.after g.after g.after_is h.1.after);
+          subst (All SectionIsSmall) (sym (from.sections ∙ ap (λ o. unwrap_or o []) g.sections_are))
+          (given (All SectionIsSmall) m.sections g.sections g.sections_are h.1.sections);
+      times = subst (All (All IsSmall)) (sym (from.times ∙ ap (times_or_one y.table) g.times_are)) (given (All (All IsSmall)) m.times g.times g.times_are h.1.times);
+      after = subst IsSmall (sym (from.after ∙ ap (λ o. unwrap_or o 0) g.after_is)) (given IsSmall m.after g.after g.after_is h.1.after);
     }
 
 -- the members of a table with a certificate that it accepts
-with_certificate : (N : Names) (y : DocTable) (c : Tree) → IsGoodTable N y → IsTable y.table → Accepts y.table c → TableReads (table_members_in 1 N (recertified y c))
+with_certificate : (N : Names) (y : DocTable) (c : Tree) → IsGoodTable N y → IsTable y.table → Accepts y.table c → TableInRange (table_members_in 1 N (recertified y c))
 with_certificate N y c h formed accepted = record {
   missions = h.missions;
-  exits = tt;
   sections = h.sections;
   connections = tt;
-  certificate = certificate-read y.table formed c accepted;
+  certificate = certificate-small y.table formed c accepted;
   times = h.times;
   after = h.after;
 }
 
 -- ---- the document
 
-module _ (m : DocMembers) (D : Doc) (trees : List Tree) (one : D.version ≡ 1) (reads : DocReads m) (given_all : All AreGiven m.tables) (from : doc_from m ≡ Ok D)
+module _ (m : DocMembers) (D : Doc) (trees : List Tree) (one : D.version ≡ 1) (ranged : InRange m) (given_all : All AreGiven m.tables) (from : doc_from m ≡ Ok D)
     (doc : IsDoc D) (taken : IsTaken D) (one_each : length trees ≡ length D.tables) (accepted : (t : ℕ) → t < length D.tables → Accepts (table_at D t) (tree_at trees t)) where
   abbrev E : Doc
   E = certified D trees
@@ -149,32 +142,32 @@ module _ (m : DocMembers) (D : Doc) (trees : List Tree) (one : D.version ≡ 1) 
       let first : m.version ≡ 1 = parts.version_is ∙ one in
       let tables : each_from (doc_table_of 1 D.layout (length D.trains)) 0 m.tables ≡ Ok D.tables =
       subst (λ v. each_from (doc_table_of v D.layout (length D.trains)) 0 m.tables ≡ Ok D.tables) first parts.tabled.made in
-      each-good (doc_table_of 1 D.layout (length D.trains)) (λ x. AreGiven x × TableReads x) (λ _ y. IsGoodTable (names_of D) y) (good_table D.layout D.trains) 0 m.tables D.tables
-      (λ j e below. (given_all j e below, reads.tables j e below)) tables k d lt
+      each-good (doc_table_of 1 D.layout (length D.trains)) (λ x. AreGiven x × TableInRange x) (λ _ y. IsGoodTable (names_of D) y) (good_table D.layout D.trains) 0 m.tables D.tables
+      (λ j e below. (given_all j e below, ranged.tables j e below)) tables k d lt
 
-  tables-read : All TableReads (map (table_members_in 1 (names_of D)) E.tables)
-  tables-read =
-      All-map TableReads (table_members_in 1 (names_of D)) E.tables
+  tables-in_range : All TableInRange (map (table_members_in 1 (names_of D)) E.tables)
+  tables-in_range =
+      All-map TableInRange (table_members_in 1 (names_of D)) E.tables
       (λ k d lt.
       let within : k < length D.tables = omega (arith, lt, length-each_with recertified D.tables trees one_each) in
-      subst (λ (z : DocTable). TableReads (table_members_in 1 (names_of D) z)) (sym (each_with-at recertified D.tables trees k d no_table arrived one_each within))
+      subst (λ (z : DocTable). TableInRange (table_members_in 1 (names_of D) z)) (sym (each_with-at recertified D.tables trees k d no_table arrived one_each within))
       (with_certificate (names_of D) (get_or D.tables k no_table) (tree_at trees k) (good k no_table within) (doc.formed k within) (accepted k within)))
 
-  members-read : DocReads (members_in E)
-  members-read =
+  members-in_range : InRange (members_in E)
+  members-in_range =
       let layout = layout-made_of m.points m.links m.zones D.layout parts.tabled.layout in
       let trains = ((trains_taken m.trains D.trains).0 parts.tabled.trains_are).0 in
       record {
-        points = subst (ReadsAs (list_data (pair_data string whole_data)) 2 (list_of (pair text whole))) (sym layout.points_are) reads.points;
-        links = subst (ReadsAs (list_data (pair_data string string)) 2 (list_of (pair text text))) (sym layout.links_are) reads.links;
-        zones = subst (λ z. z < 2 ^ 32) (sym layout.zones_are) reads.zones;
-        trains = subst (ReadsAs (list_data string) 1 (list_of text)) (sym trains) reads.trains;
-        start = subst (ReadsAs (list_data whole_data) 1 (list_of whole)) parts.start_is reads.start;
-        tables = subst (λ v. All TableReads (map (table_members_in v (names_of D)) E.tables)) (sym one) tables-read;
+        points = subst (All (λ p. IsUtf8 p.0 × IsSmall p.1)) (sym layout.points_are) ranged.points;
+        links = subst (All (λ l. IsUtf8 l.0 × IsUtf8 l.1)) (sym layout.links_are) ranged.links;
+        zones = subst IsSmall (sym layout.zones_are) ranged.zones;
+        trains = subst (All IsUtf8) (sym trains) ranged.trains;
+        start = subst (All IsSmall) parts.start_is ranged.start;
+        tables = subst (λ v. All TableInRange (map (table_members_in v (names_of D)) E.tables)) (sym one) tables-in_range;
       }
 
   -- the text of the document with the certificates reads as it
   pub written-back : doc_of (written E) ≡ Ok E
   written-back =
       let read = members-are-read E (subst (λ v. 1 ≤ v) (sym one) (omega arith)) (subst (λ v. v ≤ 3) (sym one) (omega arith)) in
-      doc-back E (written E) (certified-is-taken D taken trees one_each) (text-read (members_in E) members-read read)
+      doc-back E (written E) (certified-is-taken D taken trees one_each) (text-back (members_in E) read members-in_range)

@@ -11,7 +11,7 @@ use Rattle.document_shapes.proofs.EachLemmas.{each-length}
 use Rattle.document_generator.specs.Generated.{generated, document_of, table_of}
 use Rattle.document_generator.specs.Pairs.{all_pairs}
 use Rattle.document_generator.specs.Pieces.{sections_of}
-use Rattle.document_generator.proofs.GeneratedBack.{generated-reads, generated-read}
+use Rattle.document_generator.proofs.GeneratedBack.{generated-in_range, generated-read}
 use Rattle.layout_json.specs.Doc.{Doc}
 use Rattle.layout_json.specs.Reading.{doc_of, doc_from}
 use Rattle.layout_json.specs.Replaced.{recertified, certified}
@@ -80,7 +80,7 @@ module _ (seed trains : ℕ) (few : trains ≤ 32) (D : Doc) (is : doc_of (gener
         after = 0;
         after_is = refl;
       } in
-      written-back members D trees (sym (makes members D from).version_is) (generated-reads seed trains few) (All-from_recursion AreGiven (table_of all ∷ []) (given, tt)) from
+      written-back members D trees (sym (makes members D from).version_is) (generated-in_range seed trains few) (All-from_recursion AreGiven (table_of all ∷ []) (given, tt)) from
       formed.is formed.taken (made.one_each ∙ table_count D)
       (λ t lt. subst (λ (T : Table). Accepts T (tree_at trees t)) (table_of_doc D t lt) (made.accepted t (omega (arith, lt, table_count D))))
 
