@@ -61,8 +61,5 @@ adds-two t0 t1 t2 t3 t4 a b r h0 ha hb wrote =
 
 -- what a new writer prints, where just the data were written
 module _ (d : Data) (start end : Written) where
-  printed : start.tokens ≡ [] → Adds (tokens_of d) start end → print end.tokens ≡ compact_text d
-  printed none h = ap print (h.tokens ∙ ap (λ ts. ts ++ tokens_of d) none) ∙ print-outline d
-
   pub printed-text : start.before ≡ [] → start.tokens ≡ [] → Adds (tokens_of d) start end → end.before ++ print end.tokens ≡ compact_text d
-  printed-text nothing none h = ap (λ b. b ++ print end.tokens) (h.before ∙ nothing) ∙ printed none h
+  printed-text nothing none h = ap (λ b. b ++ print end.tokens) (h.before ∙ nothing) ∙ ap print (h.tokens ∙ ap (λ ts. ts ++ tokens_of d) none) ∙ print-outline d

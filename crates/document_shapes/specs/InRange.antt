@@ -1,4 +1,4 @@
--- Members as reading gives them: numbers of 32 bits, and texts in UTF-8.
+-- Members in range: their numbers have 32 bits, and their texts are UTF-8.
 use Rattle.std.specs.Prelude.{◌<◌, ◌-◌, ◌^◌, ℕ, ℤ, pos, neg_ℤ, ◌≤ℤ◌, All, Option, MatchOption, ⊤, IsUtf8}
 use Rattle.rail_model.specs.declared.types.Node.{Node}
 use Rattle.rail_model.specs.declared.types.Node.TheVariants.{Split, Clash, Overfull, Arrived, Move}

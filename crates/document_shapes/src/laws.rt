@@ -4,7 +4,7 @@ ghost use Rattle.document_shapes.specs.InRange.{InRange};
 ghost use Rattle.document_shapes.specs.Raw.{DocMembers as DocMembersValue, IsRead, members_of};
 ghost use Rattle.document_shapes.specs.Written.{text_of};
 
-/// Members that reading can give, in range and in a version that has them, are what their text reads as.
+/// The text of members that are in range, and of a version that has them, reads as these members.
 pub fn written_members_read_back()
     ensures { (members : DocMembersValue) → IsRead members → InRange members → members_of (text_of members) ≡ Ok members }
 {}
