@@ -1,6 +1,5 @@
 pub mod Accept
 pub mod Behind
-pub mod Boxes
 pub mod Exists
 pub mod FallbackRows
 pub mod First
@@ -8,29 +7,19 @@ pub mod Forks
 pub mod Grown
 pub mod Kept
 pub mod Loop
-pub mod MappedFinds
 pub mod Meaning
-pub mod Overfull
 pub mod Pieces
 pub mod PathRows
-pub mod Rivals
 pub mod Rows
 pub mod SlackBoxes
-pub mod SlackChoice
 pub mod SlackFinds
 pub mod SlackLeaf
 pub mod SlackRows
-pub mod SlackSame
 pub mod SlackTrees
 pub mod StuckFound
 pub mod Listed
 pub mod Numbered
-mod NumberedRows
-pub mod Unique
 pub mod Chain
 pub mod Copied
 pub mod LeafTests
 pub mod Spelled
-pub mod Boxed
-pub mod Sought
-pub mod Sharers

@@ -1,5 +1,4 @@
-use Rattle.cert_maker.proofs.Spelled.{makes_some, makes_one}
-use Rattle.cert_maker.proofs.Unique.{unique}
+use Rattle.cert_maker.proofs.Spelled.{makes_some, makes_one, unique}
 use Rattle.cert_maker.proofs.laws.each_budget_has_one_answer.Goals as goal
 
 pub returns-clause-some : goal.returns-clause-some

@@ -1,5 +1,4 @@
-use Rattle.std.proofs.Common.{◌+◌, List, ℕ, sym, ◌∙◌, ap, subst}
-use Rattle.std.specs.Prelude.{is_some}
+use Rattle.std.proofs.Common.{◌+◌, List, ℕ, sym, ◌∙◌, ap, subst, is_some}
 use Rattle.std.proofs.lemmas.Bool.{false≢true}
 use Rattle.cert_maker.specs.Renumber.{number_in}
 use Rattle.cert_maker.specs.Numbers.{HasAll, IsGone}

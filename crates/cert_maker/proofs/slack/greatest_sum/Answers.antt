@@ -3,8 +3,7 @@ use Rattle.std.proofs.lemmas.Int.{ints}
 use Rattle.rail_model.specs.Sums.{greatest}
 use Rattle.rail_model.specs.Table.{share}
 use Rattle.rail_model.specs.Certificate.{Range}
-use Rattle.cert_maker.proofs.Listed.{summed_from, summed_next, summed_all}
-use Rattle.cert_maker.proofs.Sharers.{members_listed, none_shared}
+use Rattle.cert_maker.proofs.Listed.{summed_from, summed_next, summed_all, members_listed, none_shared}
 use Rattle.cert_maker.proofs.slack.greatest_sum.Goals as goal
 
 pub loop-train-init : goal.loop-train-init

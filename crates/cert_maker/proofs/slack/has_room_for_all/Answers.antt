@@ -1,8 +1,7 @@
 use Rattle.std.proofs.Common.{◌≡◌, true, refl, arith}
 use Rattle.std.proofs.lemmas.Bool.{false≢true}
 use Rattle.cert_maker.proofs.Behind.{all_quiet}
-use Rattle.cert_maker.proofs.Sharers.{members_listed}
-use Rattle.cert_maker.proofs.Sought.{sought_from, sought_within, sought_next, none_left}
+use Rattle.cert_maker.proofs.Listed.{members_listed, sought_from, sought_within, sought_next, none_left}
 use Rattle.cert_maker.proofs.slack.has_room_for_all.Goals as goal
 
 pub loop-train-init : goal.loop-train-init

@@ -1,13 +1,13 @@
-use Rattle.std.proofs.Common.{◌<◌, ℕ, List, length, sym, ◌∙◌, subst}
-use Rattle.std.specs.Prelude.{All}
+use Rattle.std.proofs.Common.{◌<◌, ℕ, List, length, sym, ◌∙◌, subst, All}
 use Rattle.std.proofs.lemmas.Bool.{false≢true}
 use Rattle.cert_maker.specs.Slack.{IsSlack}
 use Rattle.cert_maker.specs.Numbers.{IsGone, IsNew}
-use Rattle.cert_maker.proofs.Numbered.{all_below, all_listed, each_listed, box_same}
+use Rattle.cert_maker.proofs.Numbered.{all_below, all_listed, each_listed}
+use Rattle.cert_maker.proofs.SlackBoxes.{box_same}
 use Rattle.cert_maker.proofs.numbers.Numbers.differ_by_slack.Goals as goal
 
 pub are_slack-requires-clause-boxed : goal.are_slack-requires-clause-boxed
-are_slack-requires-clause-boxed c = box_same c.args.former.now c.args.table.now c.args.ranges.now c.requires.numbers.renumbers.missions_same c.requires.boxed
+are_slack-requires-clause-boxed c = box_same c.args.table.now c.args.former.now c.args.ranges.now (sym c.requires.numbers.renumbers.missions_same) c.requires.boxed
 
 pub are_slack-requires-clause-sections : goal.are_slack-requires-clause-sections
 are_slack-requires-clause-sections c =
