@@ -1,5 +1,5 @@
 -- The marks of a train graph.
-use Rattle.std.specs.Prelude.{◌≡◌, ℕ, List, [], ◌∷◌, ◌++◌, codes, decimal, flat_map, map, max, min, ◌^◌, if◌then◌else◌}
+use Rattle.std.specs.Prelude.{◌≡◌, ℕ, ◌<◌, List, [], ◌∷◌, ◌++◌, codes, decimal, flat_map, map, max, min, ◌^◌, if◌then◌else◌}
 use Rattle.std.specs.Str.{bytes_eq}
 use Rattle.run_timetable.specs.declared.run.Run.{Run}
 use Rattle.run_timetable.specs.declared.run.Step.{Step}
@@ -37,8 +37,10 @@ marks_in groups = flat_map group_marks groups
 abbrev pub span_of : List Step → ℕ
 span_of steps = min (max (end_of steps) 1) (2 ^ 40)
 
--- The picture has exactly one mark for each step, in order, each in its place by the same axes.
+-- The picture has exactly one mark for each step, in order, each in its place by the same axes, on which ticks and rows lie apart.
 pub record IsGraph (run : Run) (picture : Picture) : Type 0 where
   pub axes : Axes
   pub span : axes.span ≡ span_of run.steps.items
+  pub wide : 0 < axes.width
+  pub apart : 0 < axes.gap
   pub marks : marks_in picture.groups ≡ map (mark_of axes) run.steps.items

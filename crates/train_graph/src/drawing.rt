@@ -1,5 +1,5 @@
 // Pictures of runs.
-ghost use Rattle.std.specs.Prelude.{◌≡◌, ◌++◌, IfOk, OnOk, codes, false, map};
+ghost use Rattle.std.specs.Prelude.{◌≡◌, ◌<◌, ◌++◌, IfOk, OnOk, codes, false, map};
 ghost use Rattle.std.specs.Str.{bytes_eq};
 ghost use Rattle.train_graph.specs.Marks.{IsGraph, mark_of, marks_in, span_of};
 
@@ -64,7 +64,9 @@ fn axes_of(
     run: &Run,
     chosen: Option<u32>,
 ) -> Result<Axes, AllocError>
-    ensures { IfOk result (λ axes. axes.span ≡ span_of run.now.steps.items) }
+    ensures span { IfOk result (λ axes. axes.span ≡ span_of run.now.steps.items) }
+    ensures wide { IfOk result (λ axes. 0 < axes.width) }
+    ensures apart { IfOk result (λ axes. 0 < axes.gap) }
 {
     let rows = rows_of(alloc, run, chosen)?;
     let points = widest_point(layout, &rows).saturating_add(10);

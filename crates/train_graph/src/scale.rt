@@ -1,5 +1,5 @@
 // Where ticks and points lie in a picture.
-ghost use Rattle.std.specs.Prelude.{◌≡◌, ◌<◌, ◌≤◌, ◌^◌, ◌==◌, position, vec_len};
+ghost use Rattle.std.specs.Prelude.{◌≡◌, ◌+◌, ◌<◌, ◌≤◌, ◌^◌, ◌==◌, position, vec_len};
 
 use svg_text::Spot;
 
@@ -65,7 +65,9 @@ impl Axes {
     }
 
     /// How far to the right the last tick lies.
-    pub fn right(&self) -> u64 {
+    pub fn right(&self) -> u64
+        ensures { result ≡ self.now.left + self.now.width }
+    {
         u64::from(self.left) + u64::from(self.width)
     }
 
@@ -87,7 +89,10 @@ impl Axes {
     }
 
     /// The spot of a tick at a point.
-    pub fn spot(&self, tick: u64, point: u32) -> Spot {
+    pub fn spot(&self, tick: u64, point: u32) -> Spot
+        ensures x { result.x ≡ x_at self.now tick }
+        ensures y { result.y ≡ y_at self.now point }
+    {
         Spot {
             x: self.x(tick),
             y: self.y(point),
