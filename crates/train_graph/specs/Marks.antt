@@ -8,6 +8,7 @@ use Rattle.svg_text.specs.Tree.{Attribute, Shape, Group, Picture}
 use Rattle.svg_text.specs.Shapes.{line_of}
 use Rattle.train_graph.specs.declared.scale.Axes.{Axes}
 use Rattle.train_graph.specs.Places.{x_at, y_at, target_y}
+use Rattle.train_graph.specs.Rows.{HasRows}
 
 -- the class of all that belongs to a train, as `t3`
 abbrev pub class_of : ℕ → Attribute
@@ -37,10 +38,12 @@ marks_in groups = flat_map group_marks groups
 abbrev pub span_of : List Step → ℕ
 span_of steps = min (max (end_of steps) 1) (2 ^ 40)
 
--- The picture has exactly one mark for each step, in order, each in its place by the same axes, on which ticks and rows lie apart.
+-- The picture has exactly one mark for each step, in order, each in its place by the same axes; on these, each point that a
+-- train comes to has a row of its own.
 pub record IsGraph (run : Run) (picture : Picture) : Type 0 where
   pub axes : Axes
   pub span : axes.span ≡ span_of run.steps.items
   pub wide : 0 < axes.width
   pub apart : 0 < axes.gap
+  pub rows : HasRows run axes.rows.items
   pub marks : marks_in picture.groups ≡ map (mark_of axes) run.steps.items

@@ -2,6 +2,7 @@
 ghost use Rattle.std.specs.Prelude.{◌≡◌, ◌<◌, ◌++◌, IfOk, OnOk, codes, false, map};
 ghost use Rattle.std.specs.Str.{bytes_eq};
 ghost use Rattle.train_graph.specs.Marks.{IsGraph, mark_of, marks_in, span_of};
+ghost use Rattle.train_graph.specs.Rows.{HasRows};
 
 use crate::Axes;
 use crate::colours::style_of;
@@ -67,6 +68,7 @@ fn axes_of(
     ensures span { IfOk result (λ axes. axes.span ≡ span_of run.now.steps.items) }
     ensures wide { IfOk result (λ axes. 0 < axes.width) }
     ensures apart { IfOk result (λ axes. 0 < axes.gap) }
+    ensures rows { IfOk result (λ axes. HasRows run.now axes.rows.items) }
 {
     let rows = rows_of(alloc, run, chosen)?;
     let points = widest_point(layout, &rows).saturating_add(10);

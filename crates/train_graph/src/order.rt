@@ -1,5 +1,8 @@
 // The order of points from the top of a picture down.
-ghost use Rattle.std.specs.Prelude.{◌≤◌, IfOk, vec_len};
+ghost use Rattle.std.specs.Prelude.{◌≡◌, ◌<◌, ◌≤◌, ◌↔◌, ℕ, false, IfOk, OnOk, IsSome, length, slice_index, vec_len};
+ghost use Rattle.std.specs.Bool.{OnTrue};
+ghost use Rattle.run_timetable.specs.Timetable.{trains_of};
+ghost use Rattle.train_graph.specs.Rows.{HasRows, IsKnown, Keeps, KnowsBehind, KnowsWay, way_in};
 
 use run_timetable::Run;
 use std::alloc::{AllocError, Global};
@@ -22,7 +25,8 @@ struct Depth {
 /// The points that trains come to, from the top down: first the way of the chosen train, or of the one with the most
 /// places. Points of another way between two of these lie between them, and those at its ends before or behind them.
 pub(crate) fn rows_of(alloc: Global, run: &Run, chosen: Option<u32>) -> Result<Vec<u32>, AllocError>
-    ensures { IfOk result (λ rows. vec_len rows ≤ 512) }
+    ensures few { IfOk result (λ rows. vec_len rows ≤ 512) }
+    ensures rows { IfOk result (λ rows. HasRows run.now rows.items) }
 {
     let mut depths = depths_of(alloc, run, chosen)?;
     depths.sort_by_key(|depth| depth.depth)?;
@@ -35,7 +39,9 @@ pub(crate) fn rows_of(alloc: Global, run: &Run, chosen: Option<u32>) -> Result<V
 }
 
 // How deep the points of all ways lie: the chosen one, then those that have a point in common with it, then the others.
-fn depths_of(alloc: Global, run: &Run, chosen: Option<u32>) -> Result<Vec<Depth>, AllocError> {
+fn depths_of(alloc: Global, run: &Run, chosen: Option<u32>) -> Result<Vec<Depth>, AllocError>
+    ensures { IfOk result (λ depths. (i : ℕ) → i < trains_of run.now.starts.items → KnowsWay depths.items (way_in run.now i)) }
+{
     let mut depths = Vec::new(alloc);
     let first = chosen.unwrap_or(longest(run));
     push_train(alloc, &mut depths, run, first, false)?;
@@ -50,7 +56,10 @@ fn push_trains(
     depths: &mut Vec<Depth>,
     run: &Run,
     known: bool,
-) -> Result<(), AllocError> {
+) -> Result<(), AllocError>
+    ensures kept { OnOk result (Keeps depths.old.items depths.new.items) }
+    ensures all { OnOk result (known ≡ false → (i : ℕ) → i < trains_of run.now.starts.items → KnowsWay depths.new.items (way_in run.now i)) }
+{
     for train in 0..run.trains() {
         push_train(alloc, depths, run, train, known)?;
     }
@@ -64,7 +73,10 @@ fn push_train(
     run: &Run,
     train: u32,
     known: bool,
-) -> Result<(), AllocError> {
+) -> Result<(), AllocError>
+    ensures kept { OnOk result (Keeps depths.old.items depths.new.items) }
+    ensures all { OnOk result (known ≡ false → KnowsWay depths.new.items (way_in run.now train)) }
+{
     let mut way = way_of(alloc, run, train)?;
     if known && !has_known(depths, &way) {
         return Ok(());
@@ -87,7 +99,9 @@ fn longest(run: &Run) -> u32 {
 }
 
 // The points that a train comes to, in order.
-fn way_of(alloc: Global, run: &Run, train: u32) -> Result<Vec<u32>, AllocError> {
+fn way_of(alloc: Global, run: &Run, train: u32) -> Result<Vec<u32>, AllocError>
+    ensures { IfOk result (λ way. way.items ≡ way_in run.now train) }
+{
     let mut way = Vec::new(alloc);
     if let Some(point) = run.start(train) {
         way.push(point)?;
@@ -103,7 +117,9 @@ fn way_of(alloc: Global, run: &Run, train: u32) -> Result<Vec<u32>, AllocError> 
 }
 
 // How deep a point lies, if that is known.
-fn depth_of(depths: &[Depth], point: u32) -> Option<u64> {
+fn depth_of(depths: &[Depth], point: u32) -> Option<u64>
+    ensures { IsSome result ↔ IsKnown depths.now point }
+{
     for known in depths {
         if known.point == point {
             return Some(known.depth);
@@ -113,7 +129,9 @@ fn depth_of(depths: &[Depth], point: u32) -> Option<u64> {
 }
 
 // Whether it is known how deep some point of a way lies.
-fn has_known(depths: &[Depth], way: &[u32]) -> bool {
+fn has_known(depths: &[Depth], way: &[u32]) -> bool
+    ensures { OnTrue result ((k : ℕ) × (k < length way.now) × IsKnown depths.now (slice_index way.now k)) }
+{
     for point in way {
         if depth_of(depths, *point).is_some() {
             return true;
@@ -123,13 +141,17 @@ fn has_known(depths: &[Depth], way: &[u32]) -> bool {
 }
 
 // Adds the points of a way: those behind a known point, and then, from its end, those before one.
-fn push_way(depths: &mut Vec<Depth>, way: &mut [u32]) -> Result<(), AllocError> {
+fn push_way(depths: &mut Vec<Depth>, way: &mut [u32]) -> Result<(), AllocError>
+    ensures kept { OnOk result (Keeps depths.old.items depths.new.items) }
+    ensures all { OnOk result (KnowsWay depths.new.items way.old) }
+{
     if !has_known(depths, way) {
         push_fresh(depths, way)?;
     }
     push_along(depths, way)?;
     way.reverse();
-    push_along(depths, way)
+    push_along(depths, way)?;
+    Ok(())
 }
 
 // Below all points so far. One of them lies at the first depth or below it, if there is any.
@@ -142,7 +164,10 @@ fn next_depth(depths: &[Depth]) -> u64 {
 }
 
 // Adds the points of a way without known ones below all others, up to the first that comes again.
-fn push_fresh(depths: &mut Vec<Depth>, way: &[u32]) -> Result<(), AllocError> {
+fn push_fresh(depths: &mut Vec<Depth>, way: &[u32]) -> Result<(), AllocError>
+    ensures kept { OnOk result (Keeps depths.old.items depths.new.items) }
+    ensures first { OnOk result (0 < length way.now → IsKnown depths.new.items (slice_index way.now 0)) }
+{
     let mut depth = next_depth(depths);
     for point in way {
         if depth_of(depths, *point).is_some() {
@@ -158,7 +183,10 @@ fn push_fresh(depths: &mut Vec<Depth>, way: &[u32]) -> Result<(), AllocError> {
 }
 
 // Adds the points behind the first known one.
-fn push_along(depths: &mut Vec<Depth>, way: &[u32]) -> Result<(), AllocError> {
+fn push_along(depths: &mut Vec<Depth>, way: &[u32]) -> Result<(), AllocError>
+    ensures kept { OnOk result (Keeps depths.old.items depths.new.items) }
+    ensures behind { OnOk result (KnowsBehind depths.old.items depths.new.items way.now (length way.now)) }
+{
     let mut before: Option<u64> = None;
     let mut down = true;
     for (place, point) in way.iter().enumerate() {

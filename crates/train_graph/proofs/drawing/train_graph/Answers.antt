@@ -8,5 +8,6 @@ returns c = record {
   span = c.in_ok-axes.ensures.span;
   wide = c.in_ok-axes.ensures.wide;
   apart = c.in_ok-axes.ensures.apart;
+  rows = c.in_ok-axes.ensures.rows;
   marks = ap marks_in c.in_ok-picture.ensures ∙ c.in_ok-groups.ensures;
 }
