@@ -50,7 +50,7 @@ newly_known now after d p grown here =
     let onto = λ (q : ℕ) (k : IsKnown (now ++ d ∷ []) q). subst (λ (depths : List Depth). IsKnown depths q) (sym grown) k in
     (λ q k. onto q (known_more now d q k), onto p (subst (IsKnown (now ++ d ∷ [])) here (known_last now d)))
 
--- what holds behind the first n points of a way
+-- what holds after the first n points of a way
 pub record IsAlong (before now : List Depth) (way : List ℕ) (n : ℕ) (last : Option ℕ) : Type 0 where
   pub kept : Keeps before now
   pub behind : KnowsBehind before now way n
@@ -105,7 +105,7 @@ known_none depths p none (k, lt, here) =
     let within : k < length depths = subst (λ (n : ℕ). k < n) (length-map depths (λ e. e.point)) lt in
     none k (record { point = 0; depth = 0 }) within (sym (get_or-map (λ e. e.point) depths k (record { point = 0; depth = 0 }) p within) ∙ here)
 
--- A way is known if one of its points was, and all behind that one became known along it, and then along the way back.
+-- A way is known if one of its points was, and all after that one became known along it, and then along the way back.
 pub known_both_ways : (a b c : List Depth) (way : List ℕ) (m : ℕ) → m < length way → IsKnown a (get_or way m 0)
     → Keeps b c → KnowsBehind a b way (length way) → KnowsBehind b c (reverse way) (length (reverse way)) → KnowsWay c way
 known_both_ways a b c way m within known keeps there back p (k, lt, here) = elim (cases_lt k m) [

@@ -33,7 +33,7 @@ Keeps before after = (p : ℕ) → IsKnown before p → IsKnown after p
 abbrev pub KnowsWay : List Depth → List ℕ → Type 0
 KnowsWay depths way = (p : ℕ) → Contains way p → IsKnown depths p
 
--- Of the first n points of a way, all behind one that was known are known.
+-- Of the first n points of a way, all after one that was known are known.
 abbrev pub KnowsBehind : List Depth → List Depth → List ℕ → ℕ → Type 0
 KnowsBehind before after way n =
     (j k : ℕ) → j ≤ k → k < n → IsKnown before (slice_index way j) → IsKnown after (slice_index way k)

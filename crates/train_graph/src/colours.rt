@@ -26,7 +26,7 @@ fn dashes(train: u32) -> &'static str {
     }
 }
 
-/// How the classes of a picture of so many trains look.
+/// How the classes of a picture of this many trains look.
 pub(crate) fn style_of(alloc: Global, trains: u32) -> Result<String, AllocError> {
     let mut style = String::from_str(alloc, COMMON)?;
     for train in 0..trains {

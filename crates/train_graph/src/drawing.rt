@@ -120,7 +120,7 @@ struct Sheet<'a> {
     axes: &'a Axes,
 }
 
-// What stands behind and before the marks of moves.
+// What lies below and above the marks of moves.
 #[derive(Clone, Copy)]
 enum Layer {
     Paper,

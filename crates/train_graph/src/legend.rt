@@ -42,7 +42,7 @@ fn under(at: Spot) -> Spot {
     }
 }
 
-// Behind an entry with a name.
+// After an entry with a name.
 fn behind(at: Spot, name: &str) -> Spot {
     Spot {
         x: at

@@ -147,7 +147,7 @@ fn stay_spot(axes: &Axes, point: u32) -> Spot {
     }
 }
 
-// Where the name of a train may stand after its last step: behind the end of its line, or beyond it on either side.
+// Where the name of a train may stand after its last step: after the end of its line, or beyond it on either side.
 fn end_spots(axes: &Axes, step: &Step, width: u64) -> [Spot; 5] {
     if let Some(point) = step.to {
         return [stay_spot(axes, point); 5];

@@ -23,7 +23,7 @@ struct Depth {
 }
 
 /// The points that trains come to, from the top down: first the way of the chosen train, or of the one with the most
-/// places. Points of another way between two of these lie between them, and those at its ends before or behind them.
+/// places. Points of another way between two of these lie between them, and those at its ends before or after them.
 pub(crate) fn rows_of(alloc: Global, run: &Run, chosen: Option<u32>) -> Result<Vec<u32>, AllocError>
     ensures few { IfOk result (λ rows. vec_len rows ≤ 512) }
     ensures rows { IfOk result (λ rows. HasRows run.now rows.items) }
@@ -140,7 +140,7 @@ fn has_known(depths: &[Depth], way: &[u32]) -> bool
     false
 }
 
-// Adds the points of a way: those behind a known point, and then, from its end, those before one.
+// Adds the points of a way: those after a known point, and then, from its end, those before one.
 fn push_way(depths: &mut Vec<Depth>, way: &mut [u32]) -> Result<(), AllocError>
     ensures kept { OnOk result (Keeps depths.old.items depths.new.items) }
     ensures all { OnOk result (KnowsWay depths.new.items way.old) }
@@ -182,7 +182,7 @@ fn push_fresh(depths: &mut Vec<Depth>, way: &[u32]) -> Result<(), AllocError>
     Ok(())
 }
 
-// Adds the points behind the first known one.
+// Adds the points after the first known one.
 fn push_along(depths: &mut Vec<Depth>, way: &[u32]) -> Result<(), AllocError>
     ensures kept { OnOk result (Keeps depths.old.items depths.new.items) }
     ensures behind { OnOk result (KnowsBehind depths.old.items depths.new.items way.now (length way.now)) }

@@ -21,7 +21,7 @@ pub struct Axes {
 impl Axes {
     ghost use Rattle.train_graph.specs.Places.{x_at, y_at, row_of, y_out, target_y};
 
-    /// How far to the right a tick lies. Ticks behind the last one lie at the right end.
+    /// How far to the right a tick lies. Ticks after the last one lie at the right end.
     pub fn x(&self, tick: u64) -> u64
         ensures { result ≡ x_at self.now tick }
     {
