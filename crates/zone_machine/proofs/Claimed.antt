@@ -22,15 +22,8 @@ use Rattle.zone_machine.specs.Claiming.{entered, HasEntered, HaveClaimed}
 use Rattle.zone_machine.specs.Weave.{first_world, weave_of}
 use Rattle.zone_machine.proofs.Allowed.{Passes, After, after_step, after_steps}
 use Rattle.zone_machine.proofs.Opening.{nothing_owed}
-use Rattle.zone_machine.proofs.OwnSteps.{cells, number_of-without_same, number_of-without_other}
+use Rattle.zone_machine.proofs.OwnSteps.{without_is}
 use Rattle.zone_machine.proofs.Places.{at_set}
-
--- a cell that is owed after a payment was owed before
-still_owed : (c d : Cell) (n : ℕ) (owed : List (Cell × ℕ)) → number_of d (without_cell c owed) ≡ Some n → number_of d owed ≡ Some n
-still_owed c d n owed is = ⊎_elim
-    (λ t. absurd (let e = sym (number_of-without_same c owed) ∙ (ap (λ e. number_of e (without_cell c owed)) (sym t.1) ∙ is) in cc e))
-    (λ t. sym (number_of-without_other c d owed t.1) ∙ is)
-    (cells d c)
 
 module _ (S : Setup) where
   -- who owes no cell that it didn't, is of the same entry
@@ -89,7 +82,7 @@ module _ (S : Setup) where
         go true is x y = kept (control_after S a) (λ owes. control_entry p a is)
         go false is x y = kept (driver_after S p a 1) (λ owes. driver_entry p a 1 is)
     after_kind (Block n) none = kept _ (λ owes. driver_entry p a n (then_some-none (p == control) (no.Actor p) none.0))
-    after_kind (Pay c) none = kept _ (λ owes. same_entry p a _ refl refl (λ d n h. still_owed c d n a.owed h) (have p a at (λ none. owes (ap (without_cell c) none))))
+    after_kind (Pay c) none = kept _ (λ owes. same_entry p a _ refl refl (λ d n h. without_is c d n a.owed h) (have p a at (λ none. owes (ap (without_cell c) none))))
     after_kind (Release z) none = kept _ (alike _ refl refl refl)
     after_kind Leave none = kept _ (alike _ refl refl refl)
 
