@@ -1,7 +1,7 @@
 -- Who owes a cell claimed the zones of the entry that it owes it for.
-use Rattle.std.proofs.Common.{◌≡◌, ◌≢◌, ℕ, zero, suc, ◌==◌, List, [], ◌∷◌, ◌++◌, length, set, Bool, true, false, cond, Some, refl, sym, ap, ◌∙◌, subst, ⊎_elim}
+use Rattle.std.proofs.Common.{◌≡◌, ◌≢◌, ℕ, zero, suc, ◌==◌, List, [], ◌∷◌, ◌++◌, length, set, Bool, true, false, cond, Some, refl, sym, ap, ◌∙◌, subst, inl, inr}
 use Rattle.std.specs.Prelude.{slice_get, slice_index}
-use Rattle.std.proofs.lemmas.Bool.{cond-true, cond-false}
+use Rattle.std.proofs.lemmas.Bool.{cond-true, cond-false, cond_both}
 use Rattle.rail_model.specs.declared.types.Reply.TheVariants.{Driver, Control}
 use Rattle.rail_model.specs.Yard.{control}
 use Rattle.rail_model.proofs.Firsts.{then_some-none}
@@ -57,10 +57,10 @@ module _ (S : Setup) where
   module _ (w : World) (p : ℕ) (a : Actor) (at : Is w p a) (have : HaveClaimed S w) where
     -- what holds of each other actor, and of the one that makes the step as it is now
     kept : (b : Actor) → (b.owed ≢ [] → HasEntered S p b) → (q : ℕ) (x : Actor) → slice_get (set w.actors p b) q ≡ Some x → x.owed ≢ [] → HasEntered S q x
-    kept b own q x is owes = ⊎_elim
-        (λ t. subst (λ (y : Actor). y.owed ≢ [] → HasEntered S q y) t.1 (subst (λ n. b.owed ≢ [] → HasEntered S n b) (sym t.0) own) owes)
-        (λ t. have q x t.1 owes)
-        (at_set w.actors p q b x is)
+    kept b own q x is owes = elim (at_set w.actors p q b x is) [
+      | inl t ↦ subst (λ (y : Actor). y.owed ≢ [] → HasEntered S q y) t.1 (subst (λ n. b.owed ≢ [] → HasEntered S n b) (sym t.0) own) owes
+      | inr t ↦ have q x t.1 owes
+    ]
 
     -- who claims and owes what it did
     alike : (b : Actor) → b.claimed ≡ a.claimed → b.position ≡ a.position → b.owed ≡ a.owed → b.owed ≢ [] → HasEntered S p b
@@ -76,11 +76,8 @@ module _ (S : Setup) where
         go zero = kept (record a { held = a.held ++ z ∷ [] }) (alike (record a { held = a.held ++ z ∷ [] }) refl refl refl)
         go (suc n) = have
     after_kind (Read c) none = kept _ (alike _ refl refl refl)
-    after_kind Append none = go (p == control) refl (seen.Entry (length w.history) (Control (tried S a))) (seen.Entry (length w.history) (Driver (one_ask (answer S p a 1))))
-      where
-        go : (b : Bool) → (p == control) ≡ b → (x y : Seen) → HaveClaimed S (cond {A = Seen × World} b (x, after_control S p w a) (y, after_driver S p w a 1)).1
-        go true is x y = kept (control_after S a) (λ owes. control_entry p a is)
-        go false is x y = kept (driver_after S p a 1) (λ owes. driver_entry p a 1 is)
+    after_kind Append none = cond_both (p == control) _ _ (λ (r : Seen × World). HaveClaimed S r.1)
+        (λ is. kept (control_after S a) (λ owes. control_entry p a is)) (λ is. kept (driver_after S p a 1) (λ owes. driver_entry p a 1 is))
     after_kind (Block n) none = kept _ (λ owes. driver_entry p a n (then_some-none (p == control) (no.Actor p) none.0))
     after_kind (Pay c) none = kept _ (λ owes. same_entry p a _ refl refl (λ d n h. without_is c d n a.owed h) (have p a at (λ none. owes (ap (without_cell c) none))))
     after_kind (Release z) none = kept _ (alike _ refl refl refl)

@@ -24,8 +24,8 @@ use Rattle.zone_machine.specs.Steps.{missing_zone, unknown_cell, refusal, append
 use Rattle.zone_machine.specs.Sound.{Sound, IsSetup}
 use Rattle.zone_machine.specs.Cores.{CoreValue, IsCore}
 use Rattle.zone_machine.proofs.Acting.{passed, there, is_row, allowed_here}
-use Rattle.zone_machine.proofs.Allowed.{Passes}
-use Rattle.zone_machine.proofs.ControlAppends.{is_told}
+use Rattle.zone_machine.proofs.Allowed.{Passes, asked}
+use Rattle.zone_machine.proofs.ControlAppends.{tell, is_told}
 use Rattle.zone_machine.specs.ControlAsked.{IsTold}
 
 -- what is due, as the code asks for it
@@ -33,29 +33,24 @@ pub same_due : (T : Table) (p : List ℕ) (moves after : ℕ) (due arrived : Boo
     → due ≡ is_due T p moves after
 same_due T p moves after due arrived asks ends =
     same_from_decides due (is_due T p moves after)
-    ((
-      λ e. ⊎_elim (λ (le : after ≤ moves). inl le) (λ (all : IsTrue arrived). inr (ends.0 all)) (asks.0 e),
-      λ d. asks.1 (⊎_elim (λ (le : after ≤ moves). inl le) (λ (all : Arrived T p). inr (ends.1 all)) d),
-    ))
+    (
+      λ e. elim (asks.0 e) [ inl le ↦ inl le | inr all ↦ inr (ends.0 all) ],
+      λ d. asks.1 (elim d [ inl le ↦ inl le | inr all ↦ inr (ends.1 all) ]),
+    )
     (due_test T p moves after)
 
 module _ (S : Setup) (w : World) (ok : IsSetup S) (s : Sound S w) (allowed : refusal S control w Append ≡ None) where
   abbrev a : Actor
   a = actor w control
 
-  asked : Passes (append_checks S control w a 1)
-  asked = passed S w control Append allowed
+  passes : Passes (append_checks S control w a 1)
+  passes = passed S w control Append allowed
 
   pub control_told_here : IsTold S a
-  control_told_here = is_told S ok w a s (there S w control Append allowed)
-      (then_some-none a.closing no.Closing asked.0)
-      (then_some-none (is_none (number_of TableCell a.known)) (no.Unknown TableCell) asked.1.0)
-      (option_map-none (λ z. no.Zone z) (missing_zone a (zones S control a (known_table a) 1)) asked.1.1.0)
-      (option_map-none (λ c. no.Unknown c) (unknown_cell a (cells S control a (known_table a) 1)) asked.1.1.1.0)
-      (passing (has_more S a) (then_some-none (not (has_more S a)) no.NoMore asked.1.1.1.1.0))
+  control_told_here = let h = asked S w control a 1 passes in is_told S ok w a s (there S w control Append allowed) h.0 h.1 h.2 h.3 (passing (has_more S a) h.4)
 
   pub room_here : length w.history + 1 ≤ S.most
-  room_here = ltb-false S.most (length w.history + 1) (then_some-none (nat_lt S.most (length w.history + 1)) (no.Full S.most) asked.1.1.1.1.1.0)
+  room_here = ltb-false S.most (length w.history + 1) (then_some-none (nat_lt S.most (length w.history + 1)) (no.Full S.most) passes.1.1.1.1.1.0)
 
 -- the same of the row that was found
 module _ (v now : CoreValue) (core : IsCore v) (is : v ≡ now) (allowed : refusal now.setup control now.world Append ≡ None) where
@@ -72,9 +67,6 @@ module _ (S : Setup) (w : World) (a : Actor) (old : Table) (next : Offer) (posit
     (old_is : old ≡ table_of S (known_table a)) (next_is : next ≡ offer S.tables (a.position + 1))
     (positions_are : positions ≡ known_positions S a) (moves_are : moves ≡ moves_to S positions)
     (told_is : told ≡ cond (is_due old positions moves next.after) (admitted old next.table positions) (Early moves)) where
-  abbrev tell : Table → Offer → List ℕ → ℕ → Tried
-  tell T o ps m = cond (is_due T ps m o.after) (admitted T o.table ps) (Early m)
-
   all_moves : moves ≡ moves_to S (known_positions S a)
   all_moves = moves_are ∙ ap (moves_to S) positions_are
 

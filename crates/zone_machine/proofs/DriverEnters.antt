@@ -1,6 +1,7 @@
 -- What a driver's append that is allowed says of its actor, and the world that it leaves.
 use Rattle.std.proofs.Common.{◌≡◌, ℕ, zero, suc, ◌+◌, ◌<◌, ◌≤◌, ◌==◌, nat_lt, List, ◌++◌, length, set, get_or, replicate, Bool, false, true≢false, cond, Option, Some, None, refl, sym, ap, ◌∙◌, subst, ⊎_elim, arith, ltb-false, ne_eqb, length-append}
 use Rattle.std.specs.Prelude.{is_none, unwrap_or, ◌||◌}
+use Rattle.std.proofs.lemmas.Bool.{or_parts}
 use Rattle.std.proofs.lemmas.List.{length-replicate}
 use Rattle.std.proofs.lemmas.Bool.Decides.{Decides-eqb}
 use Rattle.rail_model.specs.declared.types.Ask.TheVariants.{Yes}
@@ -26,10 +27,9 @@ use Rattle.zone_machine.specs.Steps.{checks, refusal, room_for, append_checks, a
 use Rattle.zone_machine.specs.Sound.{Sound, IsSetup, Is}
 use Rattle.zone_machine.specs.Cores.{CoreValue, IsCore}
 use Rattle.zone_machine.proofs.Acting.{in_place, passed, there, is_row, allowed_here}
-use Rattle.zone_machine.proofs.Allowed.{Passes, either_false, is_aboard_at}
-use Rattle.zone_machine.proofs.DriverAppends.{is_known}
-use Rattle.table_exchange.proofs.Histories.{stands_history}
-use Rattle.zone_machine.proofs.Refusing.{known_in_range}
+use Rattle.zone_machine.proofs.Allowed.{Passes, asked, is_aboard_at}
+use Rattle.zone_machine.proofs.InForce.{stands, in_range as known_in}
+use Rattle.zone_machine.proofs.Refusing.{is_driver}
 
 -- What the code asks of a driver that adds the entries of n steps.
 pub record Enters (S : Setup) (w : World) (p n : ℕ) (a : Actor) : Type 0 where
@@ -55,40 +55,26 @@ module _ (S : Setup) (w : World) (p n : ℕ) (ok : IsSetup S) (s : Sound S w) (a
   differ = then_some-none (p == control) (no.Actor p) none.0
 
   size : ((n == 0) ≡ false) × (nat_lt 4 n ≡ false)
-  size = either_false (n == 0) (nat_lt 4 n) (then_some-none ((n == 0) || nat_lt 4 n) (no.Steps n) none.1.0)
+  size = or_parts (n == 0) (nat_lt 4 n) (then_some-none ((n == 0) || nat_lt 4 n) (no.Steps n) none.1.0)
 
   low : p < trains_of S
-  low = ⊎_elim (λ (lt : p < trains_of S). lt)
-      (λ (e : p ≡ control). absurd (true≢false (sym ((Decides-eqb p control).1 e) ∙ differ)))
-      (s.present p own at (λ left. absurd (cc (sym (is_aboard_at own.stage (in_place S w p (Block n) allowed)) ∙ left))))
-
-  asked : Passes (append_checks S p w own n)
-  asked = none.1.1
-
-  free : own.closing ≡ false
-  free = then_some-none own.closing no.Closing asked.0
-
-  knows : (k : ℕ) × (number_of TableCell own.known ≡ Some k)
-  knows = is_known (number_of TableCell own.known) (then_some-none (is_none (number_of TableCell own.known)) (no.Unknown TableCell) asked.1.0)
+  low = is_driver S p (s.present p own at (λ left. absurd (cc (sym (is_aboard_at own.stage (in_place S w p (Block n) allowed)) ∙ left)))) (λ e. true≢false (sym ((Decides-eqb p control).1 e) ∙ differ))
 
   in_range : known_table own < length S.tables
-  in_range =
-      let lt = known_in_range S w p own knows.0 ok s at free knows.1 in
-      let e : known_table own ≡ knows.0 = ap (λ (o : Option ℕ). unwrap_or o 0) knows.1 in
-      omega arith
+  in_range = let h = asked S w p own n none.1.1 in known_in S w ok s p own at h.0 h.1
 
   room : length w.history + cond ((own_claim S p own n).steps == 0) 1 (own_claim S p own n).steps ≤ S.most
   room =
-      let le = ltb-false S.most (length w.history + room_for S p own n) (then_some-none (nat_lt S.most (length w.history + room_for S p own n)) (no.Full S.most) asked.1.1.1.1.1.0) in
+      let le = ltb-false S.most (length w.history + room_for S p own n) (then_some-none (nat_lt S.most (length w.history + room_for S p own n)) (no.Full S.most) none.1.1.1.1.1.1.1.0) in
       subst (λ (b : Bool). length w.history + cond b 1 (cond ((own_claim S p own n).steps == 0) 1 (own_claim S p own n).steps) ≤ S.most) differ le
 
   small_place : own.position + (own_claim S p own n).steps < 4294967296
   small_place =
-      let stands = stands_history S.tables S.opening w.history ok.tables ok.opening s.legal in
-      let table = ok.formed (yard_after S w.history).table stands.in_range in
-      let same = ok.tables.same (yard_after S w.history).table stands.in_range in
+      let yard = stands S w ok s in
+      let table = ok.formed (yard_after S w.history).table yard.in_range in
+      let same = ok.tables.same (yard_after S w.history).table yard.in_range in
       let lt = low in
-      let within = stands.legal.in_range p (omega arith) in
+      let within = yard.legal.in_range p (omega arith) in
       let short = (table.missions p (omega arith)).few_places in
       let here = s.places p own at low in
       let few = ltb-false 4 n size.1 in

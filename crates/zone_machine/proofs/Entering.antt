@@ -1,6 +1,7 @@
 -- What the loops of an append find and add.
-use Rattle.std.proofs.Common.{◌≡◌, ℕ, ◌<◌, List, [], ◌∷◌, map, Bool, true, false, cond, Some, None, refl, sym, ap, ◌∙◌}
+use Rattle.std.proofs.Common.{◌≡◌, ℕ, ◌<◌, List, [], ◌∷◌, map, Bool, true, false, cond, Some, None, refl, sym, ap, ◌∙◌, inl, inr}
 use Rattle.std.specs.Prelude.{find, is_none, option_map}
+use Rattle.std.proofs.lemmas.Bool.{cases_Bool}
 use Rattle.rail_model.specs.Checks.{below}
 use Rattle.move_claim.specs.declared.cells.Cell.{Cell}
 use Rattle.move_claim.specs.declared.cells.Cell.TheVariants.{Position}
@@ -9,12 +10,7 @@ use Rattle.move_claim.proofs.Finding.{found, nothing_found}
 
 find-map : (t : Cell → Bool) (f : ℕ → Cell) (xs : List ℕ) → find t (map f xs) ≡ option_map f (find (λ i. t (f i)) xs)
 find-map t f [] = refl
-find-map t f (x ∷ xs) = go (t (f x)) (find-map t f xs)
-  where
-    go : (b : Bool) → find t (map f xs) ≡ option_map f (find (λ i. t (f i)) xs)
-        → cond b (Some (f x)) (find t (map f xs)) ≡ option_map f (cond b (Some x) (find (λ i. t (f i)) xs))
-    go true e = refl
-    go false e = e
+find-map t f (x ∷ xs) = elim (cases_Bool (t (f x))) [ inl is ↦ rw is refl | inr is ↦ rw is (find-map t f xs) ]
 
 module _ (known : List (Cell × ℕ)) where
   -- whether the position of a train isn't known

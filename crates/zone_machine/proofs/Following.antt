@@ -1,38 +1,15 @@
 -- What the tests of an actor's program say of its zones.
-use Rattle.std.proofs.Common.{◌≡◌, ◌⊎◌, ℕ, suc, ◌+◌, ◌<◌, ◌==◌, List, [], ◌∷◌, get_or, Bool, true, false, true≢false, cond, Option, Some, None, refl, sym, ap, ap₂, ◌∙◌, subst, inl, inr, arith, eq-eqb, ne_eqb, le-leb, ltb-true, ltb-false, nat_lt}
-use Rattle.std.specs.Prelude.{find, nat_le, not, is_none, is_some, option_map, unwrap_or}
+use Rattle.std.proofs.Common.{◌≡◌, ◌⊎◌, ℕ, ◌<◌, ◌==◌, List, [], ◌∷◌, Bool, true, false, true≢false, cond, Option, Some, None, refl, sym, ap, ap₂, ◌∙◌, subst, inl, inr, arith, eq-eqb, ne_eqb, le-leb}
+use Rattle.std.specs.Prelude.{find, nat_le, not, is_none, is_some, option_map}
 use Rattle.std.specs.Option.{option_or}
 use Rattle.std.specs.List.Sorted.{IsStrictlyIncreasing}
-use Rattle.std.proofs.lemmas.Bool.{lt-leb}
-use Rattle.std.proofs.lemmas.Bool.Decides.{Decides-eqb}
+use Rattle.std.proofs.lemmas.Bool.{lt-leb, eqb-true, cases_Bool, cases_order, both_ways, false_from_ne_true}
 use Rattle.zone_locks.specs.Zones.{has}
 use Rattle.zone_machine.specs.declared.steps.Step.{Step}
 use Rattle.zone_machine.specs.declared.steps.Step.TheVariants.{Take}
 use Rattle.zone_machine.specs.Steps.{first_zone}
 use Rattle.zone_machine.specs.Program.{rest_of, zones_left}
-
--- Each zone is below those after it.
-abbrev Rises : List ℕ → Type 0
-Rises [] = Unit {0}
-Rises (x ∷ xs) = ((z : ℕ) → has z xs ≡ true → x < z) × Rises xs
-
-tail : (x : ℕ) (xs : List ℕ) → IsStrictlyIncreasing (x ∷ xs) → IsStrictlyIncreasing xs
-tail x xs up = λ k lt. subst (λ n. get_or xs k 0 < get_or (x ∷ xs) n 0) (let e : suc k + 1 ≡ suc (k + 1) = omega arith in e) (up (suc k) (omega arith))
-
-above_first : (x : ℕ) (xs : List ℕ) → IsStrictlyIncreasing (x ∷ xs) → (z : ℕ) → has z xs ≡ true → x < z
-above_first x [] up z h = absurd (true≢false (sym h))
-above_first x (y ∷ ys) up z h = go (z == y) refl h (above_first y ys (tail x (y ∷ ys) up) z)
-  where
-    first : x < y
-    first = up 0 (omega arith)
-
-    go : (b : Bool) → (z == y) ≡ b → cond b true (has z ys) ≡ true → (has z ys ≡ true → y < z) → x < z
-    go true is h later = let e : z ≡ y = (Decides-eqb z y).0 is in let lt = first in omega arith
-    go false is h later = let lt = first in let more = later h in omega arith
-
-rises : (xs : List ℕ) → IsStrictlyIncreasing xs → Rises xs
-rises [] up = tt
-rises (x ∷ xs) up = (above_first x xs up, rises xs (tail x xs up))
+use Rattle.zone_machine.proofs.Places.{same_some, by_option, has-first, has-later, Rises, rises}
 
 -- the first of the zones that isn't one of the others
 abbrev outside : List ℕ → List ℕ → Option ℕ
@@ -40,12 +17,7 @@ outside others zones = find (λ z. not (has z others)) zones
 
 found-same : (p q : ℕ → Bool) (xs : List ℕ) → ((z : ℕ) → has z xs ≡ true → p z ≡ q z) → find p xs ≡ find q xs
 found-same p q [] same = refl
-found-same p q (x ∷ xs) same =
-    rw (same x (rw (eq-eqb x x refl) refl), found-same p q xs (λ z h. same z (go z (z == x) h))) refl
-  where
-    go : (z : ℕ) (b : Bool) → has z xs ≡ true → cond b true (has z xs) ≡ true
-    go z true h = refl
-    go z false h = h
+found-same p q (x ∷ xs) same = rw (same x (has-first x xs), found-same p q xs (λ z h. same z (has-later z x xs h))) refl
 
 -- a first zone of both lists goes with neither search
 outside-cons : (x : ℕ) (ys xs : List ℕ) → ((z : ℕ) → has z xs ≡ true → x < z) → outside (x ∷ ys) (x ∷ xs) ≡ outside ys xs
@@ -54,15 +26,10 @@ outside-cons x ys xs low =
 
 found-has : (p : ℕ → Bool) (xs : List ℕ) (z : ℕ) → find p xs ≡ Some z → has z xs ≡ true
 found-has p [] z e = absurd (cc e)
-found-has p (x ∷ xs) z e = go (p x) e (found-has p xs z)
-  where
-    more : (b : Bool) → has z xs ≡ true → cond b true (has z xs) ≡ true
-    more true h = refl
-    more false h = h
-
-    go : (b : Bool) → cond {A = Option ℕ} b (Some x) (find p xs) ≡ Some z → (find p xs ≡ Some z → has z xs ≡ true) → has z (x ∷ xs) ≡ true
-    go true e later = let h : x ≡ z = (let s : Some x ≡ Some z = e in cc) in rw (eq-eqb z x (sym h)) refl
-    go false e later = more (z == x) (later e)
+found-has p (x ∷ xs) z e = elim (cases_Bool (p x)) [
+  | inl is ↦ let h : x ≡ z = same_some x z (rw is at e) in rw (eq-eqb z x (sym h)) refl
+  | inr is ↦ has-later z x xs (found-has p xs z (rw is at e))
+]
 
 none_is : (o : Option ℕ) → is_some o ≡ false → o ≡ None
 none_is None e = refl
@@ -74,21 +41,9 @@ verdict (Some x) o held = false
 verdict None None held = true
 verdict None (Some z) held = is_none (find (nat_le z) held)
 
-order : (x y : ℕ) → (x ≡ y) ⊎ ((x < y) ⊎ (y < x))
-order x y = go (nat_lt x y) (nat_lt y x) refl refl
-  where
-    go : (b d : Bool) → nat_lt x y ≡ b → nat_lt y x ≡ d → (x ≡ y) ⊎ ((x < y) ⊎ (y < x))
-    go true d is more = inr (inl (ltb-true x y is))
-    go false true is more = inr (inr (ltb-true y x more))
-    go false false is more = inl (let high = ltb-false x y is in let low = ltb-false y x more in omega arith)
-
--- a number below or above all zones isn't one of them
+-- a number below all zones isn't one of them
 not-among : (z : ℕ) (xs : List ℕ) → ((y : ℕ) → has y xs ≡ true → z < y) → has z xs ≡ false
-not-among z xs low = go (has z xs) refl
-  where
-    go : (b : Bool) → has z xs ≡ b → b ≡ false
-    go true h = absurd (let lt = low z h in omega arith)
-    go false h = refl
+not-among z xs low = false_from_ne_true (has z xs) (λ h. let lt = low z h in omega arith)
 
 below-first : (x y : ℕ) (ys : List ℕ) → x < y → ((z : ℕ) → has z ys ≡ true → y < z) → has x (y ∷ ys) ≡ false
 below-first x y ys lt low = rw (ne_eqb x y (λ e. omega arith)) (not-among x ys (λ z h. let more = low z h in omega arith))
@@ -116,7 +71,7 @@ begun-rises : (xs ys : List ℕ) → Rises xs → Rises ys → verdict (outside 
 begun-rises [] [] r s = refl
 begun-rises [] (y ∷ ys) r s = refl
 begun-rises (x ∷ xs) [] r s = refl
-begun-rises (x ∷ xs) (y ∷ ys) r s = by_order (order x y) (begun-rises xs ys r.1 s.1)
+begun-rises (x ∷ xs) (y ∷ ys) r s = by_order (cases_order x y) (begun-rises xs ys r.1 s.1)
   where
     no_rest : (x ≡ y → ⊥) → is_some (rest_of (x ∷ xs) (y ∷ ys)) ≡ false
     no_rest ne = rw (ne_eqb x y ne) refl
@@ -142,11 +97,7 @@ module _ (held needed : List ℕ) (up : IsStrictlyIncreasing held) (more : IsStr
   begun = begun-rises held needed (rises held up) (rises needed more)
 
   pub not_begun : is_some (outside needed held) ≡ true → false ≡ is_some (rest_of held needed)
-  not_begun some = go (outside needed held) some ∙ begun
-    where
-      go : (o : Option ℕ) → is_some o ≡ true → false ≡ verdict o (outside held needed) held
-      go None e = absurd (true≢false (sym e))
-      go (Some z) e = refl
+  not_begun some = by_option (outside needed held) (λ none. absurd (both_ways _ (ap is_some none) some)) (λ z is. ap (λ o. verdict o (outside held needed) held) (sym is) ∙ begun)
 
   pub begun_whole : is_some (outside needed held) ≡ false → outside held needed ≡ None → true ≡ is_some (rest_of held needed)
   begun_whole none whole = sym (ap₂ (λ o i. verdict o i held) (none_is (outside needed held) none) whole) ∙ begun
@@ -159,24 +110,18 @@ pub outside-has : (held needed : List ℕ) (z : ℕ) → outside held needed ≡
 outside-has held needed z e = found-has (λ y. not (has y held)) needed z e
 
 -- the zone that comes after those that are held is the first needed one that isn't held
-pub zone_after : (held needed rest : List ℕ) → IsStrictlyIncreasing needed → rest_of held needed ≡ Some rest → first_zone rest ≡ outside held needed
-zone_after [] [] rest up e = let h : [] ≡ rest = (let s : Some [] ≡ Some rest = e in cc) in ap first_zone (sym h)
-zone_after [] (y ∷ ys) rest up e = let h : y ∷ ys ≡ rest = (let s : Some (y ∷ ys) ≡ Some rest = e in cc) in ap first_zone (sym h)
-zone_after (x ∷ xs) [] rest up e = absurd (cc e)
-zone_after (x ∷ xs) (y ∷ ys) rest up e = go (x == y) refl e (zone_after xs ys rest (tail y ys up))
-  where
-    go : (b : Bool) → (x == y) ≡ b → cond {A = Option (List ℕ)} b (rest_of xs ys) None ≡ Some rest → (rest_of xs ys ≡ Some rest → first_zone rest ≡ outside xs ys) → first_zone rest ≡ outside (x ∷ xs) (y ∷ ys)
-    go true is e later =
-        let same : x ≡ y = (Decides-eqb x y).0 is in
-        later e ∙ (sym (outside-cons y xs ys (above_first y ys up)) ∙ ap (λ z. outside (z ∷ xs) (y ∷ ys)) (sym same))
-    go false is e later = absurd (cc e)
+zone_after : (held needed rest : List ℕ) → Rises needed → rest_of held needed ≡ Some rest → first_zone rest ≡ outside held needed
+zone_after [] [] rest r e = ap first_zone (sym (same_some [] rest e))
+zone_after [] (y ∷ ys) rest r e = ap first_zone (sym (same_some (y ∷ ys) rest e))
+zone_after (x ∷ xs) [] rest r e = absurd (cc e)
+zone_after (x ∷ xs) (y ∷ ys) rest r e = elim (cases_Bool (x == y)) [
+  | inl is ↦ zone_after xs ys rest r.1 (rw is at e) ∙ (sym (outside-cons y xs ys r.0) ∙ ap (λ z. outside (z ∷ xs) (y ∷ ys)) (sym (eqb-true x y is)))
+  | inr is ↦ let f = rw is at e in absurd (cc f)
+]
 
 -- where the held zones begin the needed ones, the next one is taken
 pub taken : (given : Option Step) (held needed : List ℕ) → IsStrictlyIncreasing needed → is_some (rest_of held needed) ≡ true
     → option_map (λ z. Take z) (outside held needed) ≡ option_or (cond (is_none (rest_of held needed)) given None) (option_map (λ z. Take z) (first_zone (zones_left held needed)))
-taken given held needed more begins = go (rest_of held needed) refl begins
-  where
-    go : (o : Option (List ℕ)) → rest_of held needed ≡ o → is_some o ≡ true
-        → option_map (λ z. Take z) (outside held needed) ≡ option_or (cond (is_none o) given None) (option_map (λ z. Take z) (first_zone (unwrap_or o [])))
-    go None e h = absurd (true≢false (sym h))
-    go (Some rest) e h = ap (option_map (λ z. Take z)) (sym (zone_after held needed rest more e))
+taken given held needed more begins = by_option (rest_of held needed)
+    (λ none. absurd (both_ways _ (ap is_some none) begins))
+    (λ rest e. rw e (ap (option_map (λ z. Take z)) (sym (zone_after held needed rest (rises needed more) e))))

@@ -9,7 +9,7 @@ use Rattle.zone_machine.specs.World.{Setup, Actor, gone, trains_of}
 use Rattle.zone_machine.specs.Needs.{table_of, zones}
 use Rattle.zone_machine.specs.Sound.{Sound, IsSetup, Is}
 use Rattle.zone_machine.specs.Cores.{CoreValue, IsCore}
-use Rattle.table_exchange.proofs.Histories.{stands_history}
+use Rattle.zone_machine.proofs.InForce.{glance_in as in_force}
 use Rattle.zone_machine.proofs.Readable.{Rising-zones, zones_low}
 use Rattle.zone_machine.proofs.Refusing.{no_control}
 
@@ -32,22 +32,15 @@ module _ (v now : CoreValue) (core : IsCore v) (is : v ≡ now) where
       let low = zones_low S made control gone 0 1 made.tables.some z h in
       omega (arith, made.layout.few_zones)
 
-  -- a driver isn't the control
-  is_driver : (p : ℕ) → p < trains_of S → (p == control) ≡ false
-  is_driver p low = no_control S p made low
-
   module _ (p : ℕ) (a : Actor) (at : Is now.world p a) where
     -- a table that was glanced is one of the tables
     pub glance_in : (t : ℕ) → a.glance ≡ Some t → t < length S.tables
-    glance_in t e =
-        let s = sound in
-        let stands = stands_history S.tables S.opening now.world.history made.tables made.opening s.legal in
-        omega (arith, s.glances p a t at e, s.lags, stands.in_range)
+    glance_in t e = in_force S now.world made sound p a t at e
 
     -- the zones of a driver's next step under that table
     module _ (low : p < trains_of S) (t : ℕ) (glanced : a.glance ≡ Some t) where
       driver_zones : zones S p a t 1 ≡ zones_of S.layout (table_of S t) (claim_of (table_of S t) p a.position 1)
-      driver_zones = rw (is_driver p low) refl
+      driver_zones = rw (no_control S p made low) refl
 
       pub driver_rising : IsStrictlyIncreasing (zones_of S.layout (table_of S t) (claim_of (table_of S t) p a.position 1))
       driver_rising = subst IsStrictlyIncreasing driver_zones (Rising-zones S made p a t 1 (glance_in t glanced))

@@ -10,13 +10,14 @@ use Rattle.zone_machine.specs.World.{Actor}
 use Rattle.zone_machine.specs.Steps.{missing_zone, unknown_cell}
 use Rattle.zone_machine.specs.Sound.{IsSetup}
 use Rattle.zone_machine.specs.Cores.{CoreValue}
-use Rattle.zone_machine.proofs.Refusing.{known_in_range, driver_list, no_control}
+use Rattle.zone_machine.proofs.InForce.{known_in_range}
+use Rattle.zone_machine.proofs.Refusing.{driver_list, no_control}
 use Rattle.zone_machine.proofs.machine.Core.unkept_refusal.Goals as goal
 
 pub needs-needs-requires-clause-table : goal.needs-needs-requires-clause-table
 needs-needs-requires-clause-table g c =
     let at = subst (λ (v : CoreValue). slice_get v.world.actors c.args.number ≡ Some c.args.row.now) (sym c.self.view_is) c.requires.there in
-    subst (λ (v : CoreValue). c.args.table < length v.setup.tables) c.self.view_is (known_in_range _ _ c.args.number c.args.row.now c.args.table c.self.invariant.0.made c.self.invariant.0.sound at c.requires.still c.requires.table)
+    subst (λ (v : CoreValue). c.args.table < length v.setup.tables) c.self.view_is (known_in_range _ _ c.self.invariant.0.made c.self.invariant.0.sound c.args.number c.args.row.now at c.requires.still c.args.table c.requires.table)
 
 pub returns : goal.returns
 returns g c =
