@@ -2,7 +2,7 @@ use Rattle.std.proofs.Common.{◌≡◌, ◌∙◌, sym, subst, Some}
 use Rattle.std.specs.Prelude.{slice_get}
 use Rattle.zone_machine.specs.Sound.{IsActor}
 use Rattle.zone_machine.specs.Cores.{CoreValue}
-use Rattle.zone_machine.proofs.Made.{row_in, not_left, cause_out_of_place, cause_in_place}
+use Rattle.zone_machine.proofs.Acting.{row_in, not_left, cause_out_of_place, cause_in_place}
 use Rattle.zone_machine.proofs.machine.Core.refusal.Goals as goal
 
 pub returns-then-not-is_in_place-clause-cause : goal.returns-then-not-is_in_place-clause-cause

@@ -1,7 +1,7 @@
 use Rattle.std.proofs.Common.{◌∙◌, sym, subst}
 use Rattle.zone_machine.specs.World.{Setup}
 use Rattle.zone_machine.specs.Sound.{Sound}
-use Rattle.zone_machine.proofs.Made.{made_sound}
+use Rattle.zone_machine.proofs.Acting.{made_sound}
 use Rattle.zone_machine.proofs.machine.Core.step.Goals as goal
 
 pub returns-in-None-clause-sound : goal.returns-in-None-clause-sound
