@@ -1,22 +1,19 @@
 -- Who owes a cell claimed the zones of the entry that it owes it for.
-use Rattle.std.proofs.Common.{◌≡◌, ◌≢◌, ℕ, zero, suc, ◌==◌, List, [], ◌∷◌, ◌++◌, length, set, Bool, true, false, cond, Some, refl, sym, ap, ◌∙◌, subst, inl, inr}
+use Rattle.std.proofs.Common.{◌≡◌, ◌≢◌, ℕ, zero, suc, ◌==◌, List, [], ◌∷◌, ◌++◌, set, true, false, Some, refl, sym, ap, ◌∙◌, subst, inl, inr}
 use Rattle.std.specs.Prelude.{slice_get, slice_index}
 use Rattle.std.proofs.lemmas.Bool.{cond-true, cond-false, cond_both}
-use Rattle.rail_model.specs.declared.types.Reply.TheVariants.{Driver, Control}
 use Rattle.rail_model.specs.Yard.{control}
 use Rattle.rail_model.proofs.Firsts.{then_some-none}
 use Rattle.move_claim.specs.declared.cells.Cell.{Cell}
 use Rattle.move_claim.specs.Cells.{number_of, without_cell}
-use Rattle.move_claim.specs.Deciding.{one_ask}
 use Rattle.zone_machine.specs.declared.steps.Step.{Step}
 use Rattle.zone_machine.specs.declared.steps.Step.TheVariants.{Board, Glance, Take, Read, Append, Block, Pay, Release, Leave}
 use Rattle.zone_machine.specs.declared.steps.Seen.{Seen}
-use Rattle.zone_machine.specs.declared.steps.Seen.TheVariants as seen
 use Rattle.zone_machine.specs.declared.steps.NotAllowed.TheVariants as no
 use Rattle.zone_machine.specs.World.{Setup, Actor, World}
 use Rattle.zone_machine.specs.Needs.{zones}
-use Rattle.zone_machine.specs.Entries.{known_table, answer, tried, driver_after, control_after}
-use Rattle.zone_machine.specs.Steps.{checks, taken, after_driver, after_control, outcome, step_of}
+use Rattle.zone_machine.specs.Entries.{known_table, driver_after, control_after}
+use Rattle.zone_machine.specs.Steps.{checks, taken, outcome, step_of}
 use Rattle.zone_machine.specs.Sound.{IsSetup, Is}
 use Rattle.zone_machine.specs.Claiming.{entered, HasEntered, HaveClaimed}
 use Rattle.zone_machine.specs.Weave.{first_world, weave_of}

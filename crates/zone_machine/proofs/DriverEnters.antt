@@ -1,6 +1,6 @@
 -- What a driver's append that is allowed says of its actor, and the world that it leaves.
-use Rattle.std.proofs.Common.{◌≡◌, ℕ, zero, suc, ◌+◌, ◌<◌, ◌≤◌, ◌==◌, nat_lt, List, ◌++◌, length, set, get_or, replicate, Bool, false, true≢false, cond, Option, Some, None, refl, sym, ap, ◌∙◌, subst, ⊎_elim, arith, ltb-false, ne_eqb, length-append}
-use Rattle.std.specs.Prelude.{is_none, unwrap_or, ◌||◌}
+use Rattle.std.proofs.Common.{◌≡◌, ℕ, zero, suc, ◌+◌, ◌<◌, ◌≤◌, ◌==◌, nat_lt, List, ◌++◌, length, set, get_or, replicate, Bool, false, true≢false, cond, Some, None, refl, sym, ap, ◌∙◌, subst, arith, ltb-false, ne_eqb, length-append}
+use Rattle.std.specs.Prelude.{◌||◌}
 use Rattle.std.proofs.lemmas.Bool.{or_parts}
 use Rattle.std.proofs.lemmas.List.{length-replicate}
 use Rattle.std.proofs.lemmas.Bool.Decides.{Decides-eqb}
@@ -12,7 +12,6 @@ use Rattle.rail_model.proofs.Firsts.{then_some-none}
 use Rattle.rail_model.specs.declared.types.BlockAsk.{BlockAsk}
 use Rattle.rail_model.specs.declared.types.BlockAsk.TheVariants as block
 use Rattle.move_claim.specs.declared.cells.Cell.{Cell}
-use Rattle.move_claim.specs.declared.cells.Cell.TheVariants.{Table as TableCell}
 use Rattle.move_claim.specs.Cells.{number_of, number_in}
 use Rattle.move_claim.specs.Claims.{Footprint, claim_of, footprint_of}
 use Rattle.move_claim.specs.Deciding.{decided}
@@ -23,7 +22,7 @@ use Rattle.zone_machine.specs.Needs.{table_of, zones}
 use Rattle.rail_model.specs.Blocks.{block_entries}
 use Rattle.zone_machine.specs.Entries.{known_table, own_claim, answer, driver_after}
 use Rattle.zone_machine.specs.Entered.{driver_told}
-use Rattle.zone_machine.specs.Steps.{checks, refusal, room_for, append_checks, after_driver}
+use Rattle.zone_machine.specs.Steps.{checks, refusal, room_for, after_driver}
 use Rattle.zone_machine.specs.Sound.{Sound, IsSetup, Is}
 use Rattle.zone_machine.specs.Cores.{CoreValue, IsCore}
 use Rattle.zone_machine.proofs.Acting.{in_place, passed, there, is_row, allowed_here}

@@ -1,5 +1,5 @@
 -- What the loops of an append find and add.
-use Rattle.std.proofs.Common.{◌≡◌, ℕ, ◌<◌, List, [], ◌∷◌, map, Bool, true, false, cond, Some, None, refl, sym, ap, ◌∙◌, inl, inr}
+use Rattle.std.proofs.Common.{◌≡◌, ℕ, ◌<◌, List, [], ◌∷◌, map, Bool, true, false, Some, None, refl, sym, ap, ◌∙◌, inl, inr}
 use Rattle.std.specs.Prelude.{find, is_none, option_map}
 use Rattle.std.proofs.lemmas.Bool.{cases_Bool}
 use Rattle.rail_model.specs.Checks.{below}

@@ -1,5 +1,5 @@
 -- What a core says of an actor's next entry.
-use Rattle.std.proofs.Common.{◌≡◌, ℕ, ◌<◌, ◌==◌, List, length, true, false, Some, refl, sym, subst, arith}
+use Rattle.std.proofs.Common.{◌≡◌, ℕ, ◌<◌, List, length, true, Some, refl, sym, subst, arith}
 use Rattle.std.specs.List.Sorted.{IsStrictlyIncreasing}
 use Rattle.rail_model.specs.Checks.{below}
 use Rattle.rail_model.specs.Yard.{control}
