@@ -30,8 +30,7 @@ use Rattle.zone_machine.specs.ControlAsked.{IsTold}
 pub same_due : (T : Table) (p : List ℕ) (moves after : ℕ) (due arrived : Bool) → IsTrue due ↔ ((after ≤ moves) ⊎ IsTrue arrived) → IsTrue arrived ↔ Arrived T p
     → due ≡ is_due T p moves after
 same_due T p moves after due arrived asks ends =
-    same_from_decides due (is_due T p moves after)
-    (
+    same_from_decides due (is_due T p moves after) (
       λ e. elim (asks.0 e) [ inl le ↦ inl le | inr all ↦ inr (ends.0 all) ],
       λ d. asks.1 (elim d [ inl le ↦ inl le | inr all ↦ inr (ends.1 all) ]),
     )

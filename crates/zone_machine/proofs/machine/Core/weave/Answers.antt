@@ -1,4 +1,3 @@
-
 use Rattle.std.proofs.Common.{◌≡◌, ℕ, get_or, Option, Ok, Err, refl, sym, ◌∙◌, subst, suc, ◌+◌, ◌<◌, List, length, drop, drop-cons, Some, Result, ap, arith}
 use Rattle.zone_machine.specs.declared.steps.Step.{Step}
 use Rattle.zone_machine.specs.declared.steps.Step.TheVariants.{Board}
