@@ -21,8 +21,8 @@ use Rattle.move_claim.specs.Deciding.{decided, effects, touched, number_left, co
 use Rattle.move_claim.specs.Informed.{IsInformed, IsOneStep, AreNew}
 use Rattle.rail_model.specs.Blocks.{AnswersBlock}
 use Rattle.move_claim.specs.States.{cell_number, occupant}
-use Rattle.move_claim.proofs.Effects.{at, other, legal_after, occupied, occupies, stood_at, changed_at, point_left, owed_point, owed_count, owed_position, owed_table, in_sections}
-use Rattle.move_claim.proofs.Informing.{told, answered, some_is}
+use Rattle.move_claim.proofs.Effects.{at, other, legal_after, occupied, occupies, stood_at, changed_at, point_left, owed_point, owed_count, owed_position, owed_table, in_sections, some_is}
+use Rattle.move_claim.proofs.Informing.{told, answered}
 use Rattle.move_claim.proofs.StepAsked.{count_told, count_moved}
 use Rattle.move_claim.proofs.Telling.{Tells}
 
@@ -84,24 +84,24 @@ module _ (points t : ℕ) (T : Table) (p : List ℕ) (c : Claim) (known : List (
 
   differs : (d : Cell) (m : ℕ) → number_of d (effects T c num) ≡ Some m → cell_number points t T p d ≢ Some m
   differs (Point x) m is was =
-      let r = some_is points t T p c known h (has x (touched T c)) (number_left T c x) m (sym (owed_point T c num p h.table h.legal h.train there tells run x) ∙ is) in
+      let r = some_is (has x (touched T c)) (number_left T c x) m (sym (owed_point T c num p h.table h.legal h.train there tells run x) ∙ is) in
       let s = stood_at T c num p h.table h.legal h.train there tells run x r.0 in
-      let before = some_is points t T p c known h (nat_lt x points) (occupant T p x) m was in
+      let before = some_is (nat_lt x points) (occupant T p x) m was in
       let after = point_left T c num p h.table h.legal h.train there tells run s.0 x s.1 s.2 in
       single.elsewhere (same_point_twice x s.0 (before.1 ∙ (sym r.1 ∙ sym after)) s.1 s.2)
   differs (Count s) m is was =
-      let r = some_is points t T p c known h (has s (sections T c)) (nat_abs (count_after T c num c.steps s)) m (sym (owed_count T c num p h.table h.legal h.train there tells run s) ∙ is) in
+      let r = some_is (has s (sections T c)) (nat_abs (count_after T c num c.steps s)) m (sym (owed_count T c num p h.table h.legal h.train there tells run s) ∙ is) in
       let s_in = in_sections T c s r.0 in
       let k = changed_at T c num p h.table h.legal h.train there tells run s r.0 in
-      let before = some_is points t T p c known h (nat_lt s (length T.sections)) (nat_abs (count T s p)) m was in
+      let before = some_is (nat_lt s (length T.sections)) (nat_abs (count T s p)) m was in
       let after = count_told T c num p h.table h.legal h.train there tells q c.steps s s_in (tells.counts k.0 s k.1 s_in k.2) now_at others_stay in
       let low : k.0 < c.steps = k.1 in
       let place_is : c.place + k.0 + 1 ≡ c.place + 1 = omega (arith, single.one) in
       let none : is_changed T c.train s (c.place + 1) ≡ false = ap (λ (z : ℤ). not (nat_abs z == 0)) (not_changed s s_in (ap nat_abs after ∙ (r.1 ∙ sym before.1))) in
       true≢false (sym (subst (λ n. is_changed T c.train s n ≡ true) place_is k.2) ∙ none)
   differs (Position j) m is was =
-      let r = some_is points t T p c known h (j == c.train) (c.place + c.steps) m (sym (owed_position T c num p h.table h.legal h.train there tells run j) ∙ is) in
-      let before = some_is points t T p c known h (nat_lt j (trains T)) (place p j) m was in
+      let r = some_is (j == c.train) (c.place + c.steps) m (sym (owed_position T c num p h.table h.legal h.train there tells run j) ∙ is) in
+      let before = some_is (nat_lt j (trains T)) (place p j) m was in
       let own : place p j ≡ c.place = ap (place p) ((Decides-eqb j c.train).0 r.0) ∙ there in
       absurd (omega (arith, r.1, before.1, own, single.one))
   differs TableCell m is was = absurd (let e = sym (owed_table T c num p h.table h.legal h.train there tells run) ∙ is in cc e)
