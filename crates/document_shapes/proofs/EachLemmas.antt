@@ -63,6 +63,14 @@ module _ {A B E : Type 0} (step : ℕ → A → Result B E) where
       let more = each-again Q back again (t + 1) xs p.tail (All-tail Q x xs q) p.rest in
       subst (λ zs. each_from step t (map back zs) ≡ Ok zs) p.whole (rw (one, more) refl)
 
+-- steps that make each item of what it gives back
+pub each-made : {A B E : Type 0} (step : ℕ → A → Result B E) (back : B → A) (t : ℕ) (ys : List B) (d : B)
+    → ((k i : ℕ) → k < length ys → i ≡ t + k → step i (back (get_or ys k d)) ≡ Ok (get_or ys k d)) → each_from step t (map back ys) ≡ Ok ys
+each-made step back t [] d h = refl
+each-made step back t (y ∷ ys) d h =
+    let rest = each-made step back (t + 1) ys d (λ k i lt is. h (suc k) i (omega (arith, lt)) (omega (arith, is))) in
+    rw (h 0 t (omega arith) (omega arith), rest) refl
+
 -- steps that give their own items again, where items and steps are changed
 pub each-changed : {A B E : Type 0} (step step' : ℕ → A → Result B E) (R : B → B → Type 0) (back again : B → A)
     → ((t : ℕ) (y z : B) → R y z → step t (back y) ≡ Ok y → step' t (again z) ≡ Ok z)

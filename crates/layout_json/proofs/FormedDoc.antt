@@ -1,19 +1,21 @@
--- A document that members make is formed: its parts fit together, and the start is legal.
-use Rattle.std.proofs.Common.{◌≡◌, ◌∙◌, ℕ, ◌≤◌, not, ◌==◌, List, [], ◌∷◌, length, map, All, None, Ok, refl, sym, ap, subst, arith}
-use Rattle.std.specs.Prelude.{option_map}
+-- A document that members make is formed: its parts fit together, the start is legal, and its own members make it again.
+use Rattle.std.proofs.Common.{◌≡◌, ◌∙◌, ℕ, ◌<◌, ◌≤◌, not, ◌==◌, List, [], length, All, None, Ok, refl, sym, ap, subst, arith, zero-add}
+use Rattle.std.specs.Prelude.{option_map, slice_index_or}
 use Rattle.std.specs.Bool.{then_some}
 use Rattle.std.proofs.lemmas.Bool.{eqb-true, not-false}
 use Rattle.std.proofs.lemmas.Bool.Decides.{nat_tests}
 use Rattle.std.proofs.lemmas.Int.{ints}
 use Rattle.std.proofs.lemmas.List.{length-map}
-use Rattle.std.proofs.lemmas.List.Elements.{All-map}
-use Rattle.rail_model.specs.Layout.{Layout, IsLayout, point_names}
+use Rattle.rail_model.specs.Layout.{Layout, IsLayout}
 use Rattle.rail_model.specs.Move.{IsOver}
-use Rattle.rail_model.specs.Names.{Names}
 use Rattle.rail_model.specs.State.{Legal}
 use Rattle.rail_model.specs.Table.{Table, IsTable, trains, last, place}
 use Rattle.rail_model.specs.Turns.{first_below}
+use Rattle.rail_model.specs.Ways.{IsOn}
 use Rattle.rail_model.proofs.Firsts.{option_or-none, first_below-none, then_some-none, option_map-none}
+use Rattle.rail_model.proofs.Ways.{missions_on}
+use Rattle.table_exchange.specs.Tables.{AreTables}
+use Rattle.track_layout.specs.Making.{layout_from}
 use Rattle.track_layout.proofs.Taken.{taken as layouts_taken}
 use Rattle.mission_table.specs.Roster.{AreTrains, trains_from}
 use Rattle.mission_table.proofs.Taken.{trains_taken, missions_formed}
@@ -22,22 +24,24 @@ use Rattle.section_marks.proofs.Made.{table_of}
 use Rattle.section_marks.proofs.SectionsTaken.{sections_taken}
 use Rattle.legal_state.specs.Causes.{HasPair}
 use Rattle.legal_state.proofs.Legality.{legal_from}
-use Rattle.document_shapes.specs.Raw.{DocMembers, TableMembers, IsRead, members_of}
-use Rattle.document_shapes.proofs.EachLemmas.{in_turn-ok, each-good}
+use Rattle.document_shapes.specs.Raw.{DocMembers, TableMembers, IsRead, IsOfVersion, members_of}
+use Rattle.document_shapes.proofs.EachLemmas.{in_turn-ok, each-good, each-length, each-made}
 use Rattle.document_shapes.proofs.Versions.{read-version}
-use Rattle.layout_json.specs.Doc.{Doc, DocTable, IsDoc}
-use Rattle.layout_json.specs.Keeps.{Keeps, IsTaken, Untimed, timed, doc_of_parts}
-use Rattle.layout_json.specs.Members.{members_in}
-use Rattle.layout_json.specs.Reading.{doc_of, doc_from, first_table}
+use Rattle.layout_json.specs.Doc.{Doc, DocTable, IsDoc, doc_table, table_at, offers_of, names_of}
+use Rattle.layout_json.specs.Keeps.{IsTaken}
+use Rattle.layout_json.specs.Members.{members_in, table_members_in}
+use Rattle.layout_json.specs.Reading.{doc_of, doc_from, tables_refusal, first_table}
 use Rattle.layout_json.specs.Tables.{refused_as, marks_of, exits_or_none, doc_table_of}
 use Rattle.layout_json.specs.Start.{out_of_range, meets, first_meeting, over_limit, illegality, start_refusal}
 use Rattle.layout_json.specs.declared.refused.DocRefused.TheVariants as refused
-use Rattle.layout_json.proofs.DocBack.{IsChecked, doc-keeps}
-use Rattle.layout_json.proofs.DocMade.{names-are}
+use Rattle.layout_json.proofs.LayoutBack.{layout-made_of}
 use Rattle.layout_json.proofs.NamedLemmas.{members-are-read}
+use Rattle.layout_json.proofs.Offered.{offer_count, table_offered}
 use Rattle.layout_json.proofs.StartLemmas.{together}
-use Rattle.layout_json.proofs.TableBack.{IsTableOf, doc_table-made, refused_as-ok}
-use Rattle.layout_json.proofs.Taken.{makes}
+use Rattle.layout_json.proofs.TableBack.{IsDocTableOf, doc_table-made, doc_table-again, refused_as-ok}
+use Rattle.layout_json.proofs.Taken.{Makes, makes, made-of, tables-few}
+use Rattle.layout_json.proofs.TimesLemmas.{are_times}
+use Rattle.layout_json.proofs.WaysBack.{AreMadeOf, missions-made_of}
 
 -- ---- a start that is not refused is legal
 
@@ -55,7 +59,7 @@ module _ (T : Table) (p : List ℕ) where
   not_over : (s : ℕ) → over_limit T p s ≡ None → IsOver T p s → ⊥
   not_over s h over = let test = then_some-none _ _ h in grind (arith, ints, over.1)
 
-  pub start-legal : start_refusal T p ≡ None → Legal T p
+  start-legal : start_refusal T p ≡ None → Legal T p
   start-legal h =
       let a = option_or-none (then_some (not (length p == trains T)) (refused.StartLength (length p))) _ h in
       let b = option_or-none (option_map refused.Start (illegality T p)) None a.1 in
@@ -68,60 +72,97 @@ module _ (T : Table) (p : List ℕ) where
       (λ i pair. no_pair i (first_below-none (trains T) (first_meeting T p) d.0 i (omega (arith, pair.1.0, pair.1.1))) pair)
       (λ s over. not_over s (first_below-none (length T.sections) (over_limit T p) e.0 s over.0) over)
 
--- ---- trains, missions and tables that are taken are formed
-
-trains-formed : (names found : List (List ℕ)) → trains_from names ≡ Ok found → AreTrains found
-trains-formed names found h = let made = (trains_taken names found).0 h in subst AreTrains (sym made.0) made.1
-
-table-formed : (version : ℕ) (L : Layout) (n t : ℕ) (m : TableMembers) (T : Table) → IsLayout L → n ≤ 32 → IsTableOf version L n t m T → IsTable T
-table-formed version L n t m T layout few h =
-    let missions = missions_formed L n m.missions (exits_or_none n m.exits) T.missions layout few h.missions in
-    let plain = table_of T.missions T.sections in
-    let sections = (sections_taken (marks_of version) T.missions T.sections plain missions).0 h.sections in
-    ((connections_taken plain T T.connections sections.1).0 h.connections).1
-
 -- ---- the document
 
-abbrev untimed : DocTable → Untimed
-untimed t = record { table = t.table; after = t.after; nodes = t.nodes }
+abbrev pub no_table : DocTable
+no_table = record { table = record { missions = []; sections = []; connections = [] }; after = 0; times = []; nodes = [] }
 
-again-timed : (ts : List DocTable) → timed (map untimed ts) (map (λ t. t.times) ts) ≡ ts
-again-timed [] = refl
-again-timed (t ∷ ts) = ap (λ later. t ∷ later) (again-timed ts)
+-- Members of a version make the table.
+abbrev pub IsMade : Layout → ℕ → ℕ → ℕ → DocTable → Type 0
+IsMade L n version t y = (x : TableMembers) × IsOfVersion version x × IsDocTableOf version L n t x y
 
--- what is read keeps what a document has to keep
-read-keeps : (m : DocMembers) (D : Doc) → IsRead m → doc_from m ≡ Ok D
-    → Keeps D.version D.layout (record { points = point_names D.layout; trains = D.trains }) (map untimed D.tables) (map (λ t. t.times) D.tables) D.start
-read-keeps m D read h =
-    let made = makes m D h in
-    let L = D.layout in
-    let N : Names = record { points = point_names L; trains = D.trains } in
-    let layout : IsLayout L = ((layouts_taken m.points m.links m.zones L).0 made.tabled.layout).1 in
-    let trains : AreTrains D.trains = trains-formed m.trains D.trains made.tabled.trains_are in
-    let ts = map untimed D.tables in
-    let xs = map (λ t. t.times) D.tables in
-    let same = again-timed D.tables in
-    let start : start_refusal (first_table D.tables).table m.start ≡ None = ap (start_refusal (first_table D.tables).table) made.start_is ∙ made.start in
-    let tables : All (λ t. IsTable t.table) D.tables =
-    each-good (doc_table_of m.version L (length D.trains)) (λ _. Unit {0}) (λ _ y. IsTable y.table)
-    (λ t x y _ of. table-formed m.version L (length D.trains) t x y.table layout trains.few (doc_table-made m.version L (length D.trains) t x y of).table)
-    0 m.tables D.tables (λ _ _ _. tt) made.tabled.made in
-    let checked : IsChecked m L N ts xs =
-    record {
-      read = read;
-      layout = made.tabled.layout;
-      trains = made.tabled.trains_are;
-      counted = made.tabled.counted;
-      tables = made.tabled.made ∙ ap Ok (sym same);
-      start = ap (λ us. start_refusal (first_table us).table m.start) same ∙ start;
-      named = refl;
-      each_timed = length-map D.tables untimed ∙ sym (length-map D.tables (λ t. t.times));
-      formed = layout;
-      names = names-are L D.trains layout trains;
-      tables_formed = All-map (λ t. IsTable t.table) untimed D.tables tables;
-      legal = subst (λ us. Legal (first_table us).table m.start) (sym same) (start-legal (first_table D.tables).table m.start start);
-    } in
-    subst (λ v. Keeps v L N ts xs D.start) made.version_is (subst (λ p. Keeps m.version L N ts xs p) made.start_is (doc-keeps m L N ts xs checked))
+module _ (m : DocMembers) (D : Doc) (made : Makes m D) (of : All (IsOfVersion m.version) m.tables) where
+  abbrev n : ℕ
+  n = length D.trains
+
+  count : length D.tables ≡ length m.tables
+  count = each-length (doc_table_of m.version D.layout n) 0 m.tables D.tables made.tabled.made
+
+  pub few : (0 < length D.tables) × (length D.tables ≤ 16)
+  few = tables-few (length D.tables) (ap tables_refusal count ∙ made.tabled.counted)
+
+  pub from : (t : ℕ) → t < length D.tables → IsMade D.layout n D.version t (doc_table D t)
+  from t lt =
+      subst (λ (p : ℕ × ℕ). IsMade D.layout n p.0 p.1 (doc_table D t)) (λ i. (made.version_is i, zero-add t i))
+      (each-good (doc_table_of m.version D.layout n) (IsOfVersion m.version) (IsMade D.layout n m.version)
+      (λ k x y is h. (x, is, doc_table-made m.version D.layout n k x y h)) 0 m.tables D.tables of made.tabled.made t no_table lt)
+
+  layout : IsLayout D.layout
+  layout = ((layouts_taken m.points m.links m.zones D.layout).0 made.tabled.layout).1
+
+  named : (D.trains ≡ m.trains) × AreTrains D.trains
+  named = let found = (trains_taken m.trains D.trains).0 made.tabled.trains_are in (found.0, subst AreTrains (sym found.0) found.1)
+
+  ways : (t : ℕ) (lt : t < length D.tables) → AreMadeOf D.layout (table_at D t).missions n (from t lt).0.missions (exits_or_none n (from t lt).0.exits)
+  ways t lt = let x = from t lt in missions-made_of D.layout n x.0.missions (exits_or_none n x.0.exits) (table_at D t).missions x.2.table.missions
+
+  pub on_layout : (t : ℕ) → t < length D.tables → IsOn D.layout (table_at D t)
+  on_layout t lt = missions_on D.layout (table_at D t) (ways t lt).of_layout
+
+  table_formed : (t : ℕ) → t < length D.tables → IsTable (table_at D t)
+  table_formed t lt =
+      let x = from t lt in
+      let T = table_at D t in
+      let plain = table_of T.missions T.sections in
+      let missions = missions_formed D.layout n x.0.missions (exits_or_none n x.0.exits) T.missions layout named.1.few x.2.table.missions in
+      let sections = (sections_taken (marks_of D.version) T.missions T.sections plain missions).0 x.2.table.sections in
+      ((connections_taken plain T T.connections sections.1).0 x.2.table.connections).1
+
+  tables_are : AreTables (offers_of D)
+  tables_are = record {
+    some = omega (arith, offer_count D, few.0);
+    few = omega (arith, offer_count D, few.1);
+    same = λ t lt.
+        let within = subst (λ k. t < k) (offer_count D) lt in
+        ap trains (table_offered D t within) ∙ (ways t within).counted ∙ sym (ap trains (table_offered D 0 few.0) ∙ (ways 0 few.0).counted);
+  }
+
+  doc_is : IsDoc D
+  doc_is = record {
+    layout = layout;
+    names = record { few_points = rw length-map layout.few_points; few_trains = named.1.few; points = layout.named; trains = named.1.named };
+    tables = tables_are;
+    formed = table_formed;
+    trains = λ t lt. (ways t lt).counted;
+    points = on_layout;
+    times = λ t lt. are_times t (table_at D t) (doc_table D t).times (from t lt).2.times;
+    start = start-legal (table_at D 0) D.start made.start;
+  }
+
+  -- with other tables, and in another version, nothing is refused, where each table is made and the start is not refused
+  pub again : (version : ℕ) (zs : List DocTable) → length zs ≡ length D.tables → ((t : ℕ) → t < length D.tables → IsMade D.layout n version t (slice_index_or zs t no_table))
+      → start_refusal (first_table zs).table D.start ≡ None → IsTaken (record D { version = version; tables = zs })
+  again version zs same each start =
+      let E : Doc = record D { version = version; tables = zs } in
+      let back = layout-made_of m.points m.links m.zones D.layout made.tabled.layout in
+      let all : Makes (members_in E) E =
+      record {
+        tabled = record {
+          layout = (λ i. layout_from (back.points_are i) (back.links_are i) (back.zones_are i)) ∙ made.tabled.layout;
+          trains_are = ap trains_from named.0 ∙ made.tabled.trains_are;
+          counted = ap tables_refusal (length-map zs (table_members_in version (names_of D)) ∙ same ∙ count) ∙ made.tabled.counted;
+          made = each-made (doc_table_of version D.layout n) (table_members_in version (names_of D)) 0 zs no_table
+              (λ t i lt is.
+              let x = each t (omega (arith, lt, same)) in
+              let y = slice_index_or zs t no_table in
+              subst (λ k. doc_table_of version D.layout n k (table_members_in version (names_of D) y) ≡ Ok y) (sym (is ∙ zero-add t))
+              (doc_table-again version D.layout n t (names_of D) refl x.0 x.1 y x.2));
+        };
+        start = start;
+        version_is = refl;
+        start_is = refl;
+      } in
+      made-of (members_in E) E all
 
 -- A document that is formed, and of whose own members nothing is refused.
 pub record IsFormed (D : Doc) : Type 0 where
@@ -130,20 +171,22 @@ pub record IsFormed (D : Doc) : Type 0 where
   pub first : 1 ≤ D.version
   pub last : D.version ≤ 3
 
-formed-from : (m : DocMembers) (D : Doc) → IsRead m → doc_from m ≡ Ok D → IsFormed D
+pub formed-from : (m : DocMembers) (D : Doc) → IsRead m → doc_from m ≡ Ok D → IsFormed D
 formed-from m D read h =
-    let keeps = read-keeps m D read h in
-    let same : doc_of_parts D.version D.layout (record { points = point_names D.layout; trains = D.trains }) (map untimed D.tables) (map (λ t. t.times) D.tables) D.start ≡ D =
-    ap (λ ts. record D { tables = ts }) (again-timed D.tables) in
-    record { is = subst IsDoc same keeps.is; taken = subst IsTaken same keeps.taken; first = keeps.first; last = keeps.last }
+    let made = makes m D h in
+    record {
+      is = doc_is m D made read.tables;
+      taken = again m D made read.tables D.version D.tables refl (from m D made read.tables) made.start;
+      first = subst (λ v. 1 ≤ v) made.version_is read.first;
+      last = subst (λ v. v ≤ 3) made.version_is read.last;
+    }
 
 -- a document that bytes are
 pub read-is-formed : (bytes : List ℕ) (D : Doc) → doc_of bytes ≡ Ok D → IsFormed D
 unfolding doc_of
 read-is-formed bytes D h =
     let given = in_turn-ok (refused_as refused.Shape (members_of bytes)) doc_from D h in
-    let read = read-version bytes given.value (refused_as-ok refused.Shape (members_of bytes) given.value given.first) in
-    formed-from given.value D read given.behind
+    formed-from given.value D (read-version bytes given.value (refused_as-ok refused.Shape (members_of bytes) given.value given.first)) given.behind
 
 -- a document that is taken
 pub taken-is-formed : (D : Doc) → IsTaken D → 1 ≤ D.version → D.version ≤ 3 → IsFormed D

@@ -7,8 +7,6 @@ pub mod TableLemmas
 pub mod LayoutBack
 pub mod WaysBack
 pub mod TableBack
-pub mod DocBack
-pub mod DocMade
 mod Listed
 pub mod NamedLemmas
 pub mod WrittenBack

@@ -1,30 +1,22 @@
 -- A document of version 1 is taken as one of version 2.
-use Rattle.std.proofs.Common.{◌≡◌, ◌∙◌, ℕ, zero, suc, ◌<◌, ◌≤◌, ◌==◌, true, false, List, [], ◌∷◌, length, map, replicate, get_or, All, None, Ok, refl, sym, ap, ap₂, subst, arith, inl, inr}
-use Rattle.std.specs.List.{AllZip}
+use Rattle.std.proofs.Common.{◌≡◌, ◌∙◌, ℕ, zero, suc, ◌<◌, ◌≤◌, ◌==◌, true, false, List, [], ◌∷◌, length, map, replicate, refl, sym, ap, ap₂, subst, arith, inl, inr}
 use Rattle.std.proofs.lemmas.Bool.Decides.{leb_tells, nat_tests}
-use Rattle.std.proofs.lemmas.List.{length-map}
-use Rattle.std.proofs.lemmas.List.Elements.{All-head, All-tail, All-map, All-from_get_or}
+use Rattle.std.proofs.lemmas.List.Elements.{All-from_get_or}
+use Rattle.std.proofs.lemmas.List.Folds.{map_fixed}
 use Rattle.rail_model.specs.Table.{Table, Mission, IsTable}
-use Rattle.mission_table.specs.Ways.{missions_from}
 use Rattle.section_marks.specs.Keeping.{KeepsTo}
 use Rattle.section_marks.specs.declared.marks.Marks.TheVariants.{Four}
 use Rattle.document_shapes.specs.Raw.{DocMembers}
-use Rattle.document_shapes.proofs.EachLemmas.{each-changed, each-good}
-use Rattle.layout_json.specs.Doc.{Doc, DocTable, IsDoc, names_of}
+use Rattle.layout_json.specs.Doc.{Doc, DocTable, IsDoc, doc_table, table_at}
 use Rattle.layout_json.specs.Keeps.{IsTaken, AreMembersOf}
-use Rattle.layout_json.specs.Members.{members_in, table_members_in, in_version}
+use Rattle.layout_json.specs.Members.{members_in, in_version}
 use Rattle.layout_json.specs.Migrated.{staying, staying_table, later_version, migrated, IsMigrated}
-use Rattle.layout_json.specs.Reading.{tables_refusal}
-use Rattle.layout_json.specs.Tables.{doc_table_of, exits_or_none}
-use Rattle.layout_json.proofs.DocBack.{no_table}
-use Rattle.layout_json.proofs.DocMade.{IsTabled}
-use Rattle.layout_json.proofs.NamedLemmas.{of_version}
-use Rattle.layout_json.proofs.TableBack.{IsTableOf, doc_table-made, doc_table-again}
-use Rattle.layout_json.proofs.Taken.{makes, made-of}
+use Rattle.layout_json.specs.Tables.{exits_or_none}
+use Rattle.layout_json.proofs.FormedDoc.{no_table, IsMade, from, again}
+use Rattle.layout_json.proofs.NamedLemmas.{of-version}
+use Rattle.layout_json.proofs.Taken.{Makes, makes}
 use Rattle.layout_json.proofs.Marked.{sections-kept}
 use Rattle.layout_json.proofs.WaysBack.{missions-made_of}
-
--- ---- in version 1 no train leaves
 
 all_stay : (ms : List Mission) (n : ℕ) → map (λ m. m.exits) ms ≡ replicate n false → map staying ms ≡ ms
 all_stay [] n h = refl
@@ -34,68 +26,49 @@ all_stay (m ∷ ms) (suc n) h =
     let rest : map (λ m. m.exits) ms ≡ replicate n false = cc in
     ap₂ (λ e later. record { points = m.points; exits = e } ∷ later) (sym here) (all_stay ms n rest)
 
-each_same : (f : DocTable → DocTable) (ts : List DocTable) → ((k : ℕ) (d : DocTable) → k < length ts → f (get_or ts k d) ≡ get_or ts k d) → map f ts ≡ ts
-each_same f [] h = refl
-each_same f (t ∷ ts) h = ap₂ (λ x xs. x ∷ xs) (h 0 t (omega arith)) (each_same f ts (λ k d lt. h (suc k) d (omega (arith, lt))))
-
-stays : (D : Doc) → IsTaken (in_version 1 D) → map staying_table D.tables ≡ D.tables
-stays D taken =
-    let n = length D.trains in
-    let made = makes (members_in (in_version 1 D)) (in_version 1 D) taken in
-    each_same staying_table D.tables
-    (λ k d lt. each-good (doc_table_of 1 D.layout n) (λ x. x.exits ≡ None) (λ _ y. staying_table y ≡ y)
-    (λ t x y none h.
-    let was = doc_table-made 1 D.layout n t x y h in
-    let back = missions-made_of D.layout n x.missions (exits_or_none n x.exits) y.table.missions was.table.missions in
-    ap (λ ms. record y { table = record y.table { missions = ms } }) (all_stay y.table.missions n (back.exits_are ∙ ap (exits_or_none n) none)))
-    0 (members_in (in_version 1 D)).tables D.tables (All-map (λ x. x.exits ≡ None) (table_members_in 1 (names_of D)) D.tables (λ i e there. refl)) made.tabled.made k d lt)
-
--- ---- and in version 2 it is taken
-
 of_four : (T : Table) → IsTable T → KeepsTo Four T
 of_four T h = record {
   limits = λ s lt. (h.sections s lt).low_limit;
   shares = λ s i k lt train within. (h.sections s lt).not_above i k train within;
 }
 
-module _ (D : Doc) where
+module _ (D : Doc) (taken : IsTaken (in_version 1 D)) where
   abbrev n : ℕ
   n = length D.trains
 
-  later_step : (t : ℕ) (y z : DocTable) → (z ≡ y) × IsTable y.table → doc_table_of 1 D.layout n t (table_members_in 1 (names_of D) y) ≡ Ok y
-      → doc_table_of 2 D.layout n t (table_members_in 2 (names_of D) z) ≡ Ok z
-  later_step t y z r h =
-      let old = table_members_in 1 (names_of D) y in
-      let new = table_members_in 2 (names_of D) y in
-      let was = doc_table-made 1 D.layout n t old y h in
-      let back = missions-made_of D.layout n old.missions (exits_or_none n old.exits) y.table.missions was.table.missions in
-      let table : IsTableOf 2 D.layout n t new y.table =
-      record {
-        missions = ap (missions_from D.layout n old.missions) back.exits_are ∙ was.table.missions;
-        sections = sections-kept y.table r.1 Four (of_four y.table r.1);
-        connections = was.table.connections;
-        connections_are = was.table.connections_are;
-      } in
-      subst (λ w. doc_table_of 2 D.layout n t (table_members_in 2 (names_of D) w) ≡ Ok w) (sym r.0)
-      (doc_table-again 2 D.layout n t (names_of D) refl new (of_version 2 (names_of D) y) y (record { due = was.due; table = table; times = was.times }))
+  made : Makes (members_in (in_version 1 D)) (in_version 1 D)
+  made = makes (members_in (in_version 1 D)) (in_version 1 D) taken
 
-  same_tables : (ts : List DocTable) → All (λ t. IsTable t.table) ts → AllZip (λ y z. (z ≡ y) × IsTable y.table) ts ts
-  same_tables [] h = tt
-  same_tables (t ∷ ts) h = ((refl, All-head (λ t. IsTable t.table) t ts h), same_tables ts (All-tail (λ t. IsTable t.table) t ts h))
+  own : (t : ℕ) → t < length D.tables → IsMade D.layout n 1 t (doc_table D t)
+  own = from (members_in (in_version 1 D)) (in_version 1 D) made (of-version (in_version 1 D))
 
-  pub later-is-taken : IsTaken (in_version 1 D) → All (λ t. IsTable t.table) D.tables → IsTaken (in_version 2 D)
-  later-is-taken taken formed =
-      let was = makes (members_in (in_version 1 D)) (in_version 1 D) taken in
-      let size = length-map D.tables (table_members_in 2 (names_of D)) ∙ sym (length-map D.tables (table_members_in 1 (names_of D))) in
-      let tabled : IsTabled (members_in (in_version 2 D)) D.layout D.trains D.tables =
-      record {
-        layout = was.tabled.layout;
-        trains_are = was.tabled.trains_are;
-        counted = ap tables_refusal size ∙ was.tabled.counted;
-        made = each-changed (doc_table_of 1 D.layout n) (doc_table_of 2 D.layout n) (λ y z. (z ≡ y) × IsTable y.table) (table_members_in 1 (names_of D)) (table_members_in 2 (names_of D))
-            later_step 0 D.tables D.tables (same_tables D.tables formed) was.tabled.made;
-      } in
-      made-of (members_in (in_version 2 D)) (in_version 2 D) (record { tabled = tabled; start = was.start; version_is = refl; start_is = refl })
+  -- in version 1 no train leaves
+  stays : map staying_table D.tables ≡ D.tables
+  stays =
+      map_fixed staying_table D.tables (All-from_get_or (λ y. staying_table y ≡ y) D.tables no_table
+      (λ t lt.
+      let x = own t lt in
+      let y = doc_table D t in
+      let back = missions-made_of D.layout n x.0.missions (exits_or_none n x.0.exits) y.table.missions x.2.table.missions in
+      ap (λ ms. record y { table = record y.table { missions = ms } }) (all_stay y.table.missions n (back.exits_are ∙ ap (exits_or_none n) (x.1.exits (omega arith))))))
+
+  -- and in version 2 it is taken
+  pub later-is-taken : ((t : ℕ) → t < length D.tables → IsTable (table_at D t)) → IsTaken (in_version 2 D)
+  later-is-taken formed =
+      again (members_in (in_version 1 D)) (in_version 1 D) made (of-version (in_version 1 D)) 2 D.tables refl
+      (λ t lt.
+      let x = own t lt in
+      (x.0, record { exits = λ low. absurd (omega (arith, low)); connections = λ low. x.1.connections (omega arith) }, record {
+        due = x.2.due;
+        table = record {
+          missions = x.2.table.missions;
+          sections = sections-kept (table_at D t) (formed t lt) Four (of_four (table_at D t) (formed t lt));
+          connections = x.2.table.connections;
+          connections_are = x.2.table.connections_are;
+        };
+        times = x.2.times;
+      }))
+      made.start
 
 -- ---- the migrated document
 
@@ -115,12 +88,11 @@ migrated-is-later D formed taken first last = elim (leb_tells 2 D.version) [
       let one : D.version ≡ 1 = omega (arith, older.1, first) in
       let test : (D.version == 1) ≡ true = grind (arith, nat_tests) in
       let old : IsTaken (in_version 1 D) = subst (λ v. IsTaken (in_version v D)) one taken in
-      let tables : All (λ t. IsTable t.table) D.tables = All-from_get_or (λ t. IsTable t.table) D.tables no_table formed.formed in
       record {
         is = rw test (ap (λ ts. record D { version = 2; tables = ts }) (sym (stays D old)));
         first = rw test (omega arith);
         last = rw test (omega arith);
-        taken = rw test (later-is-taken D old tables);
+        taken = rw test (later-is-taken D old formed.formed);
       }
 ]
 

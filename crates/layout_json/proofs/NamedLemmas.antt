@@ -31,10 +31,9 @@ since-none least version a older = let test : nat_le least version ≡ false = g
 pub of_version : (version : ℕ) (N : Names) (t : DocTable) → IsOfVersion version (table_members_in version N t)
 of_version version N t = record { exits = since-none 2 version _; connections = since-none 3 version _ }
 
+pub of-version : (D : Doc) → All (IsOfVersion D.version) (members_in D).tables
+of-version D = All-map (IsOfVersion D.version) (table_members_in D.version (names_of D)) D.tables (λ k d lt. of_version D.version (names_of D) (get_or D.tables k d))
+
 -- a document's own members can be read
 pub members-are-read : (D : Doc) → 1 ≤ D.version → D.version ≤ 3 → IsRead (members_in D)
-members-are-read D first last = record {
-  first = first;
-  last = last;
-  tables = All-map (IsOfVersion D.version) (table_members_in D.version (names_of D)) D.tables (λ k d lt. of_version D.version (names_of D) (get_or D.tables k d));
-}
+members-are-read D first last = record { first = first; last = last; tables = of-version D }
