@@ -39,26 +39,15 @@ pub own_first : (M : List Mission) (r : List Pair) (n : ℕ) → (rest : List (L
 own_first M r zero = ([], rings_from-zero M r ∙ sym (append-nil (own_ring M r)))
 own_first M r (suc n) = (flat_map (λ w. rings_from M (r ++ w ∷ []) n) (pairs M), rings_from-next M r n)
 
--- one element more
-pub flat-more : {X Y : Type 0} (f : X → List Y) (xs : List X) (k : ℕ) (x : X) → k < length xs → x ≡ slice_index_or xs k x →
-    flat_map f (take (k + 1) xs) ≡ flat_map f (take k xs) ++ f x
-flat-more f xs k x l at =
-    ap (flat_map f) (take_more xs k x l ∙ ap (λ y. take k xs ++ y ∷ []) (sym at)) ∙ sym (flat_map_more f [] (take k xs) x)
+module _ {X Y : Type 0} (f : X → List Y) (xs : List X) (k : ℕ) (x : X) (l : k < length xs) (at : x ≡ slice_index_or xs k x) where
+  -- one element more
+  flat-more : flat_map f (take (k + 1) xs) ≡ flat_map f (take k xs) ++ f x
+  flat-more = ap (flat_map f) (take_more xs k x l ∙ ap (λ y. take k xs ++ y ∷ []) (sym at)) ∙ sym (flat_map_more f [] (take k xs) x)
 
--- the parts before an element, its own, and those after
-pub flat-split : {X Y : Type 0} (f : X → List Y) (xs : List X) (k : ℕ) (x : X) → k < length xs → x ≡ slice_index_or xs k x →
-    flat_map f xs ≡ (flat_map f (take k xs) ++ f x) ++ flat_map f (drop (k + 1) xs)
-flat-split f xs k x l at =
-    ap (flat_map f) (sym (take-append-drop (k + 1) xs)) ∙ flat_map-append f (take (k + 1) xs) (drop (k + 1) xs)
-    ∙ ap (λ ys. ys ++ flat_map f (drop (k + 1) xs)) (flat-more f xs k x l at)
-
--- a part more
-pub added_more : {X : Type 0} (f : X → List (List Pair)) (xs : List X) (k : ℕ) (x : X) (base own before after added : List (List Pair)) → k < length xs → x ≡ slice_index_or xs k x →
-    before ≡ base ++ (own ++ flat_map f (take k xs)) → after ≡ before ++ added → added ≡ f x → after ≡ base ++ (own ++ flat_map f (take (k + 1) xs))
-added_more f xs k x base own before after added l at so_far pushed value =
-    let parts : List (List Pair) = flat_map f (take k xs) in
-    pushed ∙ ap (λ v. before ++ v) value ∙ ap (λ v. v ++ f x) so_far ∙ append_assoc base (own ++ parts) (f x)
-    ∙ ap (λ v. base ++ v) (append_assoc own parts (f x) ∙ ap (λ v. own ++ v) (sym (flat-more f xs k x l at)))
+  -- the parts before an element, its own, and those after
+  pub flat-split : flat_map f xs ≡ (flat_map f (take k xs) ++ f x) ++ flat_map f (drop (k + 1) xs)
+  flat-split =
+      ap (flat_map f) (sym (take-append-drop (k + 1) xs)) ∙ flat_map-append f (take (k + 1) xs) (drop (k + 1) xs) ∙ ap (λ ys. ys ++ flat_map f (drop (k + 1) xs)) flat-more
 
 -- the last part
 pub added_all : {X : Type 0} (f : X → List (List Pair)) (xs : List X) (k : ℕ) (base own found whole : List (List Pair)) → length xs ≤ k →
@@ -66,16 +55,19 @@ pub added_all : {X : Type 0} (f : X → List (List Pair)) (xs : List X) (k : ℕ
 added_all f xs k base own found whole past so_far split =
     so_far ∙ ap (λ ys. base ++ (own ++ flat_map f ys)) (take_all k xs past) ∙ ap (λ v. base ++ v) (sym split)
 
--- an error came while a part was added
-pub failed_part : {U X : Type 0} (f : X → List (List Pair)) (xs : List X) (k : ℕ) (x : X) (base own before after whole : List (List Pair)) (r : Result U Rings) (e : Rings) →
-    k < length xs → x ≡ slice_index_or xs k x → before ≡ base ++ (own ++ flat_map f (take k xs)) → whole ≡ own ++ flat_map f xs →
-    IsErrAnd r (λ y. y ≡ e) → Fails (before ++ f x) e → Adds base after whole r
-failed_part f xs k x base own before after whole r e l at so_far split err fails =
-    let parts : List (List Pair) = flat_map f (take k xs) in
-    let rest : List (List Pair) = flat_map f (drop (k + 1) xs) in
-    let first : List (List Pair) = own ++ (parts ++ f x) in
-    adds_err base after first rest whole r e err
-    (split ∙ ap (λ v. own ++ v) (flat-split f xs k x l at) ∙ sym (append_assoc own (parts ++ f x) rest))
-    (subst (λ v. Fails v e)
-    (ap (λ v. v ++ f x) so_far ∙ append_assoc base (own ++ parts) (f x) ∙ ap (λ v. base ++ v) (append_assoc own parts (f x)))
-    fails)
+module _ {X : Type 0} (f : X → List (List Pair)) (xs : List X) (k : ℕ) (x : X) (l : k < length xs) (at : x ≡ slice_index_or xs k x) (base own before : List (List Pair))
+    (so_far : before ≡ base ++ (own ++ flat_map f (take k xs))) where
+  with-part : before ++ f x ≡ base ++ (own ++ (flat_map f (take k xs) ++ f x))
+  with-part = ap (λ v. v ++ f x) so_far ∙ append_assoc base (own ++ flat_map f (take k xs)) (f x) ∙ ap (λ v. base ++ v) (append_assoc own (flat_map f (take k xs)) (f x))
+
+  -- a part more
+  pub added_more : (after added : List (List Pair)) → after ≡ before ++ added → added ≡ f x → after ≡ base ++ (own ++ flat_map f (take (k + 1) xs))
+  added_more after added pushed value = pushed ∙ ap (λ v. before ++ v) value ∙ with-part ∙ ap (λ v. base ++ (own ++ v)) (sym (flat-more f xs k x l at))
+
+  -- an error came while a part was added
+  pub failed_part : {U : Type 0} (after whole : List (List Pair)) (r : Result U Rings) (e : Rings) → whole ≡ own ++ flat_map f xs → IsErrAnd r (λ y. y ≡ e) → Fails (before ++ f x) e → Adds base after whole r
+  failed_part after whole r e split err fails =
+      let rest : List (List Pair) = flat_map f (drop (k + 1) xs) in
+      adds_err base after (own ++ (flat_map f (take k xs) ++ f x)) rest whole r e err
+      (split ∙ ap (λ v. own ++ v) (flat-split f xs k x l at) ∙ sym (append_assoc own (flat_map f (take k xs) ++ f x) rest))
+      (subst (λ v. Fails v e) with-part fails)

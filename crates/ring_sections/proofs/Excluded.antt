@@ -1,9 +1,10 @@
 -- The sections of circular waits exclude them.
-use Rattle.std.proofs.Common.{◌≡◌, ◌≢◌, ℕ, zero, suc, ◌<◌, ◌≤◌, ◌==◌, List, [], ◌∷◌, map, length, Some, arith, ap, ◌∙◌, subst, sym}
-use Rattle.std.specs.Prelude.{All, slice_get, slice_index_or}
+use Rattle.std.proofs.Common.{◌≡◌, ◌≢◌, ℕ, suc, ◌<◌, ◌≤◌, ◌==◌, List, [], ◌∷◌, map, length, Some, arith, ap, ◌∙◌, subst, sym}
+use Rattle.std.specs.Prelude.{All, slice_get}
 use Rattle.std.specs.Int.Signed.{<ℤ_irrefl, <ℤ-≤ℤ_trans}
 use Rattle.std.proofs.lemmas.Bool.{ne_eqb}
-use Rattle.std.proofs.lemmas.List.{length-map}
+use Rattle.std.proofs.lemmas.List.{length-map, get_or-map}
+use Rattle.std.proofs.lemmas.Option.{slice_get-get_or}
 use Rattle.rail_model.specs.Table.{Mission}
 use Rattle.rail_model.specs.Move.{IsOver}
 use Rattle.forbidden_states.specs.Forbid.{Stay, AreStays, InStays}
@@ -42,15 +43,11 @@ ring-inside : (p : List ℕ) (r : List Pair) → HasRing p r → InStays p (stay
 ring-inside p [] h = tt
 ring-inside p (w ∷ r) h = let e = h.0 in ((omega arith, omega arith), ring-inside p r h.1)
 
-get-map : (rs : List (List Pair)) (k : ℕ) (r : List Pair) → k < length rs → slice_index_or rs k r ≡ r → slice_get (map stays rs) k ≡ Some (stays r)
-get-map [] k r l e = absurd (omega arith)
-get-map (q ∷ rs) zero r l e = ap (λ v. Some (stays v)) e
-get-map (q ∷ rs) (suc k) r l e = get-map rs k r (omega arith) e
-
 pub excludes_rings : (M : List Mission) (rs : List (List Pair)) → All (IsRing M) rs → Excludes (ring_table M rs) rs
 excludes_rings M rs all p r legal here h =
     let g : IsRing M r = subst (IsRing M) here.2 (all here.0 r here.1) in
-    let b : slice_get (map stays rs) here.0 ≡ Some (stays r) = get-map rs here.0 r here.1 here.2 in
+    let b : slice_get (map stays rs) here.0 ≡ Some (stays r) =
+    slice_get-get_or (map stays rs) here.0 (stays r) (omega (arith, length-map rs stays, here.1)) ∙ ap Some (get_or-map stays rs here.0 r (stays r) here.1 ∙ ap stays here.2) in
     let n : length (stays r) ≡ length r = length-map r (λ w. record { train = w.0; range = record { lo = w.1; hi = w.1 } }) in
     let s : 2 ≤ length r = g.several in
     let over : IsOver (ring_table M rs) p here.0 =

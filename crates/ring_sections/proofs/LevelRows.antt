@@ -7,6 +7,7 @@ use Rattle.ring_sections.specs.declared.levels.Step.{Step}
 use Rattle.ring_sections.specs.Ring.{Pair, point_at, next_point}
 use Rattle.ring_sections.specs.Search.{standing_at, standing}
 use Rattle.ring_sections.specs.Levels.{IsStep, IsMade, Makes, AreSteps, IsStepBelow, IsSettled, AreLevels, IsChart}
+use Rattle.ring_sections.proofs.PointBounds.{low_points}
 use Rattle.ring_sections.proofs.RingRows.{uneven}
 
 -- T1 goes from point 5 to point 2
@@ -77,9 +78,7 @@ are_levels : AreLevels uneven (0, 1) levels
 are_levels = record { goal = goal; steps = steps }
   where
     goal : (q : ℕ) → Some 1 ≡ Some q → slice_index levels q ≡ 0
-    goal zero e = absurd cc
-    goal (suc zero) e = refl
-    goal (suc (suc q)) e = absurd cc
+    goal q e = let same : 1 ≡ q = cc in subst (λ x. slice_index levels x ≡ 0) same refl
 
     down : (a b c d : ℕ) → slice_index levels c ≤ slice_index levels d + 1 → Some c ≡ Some a → Some d ≡ Some b → slice_index levels a ≤ slice_index levels b + 1
     down a b c d low from to = let here : c ≡ a = cc in let there : d ≡ b = cc in subst (λ x. slice_index levels x ≤ slice_index levels b + 1) here (subst (λ x. slice_index levels c ≤ slice_index levels x + 1) there low)
@@ -97,19 +96,7 @@ are_levels = record { goal = goal; steps = steps }
 is_chart : IsChart uneven (standing uneven 7) levels (0, 1)
 is_chart = record { points = points; places = refl; levels = are_levels }
   where
-    low : (a q : ℕ) → a < 7 → Some a ≡ Some q → q < 7
-    low a q less e = let same : a ≡ q = cc in omega arith
-
     points : (i k q : ℕ) → point (unmarked uneven) i k ≡ Some q → q < 7
-    points zero zero q e = low 0 q (lit< tt) e
-    points zero (suc zero) q e = low 1 q (lit< tt) e
-    points zero (suc (suc zero)) q e = low 2 q (lit< tt) e
-    points zero (suc (suc (suc zero))) q e = low 3 q (lit< tt) e
-    points zero (suc (suc (suc (suc k)))) q e = absurd cc
-    points (suc zero) zero q e = low 4 q (lit< tt) e
-    points (suc zero) (suc zero) q e = low 5 q (lit< tt) e
-    points (suc zero) (suc (suc zero)) q e = low 2 q (lit< tt) e
-    points (suc zero) (suc (suc (suc zero))) q e = low 1 q (lit< tt) e
-    points (suc zero) (suc (suc (suc (suc zero)))) q e = low 6 q (lit< tt) e
-    points (suc zero) (suc (suc (suc (suc (suc k))))) q e = absurd cc
+    points zero k q e = low_points (0 ∷ 1 ∷ 2 ∷ 3 ∷ []) 7 k q refl e
+    points (suc zero) k q e = low_points (4 ∷ 5 ∷ 2 ∷ 1 ∷ 6 ∷ []) 7 k q refl e
     points (suc (suc i)) k q e = absurd cc

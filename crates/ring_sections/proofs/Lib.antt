@@ -1,13 +1,9 @@
 pub mod Adding
-pub mod AllPlaced
-pub mod Answering
 pub mod Begun
-pub mod Covering
 pub mod Excluded
 pub mod LeadingBack
 pub mod LeadingRows
 pub mod LevelRows
-pub mod OwnRing
 pub mod PointBounds
 pub mod Pruned
 pub mod RingLists
@@ -17,4 +13,3 @@ pub mod Rows
 pub mod SearchRows
 pub mod StepLists
 pub mod TrainSets
-pub mod Unbegun

@@ -40,13 +40,10 @@ pairs-all M w l k =
     Among-flat_map (λ i. map (λ a. (i, a)) (below (last (unmarked M) i))) (below (length M)) w.0 w (among-below (length M) w.0 l)
     (Among-map (λ a. (w.0, a)) (below (last (unmarked M) w.0)) w.1 (among-below (last (unmarked M) w.0) w.1 k))
 
-pub contains-among : {X : Type 0} (xs : List X) (x : X) → Contains xs x → Among xs x
-contains-among xs x c = subst (Among xs) c.2 (among-at xs c.0 x c.1)
-
 pub lists_rings : (M : List Mission) (most : ℕ) (r : List Pair) → Contains (rings M most) r ↔ (IsRing M r × (length r ≤ most))
 lists_rings M most r = (
   (λ c.
-      let f = filter-among (is_ring M) (lists_of (pairs M) most) r (contains-among (rings M most) r c) in
+      let f = filter-among (is_ring M) (lists_of (pairs M) most) r (subst (Among (rings M most)) c.2 (among-at (rings M most) c.0 r c.1)) in
       ((Decides-ring M r).0 f.1, lists-short (pairs M) most r f.0)),
   (λ h. among-index (rings M most) r r
       (among-filter (is_ring M) (lists_of (pairs M) most) r

@@ -1,13 +1,13 @@
 -- Worked rows: a circular wait of two trains at different places, its section, and answers that add.
-use Rattle.std.proofs.Common.{◌≡◌, ◌≢◌, ℕ, zero, suc, ◌<◌, ◌≤◌, ◌%◌, ◌+◌, List, [], ◌∷◌, ℤ, pos, ◌≤ℤ◌, false, Some, None, Ok, Err, refl, ◌∙◌, ap, sym, subst, lit<, lit≤, arith, inl, inr}
+use Rattle.std.proofs.Common.{◌≡◌, ℕ, zero, suc, ◌<◌, ◌≤◌, List, [], ◌∷◌, ℤ, pos, ◌≤ℤ◌, false, Some, None, Ok, Err, refl, ◌∙◌, ap, sym, subst, lit<, lit≤, arith, inl, inr}
 use Rattle.std.specs.Prelude.{replicate, ◌+ℤ◌}
 use Rattle.std.proofs.lemmas.Int.{ints}
-use Rattle.rail_model.specs.Table.{Mission, last, place, share, count}
-use Rattle.forbidden_states.specs.Forbid.{unmarked}
+use Rattle.rail_model.specs.Table.{Mission, place, share, count}
 use Rattle.ring_sections.specs.declared.refused.Rings.TheVariants.{Many, Memory}
 use Rattle.ring_sections.specs.Answer.{too_many, Adds}
 use Rattle.ring_sections.specs.Marking.{ring_table, HasRing, Excludes}
-use Rattle.ring_sections.specs.Ring.{Pair, IsRing, pair_at, point_at, next_point}
+use Rattle.ring_sections.specs.Ring.{Pair, IsRing}
+use Rattle.ring_sections.proofs.RingTests.{Decides-ring}
 
 -- a corridor between points 1 and 2: T0 enters it with its first step, T1 with its second
 abbrev pub uneven : List Mission
@@ -17,49 +17,7 @@ abbrev pub ring : List Pair
 ring = (0, 1) ∷ (1, 2) ∷ []
 
 is_ring : IsRing uneven ring
-is_ring = record {
-  several = lit≤ tt;
-  train = train;
-  unfinished = unfinished;
-  one_each = one_each;
-  apart = apart;
-  waits = waits;
-  least_first = least_first;
-}
-  where
-    train : (k : ℕ) → k < 2 → (pair_at ring k).0 < 2
-    train zero lt = lit< tt
-    train (suc zero) lt = lit< tt
-    train (suc (suc k)) lt = absurd (omega (arith, lt))
-
-    unfinished : (k : ℕ) → k < 2 → (pair_at ring k).1 < last (unmarked uneven) (pair_at ring k).0
-    unfinished zero lt = lit< tt
-    unfinished (suc zero) lt = lit< tt
-    unfinished (suc (suc k)) lt = absurd (omega (arith, lt))
-
-    one_each : (j k : ℕ) → j < k → k < 2 → (pair_at ring j).0 ≢ (pair_at ring k).0
-    one_each zero (suc zero) less lt same = cc
-    one_each zero zero less lt same = omega (arith, less)
-    one_each (suc j) (suc zero) less lt same = omega (arith, less)
-    one_each (suc j) zero less lt same = omega (arith, less)
-    one_each j (suc (suc k)) less lt same = omega (arith, lt)
-
-    apart : (j k q : ℕ) → j < k → k < 2 → point_at uneven (pair_at ring j) ≡ Some q → point_at uneven (pair_at ring k) ≡ Some q → ⊥
-    apart zero (suc zero) q less lt here there = cc
-    apart zero zero q less lt here there = omega (arith, less)
-    apart (suc j) (suc zero) q less lt here there = omega (arith, less)
-    apart (suc j) zero q less lt here there = omega (arith, less)
-    apart j (suc (suc k)) q less lt here there = omega (arith, lt)
-
-    waits : (k : ℕ) → k < 2 → (q : ℕ) × (next_point uneven (pair_at ring k) ≡ Some q) × (point_at uneven (pair_at ring ((k + 1) % 2)) ≡ Some q)
-    waits zero lt = (2, refl, refl)
-    waits (suc zero) lt = (1, refl, refl)
-    waits (suc (suc k)) lt = absurd (omega (arith, lt))
-
-    least_first : (k : ℕ) → 0 < k → k < 2 → 0 < (pair_at ring k).0
-    least_first zero some lt = absurd (omega (arith, some))
-    least_first (suc zero) some lt = lit< tt
-    least_first (suc (suc k)) some lt = absurd (omega (arith, lt))
+is_ring = (Decides-ring uneven ring).0 refl
 
 -- not from its greater train on
 not_from_T1 : IsRing uneven ((1, 2) ∷ (0, 1) ∷ []) → ⊥

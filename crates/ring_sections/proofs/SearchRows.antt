@@ -3,6 +3,7 @@ use Rattle.std.proofs.Common.{◌≡◌, ℕ, zero, suc, ◌<◌, List, [], ◌�
 use Rattle.rail_model.specs.Table.{Mission}
 use Rattle.ring_sections.specs.Ring.{pair_at}
 use Rattle.ring_sections.specs.Search.{IsPair, WaitsFor, AreApart, IsPlaced, stands_at, standing_at, standing, ArePointsBelow, IsTaken, fits, own_ring, rings_from}
+use Rattle.ring_sections.proofs.PointBounds.{low_points}
 use Rattle.ring_sections.proofs.RingRows.{uneven, ring}
 
 -- T1 has places 0 to 4, and its last is none of a pair
@@ -52,11 +53,8 @@ abbrev pub short : List Mission
 short = (record { points = 2 ∷ 5 ∷ []; exits = false }) ∷ (record { points = 4 ∷ []; exits = false }) ∷ []
 
 points_below_6 : ArePointsBelow short 6
-points_below_6 zero zero q e = let same : q ≡ 2 = cc in omega arith
-points_below_6 zero (suc zero) q e = let same : q ≡ 5 = cc in omega arith
-points_below_6 zero (suc (suc k)) q e = absurd cc
-points_below_6 (suc zero) zero q e = let same : q ≡ 4 = cc in omega arith
-points_below_6 (suc zero) (suc k) q e = absurd cc
+points_below_6 zero k q e = low_points (2 ∷ 5 ∷ []) 6 k q refl e
+points_below_6 (suc zero) k q e = low_points (4 ∷ []) 6 k q refl e
 points_below_6 (suc (suc i)) k q e = absurd cc
 
 not_below_5 : ArePointsBelow short 5 → ⊥

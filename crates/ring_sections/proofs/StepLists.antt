@@ -1,8 +1,8 @@
 -- The pairs and the steps of trains, and the levels that steps keep.
-use Rattle.std.proofs.Common.{◌≡◌, ℕ, ◌+◌, ◌-◌, ◌<◌, ◌≤◌, List, [], length, Some, true, false, refl, arith, ap, ◌∙◌, sym, subst, inl, inr}
+use Rattle.std.proofs.Common.{◌≡◌, ℕ, ◌+◌, ◌-◌, ◌<◌, ◌≤◌, List, [], length, Some, true, false, refl, arith, ap, ◌∙◌, sym, subst}
 use Rattle.std.specs.Prelude.{All, slice_index, slice_index_or, if◌then◌else◌}
-use Rattle.std.proofs.lemmas.Bool.Decides.{leb_tells}
-use Rattle.std.proofs.lemmas.List.{get_or_default}
+use borrow.Author.Count.{below_more}
+use Rattle.std.proofs.lemmas.List.Elements.{All-contains, All-filter, filter_passes}
 use Rattle.std.proofs.lemmas.Option.{slice_get_within}
 use Rattle.std.proofs.lemmas.List.FromFn.{get_or-map-range_with_len, length-map-range_with_len}
 use Rattle.rail_model.specs.Table.{Mission, mission, last, last_of}
@@ -10,7 +10,7 @@ use Rattle.rail_model.specs.Checks.{below}
 use Rattle.rail_model.proofs.Found.{Among}
 use Rattle.rail_model.proofs.Agree.{Decides-same_point}
 use Rattle.forbidden_states.specs.Forbid.{unmarked}
-use Rattle.forbidden_states.proofs.Members.{map-among, filter-among, among-filter, flat-among, among-at, below-among}
+use Rattle.forbidden_states.proofs.Members.{map-among, among-filter, flat-among, among-at, below-among}
 use Rattle.ring_sections.specs.declared.levels.Step.{Step}
 use Rattle.ring_sections.specs.Ring.{Pair, point_at, next_point, train_pairs, pairs}
 use Rattle.ring_sections.specs.Search.{IsPair, ArePointsBelow, stands_at, standing_at, standing}
@@ -20,26 +20,19 @@ use Rattle.ring_sections.proofs.RingLists.{among-index, pairs-all}
 pub among-All : {X : Type 0} (P : X → Type 0) (xs : List X) → ((x : X) → Among xs x → P x) → All P xs
 among-All P xs h k d l = h (slice_index_or xs k d) (among-at xs k d l)
 
-pub valid-pair : (M : List Mission) (w : Pair) → Among (pairs M) w → IsPair M w
-valid-pair M w a =
+pub valid-pairs : (M : List Mission) → All (IsPair M) (pairs M)
+valid-pairs M = among-All (IsPair M) (pairs M) (λ w a.
     let u = flat-among (λ i. train_pairs i (mission (unmarked M) i)) (below (length M)) w a in
     let v = map-among (λ k. (u.0, k)) (below (last (unmarked M) u.0)) w u.2 in
-    subst (IsPair M) v.2 (below-among (length M) u.0 u.1, below-among (last (unmarked M) u.0) v.0 v.1)
-
-pub valid-pairs : (M : List Mission) → All (IsPair M) (pairs M)
-valid-pairs M = among-All (IsPair M) (pairs M) (valid-pair M)
+    subst (IsPair M) v.2 (below-among (length M) u.0 u.1, below-among (last (unmarked M) u.0) v.0 v.1))
 
 -- a place with a point after it is below the last
 below_last : (m : Mission) (k : ℕ) → k + 1 < length m.points → k < last_of m
 below_last m k short = elim (m.exits) as (λ b. k < (if b then length m.points else length m.points - 1)) [ true ↦ omega arith | false ↦ omega arith ]
 
--- what is at a point
-pub standing-at : (M : List Mission) (n q : ℕ) → q < n → slice_index_or (standing M n) q [] ≡ standing_at M q
-standing-at M n q l = get_or-map-range_with_len (standing_at M) 0 n q q [] l (omega arith)
-
 -- the pairs at a point, as they are looked up
 pub looked_up : (M : List Mission) (n q : ℕ) (all : List (List Pair)) (here : List Pair) → q < n → all ≡ standing M n → here ≡ slice_index_or all q [] → here ≡ standing_at M q
-looked_up M n q all here l is at = at ∙ ap (λ (s : List (List Pair)). slice_index_or s q []) is ∙ standing-at M n q l
+looked_up M n q all here l is at = at ∙ ap (λ (s : List (List Pair)). slice_index_or s q []) is ∙ get_or-map-range_with_len (standing_at M) 0 n q q [] l (omega arith)
 
 -- a point that is looked up among them
 pub point_within : (M : List Mission) (n q : ℕ) (all : List (List Pair)) → q < n → all ≡ standing M n → q < length all
@@ -49,17 +42,6 @@ point_within M n q all l is =
 pub stands-among : (M : List Mission) (q : ℕ) (w : Pair) → IsPair M w → point_at M w ≡ Some q → Among (standing_at M q) w
 stands-among M q w pair at =
     among-filter (stands_at M q) (pairs M) w (pairs-all M w pair.0 pair.1) ((Decides-same_point (point_at M w) (Some q)).1 (q, at, refl))
-
-pub here_stands : (M : List Mission) (q k : ℕ) (here : List Pair) → here ≡ standing_at M q → k < length here → point_at M (slice_index_or here k (0, 0)) ≡ Some q
-here_stands M q k here is l =
-    let a : Among (standing_at M q) (slice_index_or here k (0, 0)) = subst (λ (s : List Pair). Among s (slice_index_or here k (0, 0))) is (among-at here k (0, 0) l) in
-    let same = (Decides-same_point (point_at M (slice_index_or here k (0, 0))) (Some q)).0 (filter-among (stands_at M q) (pairs M) (slice_index_or here k (0, 0)) a).1 in
-    same.1 ∙ sym same.2
-
-pub here_valid : (M : List Mission) (q k : ℕ) (here : List Pair) → here ≡ standing_at M q → k < length here → IsPair M (slice_index_or here k (0, 0))
-here_valid M q k here is l =
-    let a : Among (standing_at M q) (slice_index_or here k (0, 0)) = subst (λ (s : List Pair). Among s (slice_index_or here k (0, 0))) is (among-at here k (0, 0) l) in
-    valid-pair M (slice_index_or here k (0, 0)) (filter-among (stands_at M q) (pairs M) (slice_index_or here k (0, 0)) a).0
 
 pub steps-below : (M : List Mission) (n : ℕ) (steps : List Step) → ArePointsBelow M n → All (IsStep M) steps → All (IsStepBelow n) steps
 steps-below M n steps points are k d l = let s = are k d l in (points s.0.0 s.0.1 _ s.1, points s.0.0 (s.0.1 + 1) _ s.2)
@@ -73,36 +55,30 @@ step-made M n steps w a b points are l at next =
     let k = among-index (standing_at M a) w (0, 0) (stands-among M a w pair at) in
     subst (Makes M steps a) k.2 (are.all a (points w.0 w.1 a at) k.0 (0, 0) k.1) b next
 
--- what is settled for a step is settled for every earlier train that makes it
-settled-made : (above : ℕ) (levels : List ℕ) (steps : List Step) (s : Step) → All (IsSettled above levels) steps → IsMade steps s → above < s.train →
-    slice_index levels s.from ≤ slice_index levels s.to + 1
-settled-made above levels steps s settled made later =
-    let t : Step = made.0 in
-    let here : IsSettled above levels t = subst (IsSettled above levels) made.1.2 (settled made.1.0 t made.1.1) in
-    subst (λ q. slice_index levels q ≤ slice_index levels s.to + 1) made.2
-    (subst (λ q. slice_index levels t.from ≤ slice_index levels q + 1) made.3 (here (omega (arith, later, made.4))))
-
 -- Settled levels, with 0 at the point of the first pair, are levels.
 pub settled-levels : (M : List Mission) (n : ℕ) (steps : List Step) (first : Pair) (levels : List ℕ) → ArePointsBelow M n → AreSteps M n steps →
     ((q : ℕ) → point_at M first ≡ Some q → slice_index levels q ≡ 0) → All (IsSettled first.0 levels) steps → AreLevels M first levels
 settled-levels M n steps first levels points are goal settled = record {
   goal = goal;
   steps = λ w a b above l at next.
-      settled-made first.0 levels steps (record { train = w.0; from = a; to = b }) settled (step-made M n steps w a b points are l at next) above;
+      let made = step-made M n steps w a b points are l at next in
+      let here : slice_index levels made.0.from ≤ slice_index levels made.0.to + 1 = All-contains (IsSettled first.0 levels) steps made.0 settled made.1 (omega (arith, above, made.4)) in
+      rw (made.2, made.3) at here;
 }
 
 -- ---- the steps from one point more
 
 pub all_valid : (M : List Mission) (q : ℕ) (here : List Pair) → here ≡ standing_at M q → All (IsPair M) here
-all_valid M q here is k d l = subst (IsPair M) (get_or_default here k (0, 0) d l) (here_valid M q k here is l)
+all_valid M q here is = subst (All (IsPair M)) (sym is) (All-filter (stands_at M q) (IsPair M) (pairs M) (valid-pairs M))
 
 pub all_there : (M : List Mission) (q : ℕ) (here : List Pair) → here ≡ standing_at M q → All (λ w. point_at M w ≡ Some q) here
-all_there M q here is k d l = subst (λ (w : Pair). point_at M w ≡ Some q) (get_or_default here k (0, 0) d l) (here_stands M q k here is l)
+all_there M q here is k d l =
+    let stands = subst (All (λ w. stands_at M q w ≡ true)) (sym is) (filter_passes (stands_at M q) (pairs M)) in
+    let same = (Decides-same_point (point_at M (slice_index_or here k d)) (Some q)).0 (stands k d l) in
+    same.1 ∙ sym same.2
 
 pub made_more : (M : List Mission) (before after : List Step) (n : ℕ) (here : List Pair) → ((s : Step) → IsMade before s → IsMade after s) →
     ((q : ℕ) → q < n → All (Makes M before q) (standing_at M q)) → here ≡ standing_at M n → All (Makes M after n) here →
     (q : ℕ) → q < n + 1 → All (Makes M after q) (standing_at M q)
-made_more M before after n here kept so_far is now q l = elim (leb_tells n q) [
-  | inr less ↦ λ k d m b next. kept _ (so_far q less.1 k d m b next)
-  | inl more ↦ subst (λ x. All (Makes M after x) (standing_at M x)) (let e : n ≡ q = omega (arith, more.1) in e) (subst (All (Makes M after n)) is now)
-]
+made_more M before after n here kept so_far is now =
+    below_more (λ q. All (Makes M after q) (standing_at M q)) n (λ q l k d m b next. kept _ (so_far q l k d m b next)) (subst (All (Makes M after n)) is now)

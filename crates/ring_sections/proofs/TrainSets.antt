@@ -1,8 +1,8 @@
 -- Sets of trains as bits, and what of some pairs is outside.
-use Rattle.std.proofs.Common.{◌≡◌, ◌⊎◌, ℕ, zero, suc, ◌+◌, ◌<◌, ◌≤◌, ◌==◌, ◌^◌, true, false, cond, List, [], ◌∷◌, length, arith, ap, ◌∙◌, inl, inr, eq-eqb, ne_eqb}
+use Rattle.std.proofs.Common.{◌≡◌, ◌⊎◌, ℕ, zero, suc, ◌<◌, ◌≤◌, ◌^◌, List, [], ◌∷◌, length, arith, ap, ◌∙◌, inl, inr}
 use Rattle.std.specs.Int.{bit_at}
 use Rattle.std.specs.Int.Bits.{bit_and, bit_or}
-use Rattle.std.proofs.lemmas.Bool.Decides.{eqb_tells, leb_tells}
+use Rattle.std.proofs.lemmas.Bool.Decides.{eqb_tells, leb_tells, nat_tests}
 use Rattle.std.proofs.lemmas.Nat.Bits.{bit_at-zero, bit_at-lt, bit_at-pow_same, bit_at-pow_other, bit_at_or, bit_at_and, bit_at_above}
 use Rattle.std.proofs.lemmas.List.Elements.{All-nil, All-cons}
 use Rattle.ring_sections.specs.declared.train_set.TrainSet.{TrainSet}
@@ -35,9 +35,6 @@ has_apart s t i none h k =
     let z : bit_at (bit_and s.bits t.bits) i ≡ 0 = ap (λ b. bit_at b i) none ∙ bit_at-zero i in
     omega arith
 
-pub has_or_not : (s : TrainSet) (i : ℕ) → HasTrain s i ⊎ (HasTrain s i → ⊥)
-has_or_not s i = elim (eqb_tells (bit_at s.bits i) 1) [ inl is ↦ inl is.1 | inr other ↦ inr other.1 ]
-
 pub has_below : (s : TrainSet) (n i : ℕ) → s.bits < 2 ^ n → HasTrain s i → i < n
 has_below s n i small h = elim (leb_tells n i) [
   | inl above ↦ absurd (let z = bit_at_above s.bits n i small above.1 in omega arith)
@@ -46,68 +43,34 @@ has_below s n i small h = elim (leb_tells n i) [
 
 -- ---- of a list of pairs
 
-count_inside : (s : TrainSet) (w : Pair) (later : List Pair) → HasTrain s w.0 → count_outside s (w ∷ later) ≡ count_outside s later
-count_inside s w later h =
-    let e : (bit_at s.bits w.0 == 1) ≡ true = eq-eqb (bit_at s.bits w.0) 1 h in
-    ap (λ b. cond b 0 1 + count_outside s later) e ∙ (let z : 0 + count_outside s later ≡ count_outside s later = omega arith in z)
-
-count_one : (s : TrainSet) (w : Pair) (later : List Pair) → (HasTrain s w.0 → ⊥) → count_outside s (w ∷ later) ≡ 1 + count_outside s later
-count_one s w later h =
-    let e : (bit_at s.bits w.0 == 1) ≡ false = ne_eqb (bit_at s.bits w.0) 1 h in
-    ap (λ b. cond b 0 1 + count_outside s later) e
-
 pub count_all : (s : TrainSet) (later : List Pair) → count_outside s later ≤ length later
 count_all s [] = omega arith
-count_all s (w ∷ later) = elim (has_or_not s w.0) [
-  | inl h ↦ omega (arith, count_inside s w later h, count_all s later)
-  | inr h ↦ omega (arith, count_one s w later h, count_all s later)
-]
+count_all s (w ∷ later) = grind (arith, nat_tests, count_all s later)
 
 -- where none is outside
 pub count_none : (s : TrainSet) (later : List Pair) (k : ℕ) → count_outside s later ≤ 0 → k < length later → HasTrain s (pair_at later k).0
 count_none s [] k none l = absurd (omega arith)
-count_none s (w ∷ later) k none l = elim (has_or_not s w.0) [
-  | inl h ↦ elim k as (λ j. j < length (w ∷ later) → HasTrain s (pair_at (w ∷ later) j).0) [
-    | zero ↦ λ _. h
-    | suc j ↦ λ m. count_none s later j (omega (arith, count_inside s w later h)) (omega arith)
-  ] l
-  | inr h ↦ absurd (omega (arith, count_one s w later h))
-]
+count_none s (w ∷ later) zero none l = grind (arith, nat_tests)
+count_none s (w ∷ later) (suc k) none l = grind (arith, nat_tests, count_none s later k)
 
 -- a set with a train more has no more outside
 count_more : (s : TrainSet) (i : ℕ) (later : List Pair) → count_outside (with_train s i) later ≤ count_outside s later
 count_more s i [] = omega arith
-count_more s i (w ∷ later) = elim (has_or_not s w.0) [
-  | inl h ↦ omega (arith, count_inside s w later h, count_inside (with_train s i) w later (has_old s i w.0 h), count_more s i later)
-  | inr h ↦ elim (has_or_not (with_train s i) w.0) [
-    | inl g ↦ omega (arith, count_one s w later h, count_inside (with_train s i) w later g, count_more s i later)
-    | inr g ↦ omega (arith, count_one s w later h, count_one (with_train s i) w later g, count_more s i later)
-  ]
-]
+count_more s i (w ∷ later) = grind (arith, nat_tests, has_old s i w.0, count_more s i later)
 
 -- and fewer where the train was outside
-pub count_fewer : (s : TrainSet) (later : List Pair) (k : ℕ) → k < length later → (HasTrain s (pair_at later k).0 → ⊥) →
-    count_outside (with_train s (pair_at later k).0) later < count_outside s later
+pub count_fewer : (s : TrainSet) (later : List Pair) (k : ℕ) → k < length later → (HasTrain s (pair_at later k).0 → ⊥) → count_outside (with_train s (pair_at later k).0) later < count_outside s later
 count_fewer s [] k l h = absurd (omega arith)
-count_fewer s (w ∷ later) zero l h =
-    omega (arith, count_one s w later h, count_inside (with_train s w.0) w later (has_new s w.0), count_more s w.0 later)
-count_fewer s (w ∷ later) (suc k) l h =
-    let i : ℕ = (pair_at later k).0 in
-    elim (has_or_not s w.0) [
-      | inl g ↦ omega (arith, count_inside s w later g, count_inside (with_train s i) w later (has_old s i w.0 g), count_fewer s later k (omega arith) h)
-      | inr g ↦ elim (has_or_not (with_train s i) w.0) [
-        | inl f ↦ omega (arith, count_one s w later g, count_inside (with_train s i) w later f, count_fewer s later k (omega arith) h)
-        | inr f ↦ omega (arith, count_one s w later g, count_one (with_train s i) w later f, count_fewer s later k (omega arith) h)
-      ]
-    ]
+count_fewer s (w ∷ later) zero l h = grind (arith, nat_tests, has_new s w.0, count_more s w.0 later)
+count_fewer s (w ∷ later) (suc k) l h = grind (arith, nat_tests, has_old s (pair_at later k).0 w.0, count_fewer s later k (omega arith) h)
 
 -- All avoid the set, or one doesn't.
 pub avoid_or_meet : (s : TrainSet) (later : List Pair) → Avoids s later ⊎ ((k : ℕ) × (k < length later) × HasTrain s (pair_at later k).0)
 avoid_or_meet s [] = inl (All-nil (λ w. HasTrain s w.0 → ⊥))
-avoid_or_meet s (w ∷ later) = elim (has_or_not s w.0) [
-  | inl h ↦ inr (zero, omega arith, h)
+avoid_or_meet s (w ∷ later) = elim (eqb_tells (bit_at s.bits w.0) 1) [
+  | inl h ↦ inr (zero, omega arith, h.1)
   | inr h ↦ elim (avoid_or_meet s later) [
-    | inl all ↦ inl (All-cons (λ v. HasTrain s v.0 → ⊥) w later h all)
+    | inl all ↦ inl (All-cons (λ v. HasTrain s v.0 → ⊥) w later h.1 all)
     | inr k ↦ inr (suc k.0, omega (arith, k.1), k.2)
   ]
 ]

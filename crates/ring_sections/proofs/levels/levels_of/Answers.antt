@@ -8,15 +8,10 @@ use Rattle.ring_sections.proofs.levels.levels_of.Goals as goal
 use Rattle.ring_sections.proofs.levels.levels_of.Goals.{in-Some, in_default}
 
 -- 0 is read where it was written, and after the end
-set_zero : (xs : List ℕ) (i q : ℕ) → i ≡ q → slice_index (slice_set xs i 0) q ≡ 0
-set_zero [] i q e = refl
-set_zero (x ∷ xs) zero zero e = refl
-set_zero (x ∷ xs) zero (suc q) e = absurd (omega arith)
-set_zero (x ∷ xs) (suc i) zero e = absurd (omega arith)
-set_zero (x ∷ xs) (suc i) (suc q) e = set_zero xs i q (omega arith)
-
-written : (n : ℕ) (new rest : List ℕ) → n ≡ length new → take n (new ++ rest) ≡ new
-written n new rest e = take-append-le n new rest (omega arith) ∙ take_all n new (omega arith)
+set_zero : (xs : List ℕ) (i : ℕ) → slice_index (slice_set xs i 0) i ≡ 0
+set_zero [] i = refl
+set_zero (x ∷ xs) zero = refl
+set_zero (x ∷ xs) (suc i) = set_zero xs i
 
 pub settle-requires : goal.settle-requires
 settle-requires c =
@@ -30,13 +25,13 @@ returns-clause-levels c =
     let n : c.match-point_of.levels.len ≡ length c.settle.new.levels = search rules in
     let low : (q : ℕ) → slice_index c.settle.new.levels q ≤ slice_index c.match-point_of.levels.items q =
     subst (λ (before : List ℕ). (q : ℕ) → slice_index c.settle.new.levels q ≤ slice_index before q) c.deref_mut.ensures.value c.settle.ensures.lower in
-    subst (AreLevels c.args.missions.now c.args.first) (sym (written c.match-point_of.levels.len c.settle.new.levels _ n))
+    subst (AreLevels c.args.missions.now c.args.first) (sym (take-append-le c.match-point_of.levels.len c.settle.new.levels _ (omega arith) ∙ take_all c.match-point_of.levels.len c.settle.new.levels (omega arith)))
     (settled-levels c.args.missions.now c.args.size c.args.steps.now c.args.first c.settle.new.levels c.requires.size c.requires.steps
     (elim c.match-point_of.branch [
       | in-Some w ↦ λ q at.
           let same : w.in-Some.goal ≡ q = same_Some w.in-Some.goal q (sym w.in-Some.is ∙ c.point_of.ensures ∙ at) in
           let zero_set : slice_index c.match-point_of.levels.items q ≡ 0 =
-          ap (λ (v : Vec ℕ Global). slice_index v.items q) w.levels-is ∙ set_zero c.in_ok-levels.levels.items w.in-Some.goal q same in
+          ap (λ (v : Vec ℕ Global). slice_index v.items q) w.levels-is ∙ subst (λ j. slice_index (slice_set c.in_ok-levels.levels.items w.in-Some.goal 0) j ≡ 0) same (set_zero c.in_ok-levels.levels.items w.in-Some.goal) in
           let l = low q in
           omega arith
       | in_default w ↦ λ q at. absurd (w.in_default.not-Some q (c.point_of.ensures ∙ at))

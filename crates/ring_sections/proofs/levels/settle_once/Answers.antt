@@ -1,4 +1,4 @@
-use Rattle.std.proofs.Common.{◌≡◌, ◌<◌, Bool, true, false, List, ℕ, sum, take, ap, ◌∙◌, sym, subst, refl, arith}
+use Rattle.std.proofs.Common.{◌≡◌, ◌<◌, Bool, true, false, List, ℕ, sum, take, ◌∙◌, sym, subst, arith}
 use Rattle.std.specs.Prelude.{All}
 use Rattle.std.proofs.lemmas.List.{take_all}
 use Rattle.std.proofs.lemmas.List.Elements.{All-more}
@@ -8,8 +8,7 @@ use Rattle.ring_sections.proofs.levels.settle_once.Goals.{then-settle_step, else
 
 -- lower than before, whether that had fallen or not
 fallen : (b : Bool) (new before old : List ℕ) → sum new < sum before → (b ≡ true → sum before < sum old) → (b ≡ false → before ≡ old) → sum new < sum old
-fallen true new before old lower falls kept = let f = falls refl in omega arith
-fallen false new before old lower falls kept = let same : sum before ≡ sum old = ap sum (kept refl) in omega arith
+fallen b new before old lower falls kept = grind arith
 
 pub loop-step-preserved : goal.loop-step-preserved
 loop-step-preserved c = elim c.if-settle_step.branch [

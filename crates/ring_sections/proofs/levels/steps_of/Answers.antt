@@ -5,13 +5,11 @@ use Rattle.ring_sections.proofs.levels.steps_of.Goals as goal
 
 pub add_steps-requires-clause-pairs : goal.add_steps-requires-clause-pairs
 add_steps-requires-clause-pairs c =
-    all_valid c.args.missions.now c.loop-point.point c.at.result.now
-    (looked_up c.args.missions.now (length c.args.standing.now) c.loop-point.point c.args.standing.now c.at.result.now (omega arith) c.requires.standing c.at.ensures)
+    all_valid c.args.missions.now _ _ (looked_up c.args.missions.now (length c.args.standing.now) c.loop-point.point c.args.standing.now c.at.result.now (omega arith) c.requires.standing c.at.ensures)
 
 pub add_steps-requires-clause-stand : goal.add_steps-requires-clause-stand
 add_steps-requires-clause-stand c =
-    all_there c.args.missions.now c.loop-point.point c.at.result.now
-    (looked_up c.args.missions.now (length c.args.standing.now) c.loop-point.point c.args.standing.now c.at.result.now (omega arith) c.requires.standing c.at.ensures)
+    all_there c.args.missions.now _ _ (looked_up c.args.missions.now (length c.args.standing.now) c.loop-point.point c.args.standing.now c.at.result.now (omega arith) c.requires.standing c.at.ensures)
 
 pub loop-point-preserved : goal.loop-point-preserved
 loop-point-preserved c =

@@ -1,8 +1,16 @@
-use Rattle.std.proofs.Common.{◌≡◌, ◌<◌, ◌++◌, List, [], ◌∷◌, length, length-append, append-nil, ap, ◌∙◌, subst, sym, refl, inr, arith, rules}
-use Rattle.ring_sections.specs.Ring.{Pair, IsRing}
+use Rattle.std.proofs.Common.{◌≡◌, ◌<◌, ◌++◌, List, [], ◌∷◌, length, length-append, append-nil, ap, ◌∙◌, subst, sym, refl, inr, arith, rules, true, false}
+use Rattle.ring_sections.specs.Ring.{Pair, IsRing, is_ring}
 use Rattle.ring_sections.specs.Search.{own_ring}
-use Rattle.ring_sections.proofs.OwnRing.{own_yes, own_no}
+use Rattle.std.proofs.lemmas.Bool.{false_from_ne_true}
+use Rattle.rail_model.specs.Table.{Mission}
+use Rattle.ring_sections.proofs.RingTests.{Decides-ring}
 use Rattle.ring_sections.proofs.search.keep_ring.Goals as goal
+
+own_yes : (M : List Mission) (r : List Pair) → IsRing M r → own_ring M r ≡ r ∷ []
+own_yes M r ring = let e : is_ring M r ≡ true = (Decides-ring M r).1 ring in rw e refl
+
+own_no : (M : List Mission) (r : List Pair) → (IsRing M r → ⊥) → own_ring M r ≡ []
+own_no M r none = let e : is_ring M r ≡ false = false_from_ne_true (is_ring M r) (λ e. none ((Decides-ring M r).0 e)) in rw e refl
 
 pub returns-then-not-is_ring : goal.returns-then-not-is_ring
 returns-then-not-is_ring c =

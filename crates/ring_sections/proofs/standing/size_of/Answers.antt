@@ -7,9 +7,6 @@ use Rattle.ring_sections.specs.Search.{ArePointsBelow}
 use Rattle.ring_sections.proofs.PointBounds.{points-more}
 use Rattle.ring_sections.proofs.standing.size_of.Goals as goal
 
-abbrev none : Mission
-none = record { points = []; exits = false }
-
 pub above_points-bound-requires-clause-points : goal.above_points-bound-requires-clause-points
 above_points-bound-requires-clause-points c =
     subst (All (λ q. q < 512)) (sym (c.as_slice.ensures ∙ ap (λ (m : Mission). m.points) c.mission.ensures))
@@ -19,7 +16,7 @@ pub loop-train-preserved : goal.loop-train-preserved
 loop-train-preserved c =
     let points : List ℕ → Type 0 = All (λ q. q < c.above_points-bound.result) in
     record {
-      points = points-more c.args.missions.now c.loop-train.train c.loop-train.bound c.above_points-bound.result none
+      points = points-more c.args.missions.now c.loop-train.train c.loop-train.bound c.above_points-bound.result (record { points = []; exits = false })
           (omega arith) c.loop-train.invariant.points c.above_points-bound.ensures.least
           (subst points (c.as_slice.ensures ∙ ap (λ (m : Mission). m.points) c.mission.ensures) c.above_points-bound.ensures.points);
       most = c.above_points-bound.ensures.most;
