@@ -1,6 +1,5 @@
 -- What a step for each item makes of a list.
 use Rattle.std.proofs.Common.{◌≡◌, ℕ, zero, suc, ◌+◌, ◌<◌, List, [], ◌∷◌, length, get_or, map, All, Result, Ok, Err, refl, sym, ap, subst, ◌∙◌, arith}
-use Rattle.std.specs.List.{AllZip}
 use Rattle.std.proofs.lemmas.List.Elements.{All-head, All-tail}
 use Rattle.rail_model.specs.Turns.{in_turn}
 use Rattle.document_shapes.specs.Each.{each_from}
@@ -53,16 +52,6 @@ module _ {A B E : Type 0} (step : ℕ → A → Result B E) where
       subst (λ zs. k < length zs → P (t + k) (get_or zs k d)) p.whole
       (below P t p.head p.tail d (good t x p.head (All-head Q x xs q) p.first) (each-good Q P good (t + 1) xs p.tail (All-tail Q x xs q) p.rest) k) lt
 
-  -- steps that give their own items again
-  pub each-again : (Q : A → Type 0) (back : B → A) → ((t : ℕ) (x : A) (y : B) → Q x → step t x ≡ Ok y → step t (back y) ≡ Ok y)
-      → (t : ℕ) (xs : List A) (ys : List B) → All Q xs → each_from step t xs ≡ Ok ys → each_from step t (map back ys) ≡ Ok ys
-  each-again Q back again t [] ys q h = let e : [] ≡ ys = cc in subst (λ zs. each_from step t (map back zs) ≡ Ok zs) e refl
-  each-again Q back again t (x ∷ xs) ys q h =
-      let p = parts t x xs ys h in
-      let one = again t x p.head (All-head Q x xs q) p.first in
-      let more = each-again Q back again (t + 1) xs p.tail (All-tail Q x xs q) p.rest in
-      subst (λ zs. each_from step t (map back zs) ≡ Ok zs) p.whole (rw (one, more) refl)
-
 -- steps that make each item of what it gives back
 pub each-made : {A B E : Type 0} (step : ℕ → A → Result B E) (back : B → A) (t : ℕ) (ys : List B) (d : B)
     → ((k i : ℕ) → k < length ys → i ≡ t + k → step i (back (get_or ys k d)) ≡ Ok (get_or ys k d)) → each_from step t (map back ys) ≡ Ok ys
@@ -70,18 +59,3 @@ each-made step back t [] d h = refl
 each-made step back t (y ∷ ys) d h =
     let rest = each-made step back (t + 1) ys d (λ k i lt is. h (suc k) i (omega (arith, lt)) (omega (arith, is))) in
     rw (h 0 t (omega arith) (omega arith), rest) refl
-
--- steps that give their own items again, where items and steps are changed
-pub each-changed : {A B E : Type 0} (step step' : ℕ → A → Result B E) (R : B → B → Type 0) (back again : B → A)
-    → ((t : ℕ) (y z : B) → R y z → step t (back y) ≡ Ok y → step' t (again z) ≡ Ok z)
-    → (t : ℕ) (ys zs : List B) → AllZip R ys zs → each_from step t (map back ys) ≡ Ok ys → each_from step' t (map again zs) ≡ Ok zs
-each-changed step step' R back again one t [] [] r h = refl
-each-changed step step' R back again one t [] (z ∷ zs) r h = absurd r
-each-changed step step' R back again one t (y ∷ ys) [] r h = absurd r
-each-changed step step' R back again one t (y ∷ ys) (z ∷ zs) r h =
-    let p = parts step t (back y) (map back ys) (y ∷ ys) h in
-    let head : p.head ≡ y = let w = p.whole in cc in
-    let tail : p.tail ≡ ys = let w = p.whole in cc in
-    let first = one t y z r.0 (p.first ∙ ap Ok head) in
-    let rest = each-changed step step' R back again one (t + 1) ys zs r.1 (p.rest ∙ ap Ok tail) in
-    rw (first, rest) refl

@@ -11,7 +11,7 @@ use Rattle.serde_json.proofs.Views.{get_member-put, get_member-put_other}
 use Rattle.document_shapes.specs.Members.{name_of, need, may, shaped}
 use Rattle.document_shapes.specs.Readings.{ReadsGiven}
 use Rattle.document_shapes.specs.Shape.{Shape}
-use Rattle.document_shapes.specs.Taken.{Finds, Takes, IsObjectWith}
+use Rattle.document_shapes.specs.Taken.{Finds, FindsAt, Takes, IsObjectWith}
 use Rattle.document_shapes.specs.declared.member.Member.{Member}
 use Rattle.document_shapes.specs.declared.refused.ShapeRefused.{ShapeRefused}
 use Rattle.document_shapes.specs.declared.refused.ShapeRefused.TheVariants as refused
@@ -21,8 +21,14 @@ pub on_some : {A : Type 0} {P Q : Type 0} (o : Option A) → OnSome o P → (P �
 on_some None h k = tt
 on_some (Some x) h k = k h
 
-apart : (k l : List ℕ) → is_eq (slice_cmp nat_cmp k l) ≡ false → k ≡ l → ⊥
-apart k l other e = true≢false (sym (ap is_eq (ap (λ x. slice_cmp nat_cmp x l) e ∙ tied_itself nat_list_cmp_total l)) ∙ other)
+-- the value under a name that is known
+pub found-at : {X : Type 0} (F : Members → X → Type 0) (name k : List ℕ) (d : Data) (before after : X) → name ≡ k → ((ms : Members) → F ms before → F (put k d ms) after)
+    → FindsAt F name before d after
+found-at F name k d before after is h ms f = subst (λ n. F (put n d ms) after) (sym is) (h ms f)
+
+-- a member of another name stays
+pub kept : (d : Data) (ms : Members) (name k : List ℕ) → is_eq (slice_cmp nat_cmp name k) ≡ false → get_member name (put k d ms) ≡ get_member name ms
+kept d ms name k other = get_member-put_other name k d ms (λ e. true≢false (sym (ap is_eq (ap (λ x. slice_cmp nat_cmp x k) e ∙ tied_itself nat_list_cmp_total k)) ∙ other))
 
 module _ (d : Data) (ms : Members) where
   module _ {A X : Type 0} (shape : Shape A) (see : X → A) where
@@ -34,17 +40,9 @@ module _ (d : Data) (ms : Members) where
     finds-read R agrees name None h = absurd h
     finds-read R agrees name (Some x) h = finds-new name x (agrees d x h)
 
-    -- a member of another name
-    pub finds-kept : (name k : List ℕ) (o : Option X) → is_eq (slice_cmp nat_cmp name k) ≡ false → Finds shape see name ms o → Finds shape see name (put k d ms) o
-    finds-kept name k None other h = get_member-put_other name k d ms (apart name k other) ∙ h
-    finds-kept name k (Some x) other h = ap (option_and_then shape) (get_member-put_other name k d ms (apart name k other)) ∙ h
-
   module _ {X : Type 0} (R : Data → X → Type 0) where
     pub reads-new : (name : List ℕ) (o : Option X) → IsSomeAnd o (λ x. R d x) → ReadsGiven R name (object (put name d ms)) o
     reads-new name o h = subst (λ g. MatchOption g (o ≡ None) (λ e. IsSomeAnd o (λ x. R e x))) (sym (get_member-put name d ms)) h
-
-    pub reads-kept : (name k : List ℕ) (o : Option X) → is_eq (slice_cmp nat_cmp name k) ≡ false → ReadsGiven R name (object ms) o → ReadsGiven R name (object (put k d ms)) o
-    reads-kept name k o other h = subst (λ g. MatchOption g (o ≡ None) (λ e. IsSomeAnd o (λ y. R e y))) (sym (get_member-put_other name k d ms (apart name k other))) h
 
 -- ---- what is read of what was found
 

@@ -1,5 +1,5 @@
 -- Sections, tables and documents, read of what was found of their members.
-use Rattle.std.proofs.Common.{◌≡◌, ◌≤◌, ◌<◌, ℕ, ◌+◌, ℤ, Bool, true, false, ◌&&◌, ◌||◌, List, [], ◌∷◌, map, All, codes, Option, Some, None, option_map, Ok, Vec, Global, string_bytes, true≢false, refl, sym, ap, subst, ◌∙◌, arith}
+use Rattle.std.proofs.Common.{◌≡◌, ◌<◌, ℕ, ◌+◌, ℤ, Bool, true, false, ◌&&◌, ◌||◌, List, [], ◌∷◌, map, All, codes, Option, Some, None, option_map, Ok, Vec, Global, string_bytes, true≢false, refl, sym, ap, subst, ◌∙◌, arith}
 use Rattle.std.specs.Prelude.{MatchOption, option_and_then, ok_or, is_none, nat_le, IsSomeAnd}
 use Rattle.std.specs.List.{AllZip, list_all}
 use Rattle.std.proofs.lemmas.Bool.Decides.{nat_tests}
@@ -10,7 +10,6 @@ use Rattle.serde_json.specs.Data.{Data, object, Items, no_items, item, Members}
 use Rattle.serde_json.specs.Find.{as_array, get_member}
 use Rattle.document_shapes.specs.DocumentFound.{DocumentFinds, IsWhole}
 use Rattle.document_shapes.specs.Each.{each_from}
-use Rattle.document_shapes.specs.Members.{need}
 use Rattle.document_shapes.specs.Parts.{changes, section, connection, node}
 use Rattle.document_shapes.specs.Raw.{IsOfVersion, table_members, doc_members, known_version}
 use Rattle.document_shapes.specs.Readings.{elements, ReadsList}
@@ -30,9 +29,8 @@ use Rattle.document_shapes.specs.declared.refused.ShapeRefused.TheVariants as re
 use Rattle.document_shapes.specs.declared.table.TableMembers.{TableMembers}
 use Rattle.document_shapes.specs.declared.token_document.FoundDocument.{FoundDocument}
 use Rattle.document_shapes.specs.declared.token_table.FoundTable.{FoundTable}
-use Rattle.document_shapes.proofs.WrittenBack as written_doc
+use Rattle.document_shapes.proofs.WrittenBack.{known}
 use Rattle.document_shapes.proofs.FoundLemmas.{need-found, may-found}
-use Rattle.document_shapes.proofs.TableWritten as written_table
 use Rattle.document_shapes.proofs.TableWritten.{since-back}
 
 -- ---- a section
@@ -59,25 +57,23 @@ module _ (ms : Members) (t : TableMembers) where
     pub after : f.after ≡ t.after
 
   pub table-found : (f : FoundTable) → IsTableOf f → TableFinds ms f → ReadsTable (object ms) t
-  table-found f is h = record {
-    is_object = refl;
-    members = λ version number of.
-        written_table.all_read _ _ _ _ _ _ _ (seen_table t)
-        (need-found (list_of (list_of text)) (λ v. map names_seen v.items) ms (Some number) names.Missions t.missions
-        (subst (Finds (list_of (list_of text)) (λ v. map names_seen v.items) (codes "missions") ms) is.missions h.missions))
-        (since-back 2 version _ (seen_table t).exits of.exits
-        (may-found (list_of truth) (λ v. v.items) ms number names.Exits t.exits (subst (Finds (list_of truth) (λ v. v.items) (codes "exits") ms) is.exits h.exits)))
-        (may-found (list_of section) (λ v. map seen_section v.items) ms number names.Sections t.sections
-        (subst (Finds (list_of section) (λ v. map seen_section v.items) (codes "sections") ms) is.sections h.sections))
-        (since-back 3 version _ (seen_table t).connections of.connections
-        (may-found (list_of connection) (λ v. v.items) ms number names.Connections t.connections
-        (subst (Finds (list_of connection) (λ v. v.items) (codes "connections") ms) is.connections h.connections)))
-        (may-found (list_of node) (λ v. v.items) ms number names.Certificate t.certificate
-        (subst (Finds (list_of node) (λ v. v.items) (codes "certificate") ms) is.certificate h.certificate))
-        (may-found (list_of (list_of whole)) (λ v. v.items) ms number names.Times t.times
-        (subst (Finds (list_of (list_of whole)) (λ v. v.items) (codes "times") ms) is.times h.times))
-        (may-found whole (λ n. n) ms number names.After t.after (subst (Finds whole (λ n. n) (codes "after") ms) is.after h.after) ∙ ap Ok (same_option t.after));
-  }
+  table-found f is h =
+      let g : TableFinds ms (record { missions = Some t.missions; exits = t.exits; sections = t.sections; connections = t.connections; certificate = t.certificate; times = t.times; after = t.after }) =
+      subst (TableFinds ms)
+      (λ i. record { missions = is.missions i; exits = is.exits i; sections = is.sections i; connections = is.connections i; certificate = is.certificate i; times = is.times i; after = is.after i }) h in
+      record {
+        is_object = refl;
+        members = λ version number of.
+            rw (
+              need-found (list_of (list_of text)) (λ v. map names_seen v.items) ms (Some number) names.Missions t.missions g.missions,
+              since-back 2 version _ (seen_table t).exits of.exits (may-found (list_of truth) (λ v. v.items) ms number names.Exits t.exits g.exits),
+              may-found (list_of section) (λ v. map seen_section v.items) ms number names.Sections t.sections g.sections,
+              since-back 3 version _ (seen_table t).connections of.connections (may-found (list_of connection) (λ v. v.items) ms number names.Connections t.connections g.connections),
+              may-found (list_of node) (λ v. v.items) ms number names.Certificate t.certificate g.certificate,
+              may-found (list_of (list_of whole)) (λ v. v.items) ms number names.Times t.times g.times,
+              may-found whole (λ n. n) ms number names.After t.after g.after ∙ ap Ok (same_option t.after),
+            ) refl;
+      }
     where
       same_option : (o : Option ℕ) → option_map (λ n. n) o ≡ o
       same_option None = refl
@@ -145,21 +141,25 @@ module _ (version : ℕ) (v : Vec TableMembers Global) (of : All (IsOfVersion ve
 
 -- ---- a document
 
-version-known : (n : ℕ) → 1 ≤ n → n ≤ 3 → known_version n ≡ Ok n
-version-known n low high = grind (arith, nat_tests)
-
 pub document-found : (ms : Members) (f : FoundDocument) (m : DocMembers) → IsWhole f m → DocumentFinds ms f → doc_members (object ms) ≡ Ok (seen_document m)
 document-found ms f m is h =
-    written_doc.all_read _ _ _ _ _ _ _ (λ v. in_turn (need None names.Tables (list_of shape.object) (object ms)) (each_from (table_members v) 0)) (object ms) (seen_document m)
-    refl
-    (ap (λ r. in_turn r known_version) (need-found whole (λ n. n) ms None names.Version m.version (subst (Finds whole (λ n. n) (codes "version") ms) is.version h.version))
-    ∙ version-known m.version is.read.first is.read.last)
-    (need-found (list_of (pair text whole)) (λ v. map (λ p. (string_bytes p.0, p.1)) v.items) ms None names.Points m.points
-    (subst (Finds (list_of (pair text whole)) (λ v. map (λ p. (string_bytes p.0, p.1)) v.items) (codes "points") ms) is.points h.points))
-    (need-found (list_of (pair text text)) (λ v. map (λ l. (string_bytes l.0, string_bytes l.1)) v.items) ms None names.Links m.links
-    (subst (Finds (list_of (pair text text)) (λ v. map (λ l. (string_bytes l.0, string_bytes l.1)) v.items) (codes "links") ms) is.links h.links))
-    (need-found whole (λ n. n) ms None names.Zones m.zones (subst (Finds whole (λ n. n) (codes "zones") ms) is.zones h.zones))
-    (need-found (list_of text) names_seen ms None names.Trains m.trains (subst (Finds (list_of text) names_seen (codes "trains") ms) is.trains h.trains))
-    (need-found (list_of whole) (λ v. v.items) ms None names.Start m.start (subst (Finds (list_of whole) (λ v. v.items) (codes "start") ms) is.start h.start))
-    (tables-found m.version m.tables is.read.tables (refused.Shape None names.Tables) (get_member (codes "tables") ms)
-    (subst (λ o. MatchOption (get_member (codes "tables") ms) (o ≡ None) (λ d. IsSomeAnd o (λ v. ReadsList ReadsTable d v.items))) is.tables h.tables))
+    let g : DocumentFinds ms (record {
+      version = Some m.version;
+      points = Some m.points;
+      links = Some m.links;
+      zones = Some m.zones;
+      trains = Some m.trains;
+      start = Some m.start;
+      tables = Some m.tables;
+    }) =
+    subst (DocumentFinds ms)
+    (λ i. record { version = is.version i; points = is.points i; links = is.links i; zones = is.zones i; trains = is.trains i; start = is.start i; tables = is.tables i }) h in
+    rw (
+      ap (λ r. in_turn r known_version) (need-found whole (λ n. n) ms None names.Version m.version g.version) ∙ known m.version is.read.first is.read.last,
+      need-found (list_of (pair text whole)) (λ v. map (λ p. (string_bytes p.0, p.1)) v.items) ms None names.Points m.points g.points,
+      need-found (list_of (pair text text)) (λ v. map (λ l. (string_bytes l.0, string_bytes l.1)) v.items) ms None names.Links m.links g.links,
+      need-found whole (λ n. n) ms None names.Zones m.zones g.zones,
+      need-found (list_of text) names_seen ms None names.Trains m.trains g.trains,
+      need-found (list_of whole) (λ v. v.items) ms None names.Start m.start g.start,
+      tables-found m.version m.tables is.read.tables (refused.Shape None names.Tables) (get_member (codes "tables") ms) g.tables,
+    ) refl

@@ -6,7 +6,6 @@ pub mod MemberLemmas
 pub mod TurnLemmas
 pub mod ObjectLemmas
 pub mod EachLemmas
-pub mod InTurn
 pub mod Versions
 pub mod MemberOrder
 pub mod PlainLemmas
@@ -14,16 +13,12 @@ pub mod BackLemmas
 pub mod Trailing
 pub mod AddedLemmas
 pub mod ListWritten
-pub mod SeenLemmas
 pub mod TableOrder
+pub mod SeenLemmas
 pub mod TableWritten
-pub mod TableValue
-pub mod DocWritten
 pub mod TextBack
 pub mod WrittenBack
 pub mod NumberLemmas
 pub mod TokenLemmas
 pub mod FoundLemmas
-pub mod KeptMembers
 pub mod FoundParts
-pub mod TextMembers

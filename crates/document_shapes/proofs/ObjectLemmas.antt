@@ -1,7 +1,8 @@
 -- Tables that are objects, and a list with one that is not.
-use Rattle.std.proofs.Common.{◌≡◌, true, false, List, [], ◌∷◌, map, Option, Some, None, option_map, Ok, Err, Bool, refl, sym, ap, ◌∙◌}
+use Rattle.std.proofs.Common.{◌≡◌, true, false, List, [], ◌∷◌, map, Option, Some, None, option_map, Ok, Err, refl, sym, ap, ◌∙◌}
 use Rattle.std.specs.Prelude.{option_and_then, ok_or}
 use Rattle.std.specs.List.{list_all}
+use Rattle.std.proofs.lemmas.List.Folds.{list_all-map}
 use Rattle.serde_json.specs.Data.{Data, null, boolean, number, string, array, object}
 use Rattle.serde_json.specs.Find.{get, as_array}
 use Rattle.serde_json.specs.View.{view, items_of, items_view}
@@ -33,10 +34,6 @@ each-no_object (number n ∷ ds) h = refl
 each-no_object (string s ∷ ds) h = refl
 each-no_object (array items ∷ ds) h = refl
 each-no_object (object ms ∷ ds) h = ap (onto (Some (object ms))) (each-no_object ds h)
-
-list_all-map : {A B : Type 0} (p : B → Bool) (f : A → B) (xs : List A) → list_all p (map f xs) ≡ list_all (λ x. p (f x)) xs
-list_all-map p f [] = refl
-list_all-map p f (x ∷ xs) = rw (list_all-map p f xs) refl
 
 -- what is shown of the value of an option
 pub shown : {X B : Type 0} (look : X → B) (o : Option X) (x : X) (b : Option B) → o ≡ Some x → option_map look o ≡ b → Some (look x) ≡ b

@@ -1,11 +1,9 @@
 -- A table's members, as they are written, read as they were.
-use Rattle.std.proofs.Common.{◌≡◌, ℕ, ◌<◌, ◌≤◌, Bool, false, List, codes, Option, Some, None, option_map, Result, Ok, Equal, Ordering, Less, Greater, refl, sym, ap, ◌∙◌, arith, inl, inr, is_eq, true≢false}
+use Rattle.std.proofs.Common.{◌≡◌, ℕ, ◌<◌, ◌≤◌, false, List, codes, Option, Some, None, option_map, Result, Ok, Equal, Ordering, Less, Greater, refl, sym, ap, ◌∙◌, arith, inl, inr, is_eq, true≢false}
 use Rattle.std.specs.Prelude.{option_and_then, ok_or}
 use Rattle.std.specs.Ordering.{nat_cmp, match_ordering}
 use Rattle.std.specs.Cmp.Lexicographic.{slice_cmp}
 use Rattle.std.proofs.lemmas.Bool.Decides.{leb_tells}
-use Rattle.rail_model.specs.declared.types.Node.{Node}
-use Rattle.rail_model.specs.Table.{Section, Connection}
 use Rattle.serde_json.specs.Data.{Data, boolean, string, object, Members, no_members}
 use Rattle.serde_json.specs.Find.{get_member}
 use Rattle.document_shapes.specs.InRange.{IfGiven}
@@ -19,7 +17,6 @@ use Rattle.document_shapes.specs.declared.member.Member.TheVariants as names
 use Rattle.document_shapes.specs.declared.refused.ShapeRefused.{ShapeRefused}
 use Rattle.document_shapes.specs.declared.refused.ShapeRefused.TheVariants as refused
 use Rattle.document_shapes.proofs.BackLemmas.{ReadsAs}
-use Rattle.document_shapes.proofs.InTurn.{table_in_turn}
 use Rattle.document_shapes.proofs.PlainLemmas.{IsPlain, plain-no_members, plain-member, plain-given, plain-object, plain-within}
 use Rattle.document_shapes.proofs.TableOrder.{Standing, from_times, from_sections, from_missions, from_exits, from_connections, from_certificate, all_members, standing_for}
 
@@ -110,13 +107,6 @@ since-back least version r o older is = elim (leb_tells least version) [
   | inr then_none ↦ rw then_none.0 (ap Ok (sym (older (omega (arith, then_none.1)))))
 ]
 
-pub all_read : {E : Type 0} (missions : Result (List (List (List ℕ))) E) (exits : Result (Option (List Bool)) E) (sections : Result (Option (List Section)) E)
-    (connections : Result (Option (List Connection)) E) (certificate : Result (Option (List Node)) E) (times : Result (Option (List (List ℕ))) E) (after : Result (Option ℕ) E)
-    (t : TableMembers)
-    → missions ≡ Ok t.missions → exits ≡ Ok t.exits → sections ≡ Ok t.sections → connections ≡ Ok t.connections → certificate ≡ Ok t.certificate → times ≡ Ok t.times → after ≡ Ok t.after
-    → table_in_turn missions exits sections connections certificate times after ≡ Ok t
-all_read _ _ _ _ _ _ _ t missions exits sections connections certificate times after = rw (missions, exits, sections, connections, certificate, times, after) refl
-
 -- Each member of a table reads as it is.
 pub record TableReads (t : TableMembers) : Type 0 where
   pub missions : ReadsAs (list_data (list_data string)) 2 (list_of (list_of text)) t.missions
@@ -132,14 +122,15 @@ pub table-back : (version number : ℕ) (t : TableMembers) → TableReads t → 
 table-back version number t h of =
     let s = standing_for t in
     let ms = all_members s in
-    all_read _ _ _ _ _ _ _ t
-    (needed-back (Some number) names.Missions (list_of (list_of text)) ms s.missions t.missions (at_missions s) h.missions.back)
-    (since-back 2 version _ t.exits of.exits (given-back (list_data boolean) 1 (list_of truth) number names.Exits t.exits ms (at_exits s) h.exits))
-    (given-back (list_data section_data) 4 (list_of section) number names.Sections t.sections ms (at_sections s) h.sections)
-    (since-back 3 version _ t.connections of.connections (given-back (list_data connection_data) 2 (list_of connection) number names.Connections t.connections ms (at_connections s) h.connections))
-    (given-back (list_data node_data) 2 (list_of node) number names.Certificate t.certificate ms (at_certificate s) h.certificate)
-    (given-back (list_data (list_data whole_data)) 2 (list_of (list_of whole)) number names.Times t.times ms (at_times s) h.times)
-    (given-back whole_data 0 whole number names.After t.after ms (at_after s) h.after)
+    rw (
+      needed-back (Some number) names.Missions (list_of (list_of text)) ms s.missions t.missions (at_missions s) h.missions.back,
+      since-back 2 version _ t.exits of.exits (given-back (list_data boolean) 1 (list_of truth) number names.Exits t.exits ms (at_exits s) h.exits),
+      given-back (list_data section_data) 4 (list_of section) number names.Sections t.sections ms (at_sections s) h.sections,
+      since-back 3 version _ t.connections of.connections (given-back (list_data connection_data) 2 (list_of connection) number names.Connections t.connections ms (at_connections s) h.connections),
+      given-back (list_data node_data) 2 (list_of node) number names.Certificate t.certificate ms (at_certificate s) h.certificate,
+      given-back (list_data (list_data whole_data)) 2 (list_of (list_of whole)) number names.Times t.times ms (at_times s) h.times,
+      given-back whole_data 0 whole number names.After t.after ms (at_after s) h.after,
+    ) refl
 
 given-within : {A : Type 0} (put : A → Data) (levels k : ℕ) (shape : Shape A) (o : Option A) → levels ≤ k → IfGiven (ReadsAs put levels shape) o → IfGiven (IsPlain k) (option_map put o)
 given-within put levels k shape None deep h = tt

@@ -1,11 +1,10 @@
 -- What is read has just the members of its version.
-use Rattle.std.proofs.Common.{◌≡◌, ℕ, ◌<◌, ◌≤◌, List, Bool, Option, Some, None, false, Result, Ok, Err, inl, inr, sym, ap, ◌∙◌, subst, arith}
+use Rattle.std.proofs.Common.{◌≡◌, ℕ, ◌<◌, ◌≤◌, List, Option, Some, None, false, Result, Ok, Err, inl, inr, subst, arith}
 use Rattle.std.proofs.lemmas.Bool.Decides.{nat_tests, leb_tells}
 use Rattle.std.specs.Prelude.{nat_le, ok_or}
 use Rattle.serde_json.specs.Data.{Data}
-use Rattle.rail_model.specs.declared.types.Node.{Node}
-use Rattle.rail_model.specs.Table.{Section, Connection}
 use Rattle.rail_model.specs.Turns.{in_turn}
+use Rattle.rail_model.proofs.Firsts.{unless-ok}
 use Rattle.document_shapes.specs.Each.{each_from}
 use Rattle.document_shapes.specs.Members.{need, may, since}
 use Rattle.document_shapes.specs.Parts.{node, section, connection}
@@ -16,58 +15,36 @@ use Rattle.document_shapes.specs.declared.member.Member.TheVariants as member
 use Rattle.document_shapes.specs.declared.refused.ShapeRefused.{ShapeRefused}
 use Rattle.document_shapes.specs.declared.refused.ShapeRefused.TheVariants as refused
 use Rattle.document_shapes.proofs.EachLemmas.{in_turn-ok, each-good}
-use Rattle.document_shapes.proofs.InTurn.{table_in_turn, doc_in_turn}
 
 since-older : {A : Type 0} (least version : ℕ) (r : Result (Option A) ShapeRefused) (o : Option A) → version < least → since least version r ≡ Ok o → o ≡ None
 since-older least version r o lt h =
     let older : nat_le least version ≡ false = grind (arith, nat_tests) in
     let none = rw older at h in cc
 
--- where a table's members are all there, exits and connections are those that were read
-table-chain : {E : Type 0} (missions : Result (List (List (List ℕ))) E) (exits : Result (Option (List Bool)) E) (sections : Result (Option (List Section)) E)
-    (connections : Result (Option (List Connection)) E) (certificate : Result (Option (List Node)) E) (times : Result (Option (List (List ℕ))) E) (after : Result (Option ℕ) E)
-    (m : TableMembers)
-    → table_in_turn missions exits sections connections certificate times after ≡ Ok m
-    → (exits ≡ Ok m.exits) × (connections ≡ Ok m.connections)
-table-chain (Ok a) (Ok b) (Ok c) (Ok d) (Ok e) (Ok f) (Ok g) m h =
-    let same : record { missions = a; exits = b; sections = c; connections = d; certificate = e; times = f; after = g } ≡ m = cc in
-    (ap (λ x. Ok x.exits) same, ap (λ x. Ok x.connections) same)
-table-chain (Ok a) (Ok b) (Ok c) (Ok d) (Ok e) (Ok f) (Err x) m h = absurd cc
-table-chain (Ok a) (Ok b) (Ok c) (Ok d) (Ok e) (Err x) after m h = absurd cc
-table-chain (Ok a) (Ok b) (Ok c) (Ok d) (Err x) times after m h = absurd cc
-table-chain (Ok a) (Ok b) (Ok c) (Err x) certificate times after m h = absurd cc
-table-chain (Ok a) (Ok b) (Err x) connections certificate times after m h = absurd cc
-table-chain (Ok a) (Err x) sections connections certificate times after m h = absurd cc
-table-chain (Err x) exits sections connections certificate times after m h = absurd cc
-
 table-version : (version t : ℕ) (d : Data) (m : TableMembers) → table_members version t d ≡ Ok m → IsOfVersion version m
 table-version version t d m h =
-    let exits = since 2 version (may t member.Exits (list_of truth) d) in
-    let connections = since 3 version (may t member.Connections (list_of connection) d) in
-    let chain =
-    table-chain (need (Some t) member.Missions (list_of (list_of text)) d) exits (may t member.Sections (list_of section) d) connections
-    (may t member.Certificate (list_of node) d) (may t member.Times (list_of (list_of whole)) d) (may t member.After whole d) m h in
+    let missions = in_turn-ok (need (Some t) member.Missions (list_of (list_of text)) d) _ m h in
+    let exits = in_turn-ok (since 2 version (may t member.Exits (list_of truth) d)) _ m missions.behind in
+    let sections = in_turn-ok (may t member.Sections (list_of section) d) _ m exits.behind in
+    let connections = in_turn-ok (since 3 version (may t member.Connections (list_of connection) d)) _ m sections.behind in
+    let certificate = in_turn-ok (may t member.Certificate (list_of node) d) _ m connections.behind in
+    let times = in_turn-ok (may t member.Times (list_of (list_of whole)) d) _ m certificate.behind in
+    let after = in_turn-ok (may t member.After whole d) _ m times.behind in
+    let made : TableMembers =
     record {
-      exits = λ older. since-older 2 version (may t member.Exits (list_of truth) d) m.exits older chain.0;
-      connections = λ older. since-older 3 version (may t member.Connections (list_of connection) d) m.connections older chain.1;
-    }
-
--- where a document's members are all there, version and tables are those that were read
-doc-chain : {A E : Type 0} (given : Result A E) (version : Result ℕ E) (points : Result (List (List ℕ × ℕ)) E) (links : Result (List (List ℕ × List ℕ)) E)
-    (zones : Result ℕ E) (trains : Result (List (List ℕ)) E) (start : Result (List ℕ) E) (tables : ℕ → Result (List TableMembers) E) (m : DocMembers)
-    → doc_in_turn given version points links zones trains start tables ≡ Ok m
-    → (version ≡ Ok m.version) × (tables m.version ≡ Ok m.tables)
-doc-chain (Ok g) (Ok v) (Ok p) (Ok l) (Ok z) (Ok n) (Ok s) tables m h =
-    let last = in_turn-ok (tables v) (λ t. Ok (record { version = v; points = p; links = l; zones = z; trains = n; start = s; tables = t })) m h in
-    let same : record { version = v; points = p; links = l; zones = z; trains = n; start = s; tables = last.value } ≡ m = let e = last.behind in cc in
-    (ap (λ x. Ok x.version) same, ap (λ x. tables x.version) (sym same) ∙ last.first ∙ ap (λ x. Ok x.tables) same)
-doc-chain (Ok g) (Ok v) (Ok p) (Ok l) (Ok z) (Ok n) (Err x) tables m h = absurd cc
-doc-chain (Ok g) (Ok v) (Ok p) (Ok l) (Ok z) (Err x) start tables m h = absurd cc
-doc-chain (Ok g) (Ok v) (Ok p) (Ok l) (Err x) trains start tables m h = absurd cc
-doc-chain (Ok g) (Ok v) (Ok p) (Err x) zones trains start tables m h = absurd cc
-doc-chain (Ok g) (Ok v) (Err x) links zones trains start tables m h = absurd cc
-doc-chain (Ok g) (Err x) points links zones trains start tables m h = absurd cc
-doc-chain (Err x) version points links zones trains start tables m h = absurd cc
+      missions = missions.value;
+      exits = exits.value;
+      sections = sections.value;
+      connections = connections.value;
+      certificate = certificate.value;
+      times = times.value;
+      after = after.value;
+    } in
+    let same : made ≡ m = (unless-ok None made m after.behind).1 in
+    subst (IsOfVersion version) same (record {
+      exits = λ older. since-older 2 version _ exits.value older exits.first;
+      connections = λ older. since-older 3 version _ connections.value older connections.first;
+    })
 
 known : (r : Result ℕ ShapeRefused) (v : ℕ) → in_turn r known_version ≡ Ok v → (1 ≤ v) × (v ≤ 3)
 known (Ok w) v h = elim (leb_tells 1 w) [
@@ -81,19 +58,25 @@ known (Err e) v h = absurd cc
 
 doc-version : (d : Data) (m : DocMembers) → doc_members d ≡ Ok m → IsRead m
 doc-version d m h =
-    let tables = λ (v : ℕ). in_turn (need None member.Tables (list_of object) d) (each_from (table_members v) 0) in
-    let chain =
-    doc-chain (ok_or (object d) (refused.Shape None member.Document)) (in_turn (need None member.Version whole d) known_version)
-    (need None member.Points (list_of (pair text whole)) d) (need None member.Links (list_of (pair text text)) d) (need None member.Zones whole d)
-    (need None member.Trains (list_of text) d) (need None member.Start (list_of whole) d) tables m h in
-    let version = known (need None member.Version whole d) m.version chain.0 in
-    let listed = in_turn-ok (need None member.Tables (list_of object) d) (each_from (table_members m.version) 0) m.tables chain.1 in
-    record {
-      first = version.0;
-      last = version.1;
-      tables = λ k e lt. each-good (table_members m.version) (λ _. Unit {0}) (λ _ y. IsOfVersion m.version y)
-          (λ t x y _ made. table-version m.version t x y made) 0 listed.value m.tables (λ _ _ _. tt) listed.behind k e lt;
-    }
+    let given = in_turn-ok (ok_or (object d) (refused.Shape None member.Document)) _ m h in
+    let version = in_turn-ok (in_turn (need None member.Version whole d) known_version) _ m given.behind in
+    let points = in_turn-ok (need None member.Points (list_of (pair text whole)) d) _ m version.behind in
+    let links = in_turn-ok (need None member.Links (list_of (pair text text)) d) _ m points.behind in
+    let zones = in_turn-ok (need None member.Zones whole d) _ m links.behind in
+    let trains = in_turn-ok (need None member.Trains (list_of text) d) _ m zones.behind in
+    let start = in_turn-ok (need None member.Start (list_of whole) d) _ m trains.behind in
+    let tables = in_turn-ok (in_turn (need None member.Tables (list_of object) d) (each_from (table_members version.value) 0)) _ m start.behind in
+    let listed = in_turn-ok (need None member.Tables (list_of object) d) _ tables.value tables.first in
+    let v = version.value in
+    let made : DocMembers = record { version = v; points = points.value; links = links.value; zones = zones.value; trains = trains.value; start = start.value; tables = tables.value } in
+    let same : made ≡ m = (unless-ok None made m tables.behind).1 in
+    let bounds = known (need None member.Version whole d) v version.first in
+    subst IsRead same (record {
+      first = bounds.0;
+      last = bounds.1;
+      tables = λ k e lt. each-good (table_members v) (λ _. Unit {0}) (λ _ y. IsOfVersion v y)
+          (λ t x y _ made. table-version v t x y made) 0 listed.value tables.value (λ _ _ _. tt) listed.behind k e lt;
+    })
 
 -- bytes that are read give members of their version
 pub read-version : (bytes : List ℕ) (m : DocMembers) → members_of bytes ≡ Ok m → IsRead m

@@ -1,14 +1,13 @@
 -- The text of members in range reads back as they are.
-use Rattle.std.proofs.Common.{◌≡◌, ◌∙◌, ℕ, ◌+◌, ◌≤◌, Bool, List, [], ◌∷◌, map, codes, All, Option, Some, None, Result, Ok, IsUtf8, refl, ap, arith}
+use Rattle.std.proofs.Common.{◌≡◌, ◌∙◌, ℕ, ◌+◌, ◌≤◌, Bool, List, [], ◌∷◌, map, codes, All, Option, Some, None, Ok, IsUtf8, refl, ap, arith}
 use Rattle.std.specs.Prelude.{⊤}
 use Rattle.std.proofs.lemmas.Bool.Decides.{nat_tests}
 use Rattle.std.proofs.lemmas.List.Elements.{All-head, All-tail}
 use Rattle.rail_model.specs.Turns.{in_turn}
-use Rattle.serde_json.specs.Data.{boolean, string, object, Members, no_members, member}
+use Rattle.serde_json.specs.Data.{boolean, string, no_members}
 use Rattle.serde_json.specs.View.{items_of}
 use Rattle.document_shapes.specs.Each.{each_from}
 use Rattle.document_shapes.specs.InRange.{IsSmall, NodeIsSmall, ConnectionIsSmall, SectionIsSmall, IfGiven, TableInRange, InRange}
-use Rattle.document_shapes.specs.Members.{need}
 use Rattle.document_shapes.specs.Parts.{node, section, connection}
 use Rattle.document_shapes.specs.Raw.{DocMembers, TableMembers, IsRead, IsOfVersion, table_members, doc_members, members_of, known_version}
 use Rattle.document_shapes.specs.Shape.{whole, truth, text, each, list_of, pair}
@@ -16,8 +15,8 @@ use Rattle.document_shapes.specs.Shape as shape
 use Rattle.document_shapes.specs.Written.{list_data, pair_data, whole_data, node_data, section_data, connection_data, table_data, doc_data, text_of}
 use Rattle.document_shapes.specs.declared.member.Member.TheVariants as names
 use Rattle.document_shapes.proofs.BackLemmas.{ReadsAs, whole-as, text-as, truth-as, list-as, given-as, pair-as, numbers-as, node-as, connection-as, section-as}
-use Rattle.document_shapes.proofs.InTurn.{doc_in_turn}
 use Rattle.document_shapes.proofs.PlainLemmas.{IsPlain, plain-no_members, plain-member, plain-object, plain-list, plain-within}
+use Rattle.document_shapes.proofs.SeenLemmas.{listed}
 use Rattle.document_shapes.proofs.TableWritten.{TableReads, needed-back, table-back, table-plain}
 use Rattle.document_shapes.proofs.TextBack.{members-text}
 
@@ -53,25 +52,7 @@ tables_are_objects (t ∷ ts) = rw (tables_are_objects ts) refl
 
 -- ---- the document
 
--- what stands for a document's members
-abbrev pieces : DocMembers → Members
-pieces m =
-    member (codes "links") (list_data (pair_data string string) m.links)
-    (member (codes "points") (list_data (pair_data string whole_data) m.points)
-    (member (codes "start") (list_data whole_data m.start)
-    (member (codes "tables") (list_data table_data m.tables)
-    (member (codes "trains") (list_data string m.trains)
-    (member (codes "version") (whole_data m.version)
-    (member (codes "zones") (whole_data m.zones)
-    no_members))))))
-
-pub all_read : {A E : Type 0} (given : Result A E) (version : Result ℕ E) (points : Result (List (List ℕ × ℕ)) E) (links : Result (List (List ℕ × List ℕ)) E)
-    (zones : Result ℕ E) (trains : Result (List (List ℕ)) E) (start : Result (List ℕ) E) (tables : ℕ → Result (List TableMembers) E) (a : A) (m : DocMembers)
-    → given ≡ Ok a → version ≡ Ok m.version → points ≡ Ok m.points → links ≡ Ok m.links → zones ≡ Ok m.zones → trains ≡ Ok m.trains → start ≡ Ok m.start → tables m.version ≡ Ok m.tables
-    → doc_in_turn given version points links zones trains start tables ≡ Ok m
-all_read _ _ _ _ _ _ _ _ a m given version points links zones trains start tables = rw (given, version, points, links, zones, trains, start, tables) refl
-
-known : (n : ℕ) → 1 ≤ n → n ≤ 3 → known_version n ≡ Ok n
+pub known : (n : ℕ) → 1 ≤ n → n ≤ 3 → known_version n ≡ Ok n
 known n low high = grind (arith, nat_tests)
 
 module _ (m : DocMembers) (read : IsRead m) (h : InRange m) where
@@ -102,18 +83,17 @@ module _ (m : DocMembers) (read : IsRead m) (h : InRange m) where
 
   doc-back : doc_members (doc_data m) ≡ Ok m
   doc-back =
-      let ms = pieces m in
-      all_read _ _ _ _ _ _ _ (λ v. in_turn (need None names.Tables (list_of shape.object) (object ms)) (each_from (table_members v) 0)) (object ms) m
-      refl
-      (ap (λ r. in_turn r known_version) (needed-back None names.Version whole ms (whole_data m.version) m.version refl version-as.back) ∙ known m.version read.first read.last)
-      (needed-back None names.Points (list_of (pair text whole)) ms (list_data (pair_data string whole_data) m.points) m.points refl points-as.back)
-      (needed-back None names.Links (list_of (pair text text)) ms (list_data (pair_data string string) m.links) m.links refl links-as.back)
-      (needed-back None names.Zones whole ms (whole_data m.zones) m.zones refl (whole-as m.zones h.zones).back)
-      (needed-back None names.Trains (list_of text) ms (list_data string m.trains) m.trains refl (texts-as m.trains h.trains).back)
-      (needed-back None names.Start (list_of whole) ms (list_data whole_data m.start) m.start refl (numbers-as m.start h.start).back)
-      (ap (λ r. in_turn r (each_from (table_members m.version) 0))
-      (needed-back None names.Tables (list_of shape.object) ms (list_data table_data m.tables) (map table_data m.tables) refl (tables_are_objects m.tables))
-      ∙ tables-back m.version 0 m.tables h.tables read.tables)
+      let ms = listed (list_data (pair_data string string) m.links) (list_data (pair_data string whole_data) m.points) (list_data whole_data m.start) (list_data table_data m.tables)
+      (list_data string m.trains) m.version m.zones in
+      rw (
+        ap (λ r. in_turn r known_version) (needed-back None names.Version whole ms (whole_data m.version) m.version refl version-as.back) ∙ known m.version read.first read.last,
+        needed-back None names.Points (list_of (pair text whole)) ms (list_data (pair_data string whole_data) m.points) m.points refl points-as.back,
+        needed-back None names.Links (list_of (pair text text)) ms (list_data (pair_data string string) m.links) m.links refl links-as.back,
+        needed-back None names.Zones whole ms (whole_data m.zones) m.zones refl (whole-as m.zones h.zones).back,
+        needed-back None names.Trains (list_of text) ms (list_data string m.trains) m.trains refl (texts-as m.trains h.trains).back,
+        needed-back None names.Start (list_of whole) ms (list_data whole_data m.start) m.start refl (numbers-as m.start h.start).back,
+        ap (λ r. in_turn r (each_from (table_members m.version) 0)) (needed-back None names.Tables (list_of shape.object) ms (list_data table_data m.tables) (map table_data m.tables) refl (tables_are_objects m.tables)) ∙ tables-back m.version 0 m.tables h.tables read.tables,
+      ) refl
 
   pub text-back : members_of (text_of m) ≡ Ok m
   text-back = members-text m doc-plain ∙ doc-back

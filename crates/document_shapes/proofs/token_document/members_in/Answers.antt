@@ -3,7 +3,7 @@ use Rattle.json.specs.Lex.{tokens}
 use Rattle.document_shapes.specs.Raw.{doc_members}
 use Rattle.document_shapes.specs.Seen.{seen_document}
 use Rattle.document_shapes.specs.Taken.{Takes}
-use Rattle.document_shapes.proofs.TextMembers.{text-read}
+use Rattle.document_shapes.proofs.TextBack.{text-read}
 use Rattle.document_shapes.proofs.token_document.members_in.Goals as goal
 
 pub returns-in-None : goal.returns-in-None

@@ -2,7 +2,7 @@ use Rattle.std.proofs.Common.{◌≡◌, Some, Ok, option_map, subst}
 use Rattle.serde_json.specs.Read.{read}
 use Rattle.document_shapes.specs.Raw.{doc_members}
 use Rattle.document_shapes.specs.Seen.{seen_document}
-use Rattle.document_shapes.proofs.TextMembers.{text-members}
+use Rattle.document_shapes.proofs.TextBack.{text-members}
 use Rattle.document_shapes.proofs.TokenLemmas.{if_some}
 use Rattle.document_shapes.proofs.token_document.read_tokens.Goals as goal
 

@@ -2,7 +2,7 @@ use Rattle.std.proofs.Common.{OnOk, subst}
 use Rattle.std.proofs.lemmas.Result.{on_ok_weaker}
 use Rattle.document_shapes.specs.Added.{Adds}
 use Rattle.document_shapes.proofs.AddedLemmas.{adds-seven}
-use Rattle.document_shapes.proofs.TableValue.{table-tokens, table-in_range}
+use Rattle.document_shapes.proofs.SeenLemmas.{table-tokens, table-in_range}
 use Rattle.document_shapes.proofs.writing.TableMembersToTokens.to_tokens.Goals as goal
 
 pub returns-clause-tokens : goal.returns-clause-tokens
