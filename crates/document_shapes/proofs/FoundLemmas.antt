@@ -4,9 +4,11 @@ use Rattle.std.specs.Prelude.{OnSome, MatchOption, IsSomeAnd, option_and_then, o
 use Rattle.std.proofs.lemmas.Cmp.{nat_list_cmp_total, tied_itself}
 use Rattle.std.specs.Cmp.Lexicographic.{slice_cmp}
 use Rattle.std.specs.Ordering.{nat_cmp}
+use Rattle.json.specs.Json as json
 use Rattle.json.specs.Token.{Token}
 use Rattle.serde_json.specs.Data.{Data, null, boolean, number, string, array, object, Members, put}
 use Rattle.serde_json.specs.Find.{get_member}
+use Rattle.serde_json.specs.Read.{of_json}
 use Rattle.serde_json.proofs.Views.{get_member-put, get_member-put_other}
 use Rattle.document_shapes.specs.Members.{name_of, need, may, shaped}
 use Rattle.document_shapes.specs.Readings.{ReadsGiven}
@@ -22,9 +24,9 @@ on_some None h k = tt
 on_some (Some x) h k = k h
 
 -- the value under a name that is known
-pub found-at : {X : Type 0} (F : Members → X → Type 0) (name k : List ℕ) (d : Data) (before after : X) → name ≡ k → ((ms : Members) → F ms before → F (put k d ms) after)
-    → FindsAt F name before d after
-found-at F name k d before after is h ms f = subst (λ n. F (put n d ms) after) (sym is) (h ms f)
+pub found-at : {X : Type 0} (F : Members → X → Type 0) (name k : List ℕ) (before after : X) (depth : ℕ) (tokens rest : List Token) (j : json.Json) (d : Data) → name ≡ k
+    → json.value depth tokens ≡ Some (j, rest) → of_json j ≡ Some d → ((ms : Members) → F ms before → F (put k d ms) after) → Takes (λ e z. FindsAt F name before e z) depth tokens after rest
+found-at F name k before after depth tokens rest j d is read same h = (j, d, read, same, λ ms f. subst (λ n. F (put n d ms) after) (sym is) (h ms f))
 
 -- a member of another name stays
 pub kept : (d : Data) (ms : Members) (name k : List ℕ) → is_eq (slice_cmp nat_cmp name k) ≡ false → get_member name (put k d ms) ≡ get_member name ms
