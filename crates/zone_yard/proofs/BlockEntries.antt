@@ -16,6 +16,7 @@ use Rattle.rail_model.specs.Table.{Table}
 use Rattle.rail_model.specs.Blocks.{block_entries}
 use Rattle.rail_model.specs.Checks.{below}
 use Rattle.rail_model.specs.Yard.{offer, control}
+use Rattle.rail_model.proofs.Found.{Among-range}
 use Rattle.zone_locks.specs.Zones.{has}
 use Rattle.move_claim.specs.declared.cells.Cell.{Cell}
 use Rattle.move_claim.specs.declared.cells.Cell.TheVariants.{Position, Table as TableCell}
@@ -23,6 +24,8 @@ use Rattle.move_claim.specs.declared.claims.Claim.{Claim}
 use Rattle.move_claim.specs.Cells.{number_of, number_in, first_unknown}
 use Rattle.move_claim.specs.Claims.{Footprint, claim_of, zones_of, cells_of}
 use Rattle.move_claim.specs.Deciding.{decided, ask_after, first_refused, stopped}
+use Rattle.move_claim.proofs.Amongs.{Among-filter}
+use Rattle.move_claim.proofs.Numbered.{Among-has}
 use Rattle.zone_machine.specs.World.{Actor, trains_of}
 use Rattle.zone_machine.specs.Entries.{known_table, own_claim, is_granted, tried, control_after, driver_after}
 use Rattle.zone_machine.specs.Needs.{zones, cells}
@@ -34,6 +37,7 @@ use Rattle.zone_yard.specs.Blocks.{needs, replies_of, granted_steps, CanAnswer}
 use Rattle.zone_yard.specs.Views.{View, new_entries, actor_after}
 use Rattle.zone_yard.specs.Core.{MayEnter}
 use Rattle.zone_yard.specs.Holding.{span, owing}
+use Rattle.zone_yard.proofs.Lists.{second_of, same_of}
 
 -- the entries of an answer tell it
 entries_tell : (p n : ℕ) (answer : BlockAsk) → block_entries p n answer ≡ told p (replies_of n answer)
@@ -99,9 +103,6 @@ module _ (T : Table) (c : Claim) (number : Cell → ℕ) where
           let ne : c.steps ≢ 0 = (λ e. true≢false (sym ((Decides-eqb c.steps 0).1 e) ∙ some)) in
           by_refused (omega arith) (first_refused T c number c.steps 0) (subst (λ m. IsRefused m (first_refused T c number c.steps 0)) (let e : 0 + c.steps ≡ c.steps = omega arith in e) (refused c.steps 0))
 
-chosen : {A : Type 0} (b : Bool) (x y : A) → b ≡ false → cond b x y ≡ y
-chosen b x y e = rw e refl
-
 -- the zones of a footprint are the layout's
 pub low : (z a n : ℕ) (p : ℕ → Bool) → has z (filter p (range_with_len a n)) ≡ true → z < a + n
 low z a zero p h = absurd (true≢false (sym h))
@@ -116,14 +117,7 @@ low z a (suc n) p h = go (p a) h (low z (a + 1) n p)
 
 -- a needed zone is among those of a span
 pub among : (needed : List ℕ) (z a n : ℕ) → has z needed ≡ true → a ≤ z → z < a + n → has z (span needed a n) ≡ true
-among needed z a zero h le lt = absurd (omega arith)
-among needed z a (suc n) h le lt = dite (ℕ_discrete z a)
-    (λ (e : z ≡ a). rw (subst (λ x. has x needed ≡ true) e h, eq-eqb z a e) refl)
-    (λ (ne : z ≢ a). go (has a needed) (among needed z (a + 1) n h (omega arith) (omega arith)) ne)
-  where
-    go : (b : Bool) → has z (span needed (a + 1) n) ≡ true → z ≢ a → has z (cond b (a ∷ span needed (a + 1) n) (span needed (a + 1) n)) ≡ true
-    go true e ne = rw (ne_eqb z a ne) e
-    go false e ne = e
+among needed z a n h le lt = Among-has z (span needed a n) (Among-filter (λ y. has y needed) (range_with_len a n) z (Among-range n a z le lt) h)
 
 -- A driver of the yard knows the table that it wants its steps under, and the footprint is theirs.
 module _ (S : Setup) (v : View) (w : Wanted) (f : Footprint) (made : v.setup ≡ S) (train : v.number ≡ w.train) (low_train : w.train < 32)
@@ -155,13 +149,13 @@ module _ (S : Setup) (v : View) (w : Wanted) (f : Footprint) (made : v.setup ≡
 
   pub told_block : new_entries w.steps v ≡ told w.train (replies_of f.claim.steps (answer_of f))
   told_block =
-      chosen (v.number == control) (record { who = v.number; reply = Control (tried (core v.setup) v.actor) } ∷ [])
+      second_of (v.number == control) (record { who = v.number; reply = Control (tried (core v.setup) v.actor) } ∷ [])
       (block_entries v.number (claim_at v.setup (known_table v.actor) v.number).steps (answer_at v.setup (known_table v.actor) v.number)) off
       ∙ (of_footprint (λ T t p. block_entries p (claim_at T t p).steps (answer_at T t p)) (λ g. block_entries w.train g.claim.steps (answer_of g)) refl
       ∙ entries_tell w.train f.claim.steps (answer_of f))
 
   actor_is : actor_after w.steps v ≡ driver_after (core v.setup) v.number v.actor w.steps
-  actor_is = chosen (v.number == control) (control_after (core v.setup) v.actor) (driver_after (core v.setup) v.number v.actor w.steps) off
+  actor_is = second_of (v.number == control) (control_after (core v.setup) v.actor) (driver_after (core v.setup) v.number v.actor w.steps) off
 
   pub owes_block : (actor_after w.steps v).owed ≡ owing f.table f.claim (number_in v.actor.known) (answer_of f)
   owes_block =
@@ -184,11 +178,11 @@ module _ (S : Setup) (v : View) (w : Wanted) (f : Footprint) (made : v.setup ≡
       go y false k = k
 
   zones_are : zones (core v.setup) v.number v.actor (known_table v.actor) w.steps ≡ f.zones
-  zones_are = chosen (v.number == control) (range_with_len 0 v.setup.layout.zones) (zones_of v.setup.layout (table_at v.setup (known_table v.actor)) (claim_at v.setup (known_table v.actor) v.number)) off
+  zones_are = second_of (v.number == control) (range_with_len 0 v.setup.layout.zones) (zones_of v.setup.layout (table_at v.setup (known_table v.actor)) (claim_at v.setup (known_table v.actor) v.number)) off
       ∙ of_footprint (λ T t p. zones_of T.layout (table_at T t) (claim_at T t p)) (λ g. g.zones) refl
 
   cells_are : cells (core v.setup) v.number v.actor (known_table v.actor) w.steps ≡ cells_of f.table f.claim
-  cells_are = chosen (v.number == control) (TableCell ∷ map (λ (i : ℕ). Position i) (below (trains_of (core v.setup)))) (cells_of (table_at v.setup (known_table v.actor)) (claim_at v.setup (known_table v.actor) v.number)) off
+  cells_are = second_of (v.number == control) (TableCell ∷ map (λ (i : ℕ). Position i) (below (trains_of (core v.setup)))) (cells_of (table_at v.setup (known_table v.actor)) (claim_at v.setup (known_table v.actor) v.number)) off
       ∙ of_footprint (λ T t p. cells_of (table_at T t) (claim_at T t p)) (λ g. cells_of g.table g.claim) refl
 
   few_entries : 1 ≤ w.steps → room_for (core v.setup) v.number v.actor w.steps ≤ w.steps
@@ -221,8 +215,4 @@ module _ (S : Setup) (v : View) (w : Wanted) (f : Footprint) (made : v.setup ≡
 
 -- an entry leaves what is held
 pub held_after : (steps : ℕ) (v : View) → (actor_after steps v).held ≡ v.actor.held
-held_after steps v = go (v.number == control)
-  where
-    go : (b : Bool) → (cond b (control_after (core v.setup) v.actor) (driver_after (core v.setup) v.number v.actor steps)).held ≡ v.actor.held
-    go true = refl
-    go false = refl
+held_after steps v = same_of (λ (a : Actor). a.held) v.actor.held (v.number == control) (control_after (core v.setup) v.actor) (driver_after (core v.setup) v.number v.actor steps) refl refl

@@ -10,11 +10,6 @@ use Rattle.zone_yard.specs.Views.{read, paid}
 use Rattle.zone_yard.specs.Tells.{Sat}
 use Rattle.zone_yard.specs.Holding.{AreAllSmall, Knows, Pays, AreCells}
 
-pub get_some : {A : Type 0} (xs : List A) (i : ℕ) (d : A) → i < length xs → slice_get xs i ≡ Some (get_or xs i d)
-get_some [] i d lt = absurd (omega arith)
-get_some (x ∷ xs) zero d lt = refl
-get_some (x ∷ xs) (suc i) d lt = get_some xs i d (omega arith)
-
 pub put-length : (c : Cell) (n : ℕ) (xs : List (Cell × ℕ)) → length (put c n xs) ≤ suc (length xs)
 put-length c n [] = omega arith
 put-length c n (x ∷ xs) = go (same_cell c x.0) (put-length c n xs)

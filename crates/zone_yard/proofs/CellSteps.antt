@@ -1,7 +1,8 @@
 -- Looks at the table in force, reads under a guard and payments keep the rule, by the core's own steps.
-use Rattle.std.proofs.Common.{◌≡◌, ◌≢◌, ◌⊎◌, ℕ, zero, suc, ◌*◌, ◌<◌, ◌≤◌, List, [], ◌∷◌, length, set, get_or, true, false, Ok, Some, refl, sym, ap, ◌∙◌, subst, inl, inr, arith, get_or-set_other, get_or-set_same, ⊎_elim}
+use Rattle.std.proofs.Common.{◌≡◌, ◌≢◌, ◌⊎◌, ℕ, ◌*◌, ◌<◌, ◌≤◌, List, [], length, set, get_or, true, false, Ok, Some, refl, sym, ap, ◌∙◌, subst, inl, inr, arith, get_or-set_other, get_or-set_same, ⊎_elim}
 use Rattle.std.specs.Prelude.{slice_get}
 use Rattle.std.proofs.lemmas.List.{set-get_or}
+use Rattle.std.proofs.lemmas.Option.{slice_get-get_or}
 use mathlib.Core.Option.{none, some}
 use lib.ListN.{get_elem?}
 use Rattle.atomic_table.specs.Table.{step, keeps, stepped, Allows}
@@ -139,7 +140,7 @@ table_or TableCell = inl refl
 table_rises : (S : CoreSetup) (w : World) (p n : ℕ) (c : Cell) (a a' : Actor) → IsCoreSetup S → Sound S w → actor w p ≡ a → p < 33 → number_of c a.owed ≡ Some n
     → word S w TableCell ≤ word S (with_word w (word_of S c) n p a') TableCell
 table_rises S w p n c a a' ok sound is low due =
-    let here : slice_get w.actors p ≡ Some a = get_some w.actors p a gone (let long = sound.actors in omega arith) is in
+    let here : slice_get w.actors p ≡ Some a = slice_get-get_or w.actors p gone (let long = sound.actors in omega arith) ∙ ap Some is in
     let owes = sound.owing p a c n here due in
     ⊎_elim
     (λ (e : c ≡ TableCell).
@@ -152,11 +153,6 @@ table_rises S w p n c a a' ok sound is low due =
     let far = word_apart S TableCell c tt (cell_word S c ok owes.1) ne in
     let same = get_or-set_other w.words (word_of S c) (word_of S TableCell) n 0 far in omega (arith, same))
     (table_or c)
-  where
-    get_some : {A : Type 0} (xs : List A) (i : ℕ) (a d : A) → i < length xs → get_or xs i d ≡ a → slice_get xs i ≡ Some a
-    get_some [] i a d lt e = absurd (omega arith)
-    get_some (x ∷ xs) zero a d lt e = ap Some e
-    get_some (x ∷ xs) (suc i) a d lt e = get_some xs i a d (omega arith) e
 
 -- an owed cell is written
 pub pay_allows : (S : Setup) → (slots id i n : ℕ) (c : Cell) (me : Sat) → i ≡ 8 * word_of (core S) c → me.0.aboard ≡ true

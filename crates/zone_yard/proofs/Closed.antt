@@ -27,23 +27,14 @@ use Rattle.zone_yard.specs.Kept.{Kept}
 use Rattle.zone_yard.specs.Lines.{AreLeft}
 use Rattle.zone_yard.proofs.Keeps.{St}
 use Rattle.zone_yard.proofs.Closes.{seen_whole, words_are}
-use Rattle.zone_yard.proofs.Counts.{AreLow, low_history}
+use Rattle.zone_yard.proofs.Counts.{AreLow, low_history, all_few}
 use Rattle.zone_yard.proofs.Looks.{settled}
-use Rattle.zone_yard.proofs.LinesKept.{all_few, left_whole}
+use Rattle.zone_yard.proofs.LinesKept.{left_whole}
 
 read_at : (xs : List ℕ) (i a : ℕ) → get_elem? xs i ≡ some a → get_or xs i 0 ≡ a
 read_at [] i a e = absurd (some-ne-none a (sym e))
 read_at (x ∷ xs) zero a e = some-injective x a e
 read_at (x ∷ xs) (suc i) a e = read_at xs i a e
-
--- lists of the same length with the same members
-pub same_members : (xs ys : List ℕ) → length xs ≡ length ys → ((i : ℕ) → i < length ys → get_or xs i 0 ≡ get_or ys i 0) → xs ≡ ys
-same_members [] [] long same = refl
-same_members [] (y ∷ ys) long same = absurd (omega arith)
-same_members (x ∷ xs) [] long same = absurd (omega arith)
-same_members (x ∷ xs) (y ∷ ys) long same =
-    let first : x ≡ y = same 0 (omega arith) in
-    let later : xs ≡ ys = same_members xs ys (omega arith) (λ i lt. same (suc i) (omega arith)) in (λ i. first i ∷ later i)
 
 low_of : (H : List Entry) → AreLow H → AreOf 33 H
 low_of [] low = λ j d lt. absurd (omega arith)
@@ -82,27 +73,6 @@ module _ (v : View) (s : St) (k : Kept v.setup s) (at : get_elem? s.views 0 ≡ 
       ∙ (k.formed.tables.same ended.table stands.in_range
       ∙ (sym (k.formed.tables.same S.opening.yard.table k.formed.opening.in_range) ∙ sym k.formed.opening.legal.one_each))
 
-  -- the words of the positions and of the table in force
-  pub position_word : (i m : ℕ) → i < length ended.positions → get_elem? s.words (8 * (word_of (core S) (Position 0) + i)) ≡ some m → m ≡ place ended.positions i
-  position_word i m lt e =
-      let one_each = stands.legal.one_each in
-      let is : number (core S) v.seen (Position i) ≡ Some (place ended.positions i) = rw (lt-ltb i (trains (in_force S.tables ended)) (omega arith)) refl in
-      let word : word_of (core S) (Position 0) + i ≡ word_of (core S) (Position i) = omega arith in
-      sym (read_at s.words (8 * (word_of (core S) (Position 0) + i)) m e) ∙ (ap (λ j. get_or s.words (8 * j) 0) word ∙ words_are S s k v at nobody (Position i) (place ended.positions i) is)
-
-  pub table_word : (m : ℕ) → get_elem? s.words (8 * word_of (core S) TableCell) ≡ some m → m ≡ ended.table
-  table_word m e = sym (read_at s.words (8 * word_of (core S) TableCell) m e) ∙ words_are S s k v at nobody TableCell ended.table refl
-
-  pub small_places : (i : ℕ) → i < length ended.positions → place ended.positions i ≤ 127
-  small_places i lt =
-      let one_each = stands.legal.one_each in
-      let near : i < trains (in_force S.tables ended) = omega arith in
-      let within = stands.legal.in_range i near in
-      let few = ((k.formed.formed ended.table stands.in_range).missions i near).few_places in omega arith
-
-  pub small_table : ended.table < 16
-  small_table = let few = k.formed.tables.few in let lt = stands.in_range in omega arith
-
   -- the tables that were tried, by the control's lines
   pub tried_is : ended.tried ≡ S.opening.yard.tried + length (lines_of S.tables S.opening.yard 32 v.seen)
   tried_is = tables_counted S.tables (all_few S k.formed) S.opening.yard 0 v.seen legal
@@ -128,14 +98,20 @@ module _ (v : View) (s : St) (k : Kept v.setup s) (at : get_elem? s.views 0 ≡ 
 
   -- what a word of the positions is, and that it is small
   pub place_of : (i m first : ℕ) → first ≡ word_of (core S) (Position 0) → i < length ended.positions → get_elem? s.words (8 * (first + i)) ≡ some m → (m ≡ place ended.positions i) × (m ≤ 127)
-  place_of i m first is lt e =
-      let same : m ≡ place ended.positions i = position_word i m lt (subst (λ j. get_elem? s.words (8 * (j + i)) ≡ some m) is e) in
-      let small = small_places i lt in (same, omega arith)
+  place_of i m first at_first lt e =
+      let one_each = stands.legal.one_each in
+      let near : i < trains (in_force S.tables ended) = omega arith in
+      let is : number (core S) v.seen (Position i) ≡ Some (place ended.positions i) = rw (lt-ltb i (trains (in_force S.tables ended)) near) refl in
+      let word : first + i ≡ word_of (core S) (Position i) = omega (arith, at_first) in
+      let same : m ≡ place ended.positions i = sym (read_at s.words (8 * (first + i)) m e) ∙ (ap (λ j. get_or s.words (8 * j) 0) word ∙ words_are S s k v at nobody (Position i) (place ended.positions i) is) in
+      let within = stands.legal.in_range i near in
+      let few = ((k.formed.formed ended.table stands.in_range).missions i near).few_places in (same, omega arith)
 
   pub table_of : (m at_word : ℕ) → at_word ≡ word_of (core S) TableCell → get_elem? s.words (8 * at_word) ≡ some m → (m ≡ ended.table) × (m < 16)
   table_of m at_word is e =
-      let same : m ≡ ended.table = table_word m (subst (λ j. get_elem? s.words (8 * j) ≡ some m) is e) in
-      let small = small_table in (same, omega arith)
+      let same : m ≡ ended.table = sym (read_at s.words (8 * at_word) m e) ∙ (ap (λ j. get_or s.words (8 * j) 0) is ∙ words_are S s k v at nobody TableCell ended.table refl) in
+      let few = k.formed.tables.few in
+      let lt = stands.in_range in (same, omega arith)
 
   -- how many lines there are
   pub counts : (rows : List Row) (row : Row) (lines : List Line) → AreLeft v rows → row ≡ get_or rows 32 row → Keeps S.tables S.opening.yard S.opening.lines

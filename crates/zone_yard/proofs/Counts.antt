@@ -9,7 +9,8 @@ use Rattle.rail_model.specs.declared.types.Reply.TheVariants.{Driver, NotWhole, 
 use Rattle.rail_model.specs.declared.types.Entry.{Entry}
 use Rattle.rail_model.specs.Table.{trains}
 use Rattle.rail_model.specs.Yard.{Offer, Yard, offer, after_entry, IsAnswer, IsHistory}
-use Rattle.zone_yard.specs.Setup.{Setup, most_passes}
+use Rattle.zone_machine.specs.Sound.{IsSetup as IsCoreSetup}
+use Rattle.zone_yard.specs.Setup.{Setup, core, most_passes}
 use Rattle.zone_yard.specs.Passes.{entries_from, entries_of}
 use Rattle.zone_yard.specs.Kept.{Kept}
 use Rattle.zone_yard.proofs.Keeps.{St}
@@ -84,15 +85,18 @@ total_less (suc n) most p more es lt h room = dite (ℕ_discrete p n)
     (λ e. let r = total_most n most es h in let one : length (entries_of n es) + more ≤ most = subst (λ q. length (entries_of q es) + more ≤ most) e room in omega (arith, suc-mul n most))
     (λ ne. let r = total_less n most p more es (omega arith) h room in let one = h n in omega (arith, suc-mul n most))
 
+-- each table has at most 32 trains
+pub all_few : (S : Setup) → IsCoreSetup (core S) → (t : ℕ) → trains (offer S.tables t).table ≤ 32
+all_few S formed t = elim (cases_lt t (length S.tables)) [
+  | inl lt ↦ (formed.formed t lt).few_trains
+  | inr le ↦ let e = ap (λ (o : Offer). trains o.table) (get_or_past S.tables t (record { table = record { missions = []; sections = []; connections = [] }; after = 0 }) le) in omega arith
+]
+
 -- a pass that may make this many entries more finds room for them in the history
 pub bounded : (S : Setup) (s : St) (kept : Kept S s) (p more : ℕ) → p < most_passes → length (entries_of p kept.world.history) + more ≤ S.calls
     → length kept.world.history + more ≤ most_passes * S.calls
 bounded S s kept p more low room =
-    let few : (t : ℕ) → trains (offer S.tables t).table ≤ 32 = λ t. elim (cases_lt t (length S.tables)) [
-      | inl lt ↦ (kept.formed.formed t lt).few_trains
-      | inr le ↦ let e = ap (λ (o : Offer). trains o.table) (get_or_past S.tables t (record { table = record { missions = []; sections = []; connections = [] }; after = 0 }) le) in omega arith
-    ] in
     let H = kept.world.history in
-    let is = total_is 0 H (low_history S.tables S.opening.yard H few kept.sound.legal) in
+    let is = total_is 0 H (low_history S.tables S.opening.yard H (all_few S kept.formed) kept.sound.legal) in
     let most = total_less 33 S.calls p more H low kept.room room in
     omega arith

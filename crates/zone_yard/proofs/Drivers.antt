@@ -21,7 +21,7 @@ use Rattle.zone_yard.specs.Asked.{Asked}
 use Rattle.zone_yard.specs.Views.{pass_of}
 use Rattle.zone_yard.specs.Tells.{Sat}
 use Rattle.zone_yard.specs.Aboard.{IsDriver, IsPass, IsIdle}
-use Rattle.zone_yard.specs.Attempts.{Since, IsToldBlock, Asks}
+use Rattle.zone_yard.specs.Attempts.{IsToldBlock, Asks}
 use Rattle.zone_yard.proofs.BlockEntries.{told_long}
 use Rattle.zone_yard.proofs.Entered.{length-receipts}
 use Rattle.zone_yard.proofs.Replied.{same_claim}
@@ -59,21 +59,6 @@ module _ (id : TableId) (train position entries : ℕ) (old new : Sat) (driver :
         };
         named = subst (λ (S : Setup). train < trains (offer S.tables 0).table) (sym made) driver.named;
       }
-
-  pub driver_tried : Since old new → IsDriver train position entries new
-  driver_tried s = subst (IsDriver train position entries) (sym s.now) record {
-    pass = record {
-      aboard = pass.aboard;
-      number_is = pass.number_is;
-      idle = record { stage = pass.idle.stage; held = pass.idle.held; known = pass.idle.known; owed = pass.idle.owed; still = pass.idle.still; stands = pass.idle.stands };
-      made = pass.made;
-      room = pass.room;
-      few_calls = pass.few_calls;
-      legal = pass.legal;
-      slots = pass.slots;
-    };
-    named = driver.named;
-  }
 
   -- what contracts see of it
   pub asks_asked : (asked : ℕ) (attempt : Attempt) → 1 ≤ asked → length old.0.mine + asked ≤ old.0.setup.calls → Asks id asked old attempt new

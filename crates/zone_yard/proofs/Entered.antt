@@ -1,11 +1,9 @@
 -- Entries are added to the history under the rule, by the core's own step.
-use Rattle.std.proofs.Common.{◌≡◌, ◌≢◌, ℕ, zero, suc, ◌+◌, ◌*◌, ◌%◌, ◌^◌, ◌<◌, ◌≤◌, ◌==◌, List, [], ◌∷◌, ◌++◌, length, set, get_or, replicate, Bool, true, false, if◌then◌else◌, Ok, refl, sym, ap, ◌∙◌, subst, ⊎_elim, arith, eq-eqb, ne_eqb, length-append, cond, append_assoc, append-nil, get_or-set_other, get_or-set_same, length-set, Some, None, inl}
+use Rattle.std.proofs.Common.{◌≡◌, ◌≢◌, ℕ, zero, suc, ◌+◌, ◌*◌, ◌%◌, ◌^◌, ◌<◌, ◌≤◌, ◌==◌, List, [], ◌∷◌, ◌++◌, length, set, get_or, replicate, Bool, true, false, if◌then◌else◌, Ok, refl, sym, ap, ◌∙◌, subst, ⊎_elim, arith, eq-eqb, ne_eqb, length-append, cond, append-nil, get_or-set_other, get_or-set_same, Some, None, inl}
 use Rattle.std.proofs.lemmas.List.{length-replicate}
 use Rattle.std.specs.Prelude.{slice_get, is_none}
 use mathlib.Core.Logic.{dite}
-use mathlib.Core.Option.{some}
 use native.Mathlib.Decide.{ℕ_discrete}
-use lib.ListN.{get_elem?}
 use Rattle.atomic_table.specs.Table.{step, keeps, stepped, Allows}
 use Rattle.rail_model.specs.declared.types.Ask.TheVariants.{Yes}
 use Rattle.rail_model.specs.declared.types.Reply.TheVariants.{Driver, Control}
@@ -39,9 +37,9 @@ use Rattle.zone_yard.specs.Views.{View, new_entries, actor_after, entered}
 use Rattle.zone_yard.specs.Kept.{Kept, Fits, IsActor}
 use Rattle.zone_yard.specs.Tells.{Sat, Appends}
 use Rattle.zone_yard.proofs.Apart.{found_apart, spread-set}
-use Rattle.zone_yard.proofs.Lists.{at_set, set_here, starts_itself}
+use Rattle.zone_yard.proofs.Lists.{by_set, set_here, starts_itself, starts_on, same_of}
 use Rattle.zone_yard.proofs.Counts.{bounded}
-use Rattle.zone_yard.proofs.Keeps.{apart, roots_keep}
+use Rattle.zone_yard.proofs.Keeps.{seated, apart, roots_keep}
 
 -- All entries are the pass's.
 abbrev pub AreOf : ℕ → List Entry → Type 0
@@ -84,7 +82,7 @@ length-receipts k [] = refl
 length-receipts k (e ∷ es) = ap suc (length-receipts (suc k) es)
 
 longer : (H seen es : List Entry) → StartsWith H seen → StartsWith (H ++ es) seen
-longer H seen es p = (p.0 ++ es, ap (λ l. l ++ es) p.1 ∙ append_assoc seen p.0 es)
+longer H seen es p = starts_on (H ++ es) H seen (es, refl) p
 
 -- a sound core has each pass where the history leads it
 pub placed : (S : Setup) (w : World) (p : ℕ) (a : Actor) → Sound (core S) w → IsActor S p → slice_get w.actors p ≡ Some a → a.position ≡ standing (state_after S w.history) p
@@ -113,29 +111,24 @@ new_few S steps p a = go (p == control)
 
 -- the pass is still aboard after its entry
 pub stage_after : (steps : ℕ) (v : View) → (actor_after steps v).stage ≡ v.actor.stage
-stage_after steps v = go (v.number == control)
-  where
-    go : (b : Bool) → (cond b (control_after (core v.setup) v.actor) (driver_after (core v.setup) v.number v.actor steps)).stage ≡ v.actor.stage
-    go true = refl
-    go false = refl
+stage_after steps v = same_of (λ (a : Actor). a.stage) v.actor.stage (v.number == control) (control_after (core v.setup) v.actor) (driver_after (core v.setup) v.number v.actor steps) refl refl
 
 -- the core lets a pass that is ready make its entry
 may_enter : (S : CoreSetup) (w : World) (p steps : ℕ) (a : Actor) → IsReady S p a steps → length w.history + room_for S p a steps ≤ S.most → actor w p ≡ a → a.stage ≡ Aboard
     → (step : Step) × (seen : Seen) × (step_of S p w step ≡ Ok (seen, appended w (cond (p == control) (record { who = p; reply = Control (tried S a) } ∷ []) (block_entries p (own_claim S p a steps).steps (answer S p a steps))) p (cond (p == control) (control_after S a) (driver_after S p a steps))))
-may_enter S w p steps a ready room is aboard = dite (ℕ_discrete p control)
-    (λ (e : p ≡ control).
-    let on = eq-eqb p control e in (
+may_enter S w p steps a ready room is aboard =
+    let to : Bool → World =
+    λ b. appended w (cond b (record { who = p; reply = Control (tried S a) } ∷ []) (block_entries p (own_claim S p a steps).steps (answer S p a steps))) p (cond b (control_after S a) (driver_after S p a steps)) in
+    dite (ℕ_discrete p control)
+    (λ (e : p ≡ control). (
       Append,
       seen.Entry (length w.history) (Control (tried S a)),
-      append_enters S w p a steps ready room is aboard e
-          ∙ ap (λ (b : Bool). Ok (seen.Entry (length w.history) (Control (tried S a)), appended w (cond b (record { who = p; reply = Control (tried S a) } ∷ []) (block_entries p (own_claim S p a steps).steps (answer S p a steps))) p (cond b (control_after S a) (driver_after S p a steps)))) (sym on),
+      append_enters S w p a steps ready room is aboard e ∙ ap (λ b. Ok (seen.Entry (length w.history) (Control (tried S a)), to b)) (sym (eq-eqb p control e)),
     ))
-    (λ (ne : p ≢ control).
-    let off = ne_eqb p control ne in (
+    (λ (ne : p ≢ control). (
       Block steps,
       seen.Block (length w.history) (answer S p a steps),
-      block_enters S w p a steps ready room is aboard ne
-          ∙ ap (λ (b : Bool). Ok (seen.Block (length w.history) (answer S p a steps), appended w (cond b (record { who = p; reply = Control (tried S a) } ∷ []) (block_entries p (own_claim S p a steps).steps (answer S p a steps))) p (cond b (control_after S a) (driver_after S p a steps)))) (sym off),
+      block_enters S w p a steps ready room is aboard ne ∙ ap (λ b. Ok (seen.Block (length w.history) (answer S p a steps), to b)) (sym (ne_eqb p control ne)),
     ))
 
 -- the control that is ready may be told of the next table
@@ -185,8 +178,8 @@ append_allows S slots id k steps me aboard count may s kept _ at _ =
     let else_actor : (q : ℕ) → q ≢ v.number → actor w' q ≡ actor w q = λ q ne. get_or-set_other w.actors v.number q a' gone ne in
     let same_table : word (core S) w' TableCell ≡ word (core S) w TableCell = get_or-set_other w.words 0 (suc (S.layout.zones + (length S.layout.points + 96))) (length H + length es) 0 (λ e. omega arith) in
     let there : slice_get w'.actors v.number ≡ Some a' =
-    get_some w'.actors v.number a' gone (let l = length-set w.actors v.number a' in omega arith) (get_or-set_same w.actors v.number a' gone (omega arith)) in
-    let seated : slice_get w.actors v.number ≡ Some v.actor = get_some w.actors v.number v.actor gone (omega (arith, low)) here.actor in
+    seated S w' v.number a' sound' low (get_or-set_same w.actors v.number a' gone (omega arith)) in
+    let seated_is : slice_get w.actors v.number ≡ Some v.actor = seated S w v.number v.actor kept.sound low here.actor in
     let still : v.actor.closing ≡ false = may.0.still in
     let t = fit.noted in (
       v',
@@ -202,25 +195,23 @@ append_allows S slots id k steps me aboard count may s kept _ at _ =
             (λ e. subst (λ p. length (entries_of p (H ++ es)) ≤ S.calls) (sym e) (omega (arith, ap length mine', length-append v.mine (receipts_from (length H) es), length-receipts (length H) es, count, room)))
             (λ ne. subst (λ l. length l ≤ S.calls) (sym (theirs q ne)) (kept.room q));
         seat = kept.seat;
-        fits = λ j u x. ⊎_elim
-            (λ (t : (j ≡ id) × (v' ≡ u)). subst (λ (y : ℕ × View). Fits S w' kept.seat y.0 y.1) (λ i. (sym t.0 i, t.1 i))
+        fits = by_set (Fits S w' kept.seat) s.views id v'
             record {
               seen = starts_itself (H ++ es);
               joined = λ n d lt. longer H _ es (fit.joined n d lt);
               noted = omega (arith, same_table);
               aboard = λ _. record { setup = here.setup; placed = here.placed; low = here.low; named = here.named; actor = get_or-set_same w.actors v.number a' gone (omega arith); stage = stage; own = mine' };
-            })
-            (λ (t : (j ≢ id) × (get_elem? s.views j ≡ some u)).
-            let old = kept.fits j u t.1 in
+            }
+            (λ j u off x.
+            let old = kept.fits j u x in
             record {
               seen = longer H u.seen es old.seen;
               joined = λ n d lt. longer H _ es (old.joined n d lt);
               noted = (let z = old.noted in omega (arith, same_table));
               aboard = λ b. let o = old.aboard b in
-                  let ne : u.number ≢ v.number = apart S s kept id v at aboard j u t.1 b t.0 in
+                  let ne : u.number ≢ v.number = apart S s kept id v at aboard j u x b off in
                   record { setup = o.setup; placed = o.placed; low = o.low; named = o.named; actor = else_actor u.number ne ∙ o.actor; stage = o.stage; own = theirs u.number ne ∙ o.own };
-            })
-            (at_set s.views id j v' u x);
+            });
         whole = record { id = id; view = v'; at = set_here s.views id v' v at; whole = refl };
         root = kept.root;
         rooted = roots_keep S w w' s.views kept.root v v' id kept.rooted at aboard aboard refl else_actor theirs;
@@ -232,20 +223,15 @@ append_allows S slots id k steps me aboard count may s kept _ at _ =
         formed = subst (λ (T : Setup). IsCoreSetup (core T)) (sym here.setup) kept.formed;
         few = (let c = found in let f = fits_in in let made = ap (λ (T : Setup). T.calls) here.setup in omega arith);
         so_far = here.own;
-        stood = subst (λ (T : Setup). v.actor.position ≡ standing (state_after T H) v.number) (sym here.setup) (placed S w v.number v.actor kept.sound here.named seated);
+        stood = subst (λ (T : Setup). v.actor.position ≡ standing (state_after T H) v.number) (sym here.setup) (placed S w v.number v.actor kept.sound here.named seated_is);
         under = λ t e. subst (λ (T : Setup). (state_after T H).table ≡ t) (sym here.setup)
-            ((kept.sound.knowing v.number v.actor TableCell t seated still e).1 (state_after S H).table refl);
+            ((kept.sound.knowing v.number v.actor TableCell t seated_is still e).1 (state_after S H).table refl);
         now = refl;
         legal = subst (λ (T : Setup). IsLegalHistory T (H ++ es)) (sym here.setup) sound'.legal;
         own = mine';
         once = sound'.once v.number a' there;
         cells = λ c n e. subst (λ (T : Setup). is_cell (core T) c ≡ true) (sym here.setup) (sound'.owing v.number a' c n there e).1;
-        turn = told_ready (core v.setup) w v.number steps v.actor formed sound ready (get_some w.actors v.number v.actor gone (omega arith) here.actor);
+        turn = told_ready (core v.setup) w v.number steps v.actor formed sound ready seated_is;
         stands = subst (λ (T : Setup). a'.position ≡ standing (state_after T (H ++ es)) v.number) (sym here.setup) (placed S w' v.number a' sound' here.named there);
       },
     )
-  where
-    get_some : {A : Type 0} (xs : List A) (i : ℕ) (a d : A) → i < length xs → get_or xs i d ≡ a → slice_get xs i ≡ Some a
-    get_some [] i a d lt e = absurd (omega arith)
-    get_some (x ∷ xs) zero a d lt e = ap Some e
-    get_some (x ∷ xs) (suc i) a d lt e = get_some xs i a d (omega arith) e

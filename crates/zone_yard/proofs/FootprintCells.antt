@@ -1,8 +1,11 @@
 -- The cells of a footprint: they are few, and the held zones guard them.
-use Rattle.std.proofs.Common.{◌≡◌, ◌≢◌, ℕ, zero, suc, ◌+◌, ◌-◌, ◌<◌, ◌≤◌, ◌==◌, List, [], ◌∷◌, ◌++◌, length, take, drop, Bool, true, false, true≢false, cond, Option, Some, None, refl, sym, ap, ◌∙◌, subst, inl, inr, ⊎_elim, arith, ne_eqb, length-append}
-use Rattle.std.specs.Prelude.{slice_get, filter, filter_map, map, not, ◌&&◌}
+use Rattle.std.proofs.Common.{◌≡◌, ◌≢◌, ℕ, suc, ◌+◌, ◌-◌, ◌<◌, ◌≤◌, ◌==◌, List, [], ◌∷◌, ◌++◌, length, take, drop, Bool, true, false, true≢false, cond, Option, Some, None, sym, ap, ◌∙◌, subst, ⊎_elim, arith, ne_eqb, length-append}
+use Rattle.std.specs.Prelude.{filter, filter_map, map, not, ◌&&◌}
 use Rattle.std.specs.List.{cons_option, list_any}
+use Rattle.std.proofs.lemmas.List.{length-map}
 use Rattle.std.proofs.lemmas.List.FromFn.{length-range_with_len}
+use Rattle.std.proofs.lemmas.List.Sums.{length-filter, count_by-le-length}
+use Rattle.std.proofs.Math.Seq.{take-length}
 use Rattle.rail_model.specs.Table.{Table, IsTable, trains, point}
 use Rattle.rail_model.specs.Checks.{below}
 use Rattle.rail_model.specs.Yard.{offer, control}
@@ -21,15 +24,11 @@ use Rattle.zone_yard.specs.declared.requests.Wanted.{Wanted}
 use Rattle.zone_yard.specs.Setup.{Setup, core}
 use Rattle.zone_yard.specs.Blocks.{needs}
 use Rattle.zone_yard.specs.Holding.{span}
+use Rattle.zone_yard.proofs.Lists.{second_of, both_true}
 use Rattle.zone_yard.proofs.BlockEntries.{low, among}
 
 few_filter : {A : Type 0} (p : A → Bool) (xs : List A) → length (filter p xs) ≤ length xs
-few_filter p [] = omega arith
-few_filter {A} p (x ∷ xs) = go (p x) (few_filter p xs)
-  where
-    go : (b : Bool) → length (filter p xs) ≤ length xs → length (cond b (x ∷ filter p xs) (filter p xs)) ≤ suc (length xs)
-    go true le = omega arith
-    go false le = omega arith
+few_filter p xs = omega (arith, length-filter p xs, count_by-le-length p xs)
 
 few_without : (z : ℕ) (xs : List ℕ) → length (without z xs) ≤ length xs
 few_without z [] = omega arith
@@ -51,30 +50,21 @@ few_found f (x ∷ xs) = go (f x) (few_found f xs)
     go None le = omega arith
     go (Some y) le = omega arith
 
-few_map : (f : ℕ → Cell) (xs : List ℕ) → length (map f xs) ≡ length xs
-few_map f [] = refl
-few_map f (x ∷ xs) = ap suc (few_map f xs)
-
 -- the cells after the table
 abbrev pub later_cells : Table → Claim → List Cell
 later_cells T c = map (λ (q : ℕ). Point q) (next_points T c) ++ map (λ (s : ℕ). Count s) (sections T c) ++ map (λ (j : ℕ). Position j) (others T c)
 
 pub few_cells : (T : Table) (c : Claim) → IsTable T → c.steps ≤ 4 → length (later_cells T c) ≤ 100
 few_cells T c formed few =
-    let p = few_map (λ (q : ℕ). Point q) (next_points T c) in
-    let s = few_map (λ (s : ℕ). Count s) (sections T c) in
-    let o = few_map (λ (j : ℕ). Position j) (others T c) in
+    let p = length-map (next_points T c) (λ (q : ℕ). Point q) in
+    let s = length-map (sections T c) (λ (s : ℕ). Count s) in
+    let o = length-map (others T c) (λ (j : ℕ). Position j) in
     let e = length-append (map (λ (q : ℕ). Point q) (next_points T c) ++ map (λ (s : ℕ). Count s) (sections T c)) (map (λ (j : ℕ). Position j) (others T c)) in
     let d = length-append (map (λ (q : ℕ). Point q) (next_points T c)) (map (λ (s : ℕ). Count s) (sections T c)) in
     let p' : length (next_points T c) ≤ 4 = (let a = few_firsts (filter_map (point T c.train) (reached c)) in let b = few_found (point T c.train) (reached c) in let n = length-range_with_len (c.place + 1) c.steps in omega (arith, a, b, n, few)) in
     let s' : length (sections T c) ≤ 64 = (let a = few_filter (λ s. list_any (is_changed T c.train s) (reached c)) (below (length T.sections)) in let n = length-range_with_len 0 (length T.sections) in let m = formed.few_sections in omega (arith, a, n, m)) in
     let o' : length (others T c) ≤ 32 = (let a = few_filter (λ j. list_any (λ k. binds c k && (k.other == j)) T.connections) (below (trains T)) in let n = length-range_with_len 0 (trains T) in let m = formed.few_trains in omega (arith, a, n, m)) in
     omega (arith, p, s, o, e, d, p', s', o')
-
-pub at_among : {A : Type 0} (xs : List A) (k : ℕ) (x : A) → slice_get xs k ≡ Some x → Among xs x
-at_among [] k x e = absurd (cc e)
-at_among (y ∷ ys) zero x e = inl (let h : Some y ≡ Some x = e in cc)
-at_among (y ∷ ys) (suc k) x e = inr (at_among ys k x e)
 
 -- none of them is the table's
 pub no_table : (T : Table) (c : Claim) (d : Cell) → Among (later_cells T c) d → d ≢ TableCell
@@ -86,13 +76,6 @@ no_table T c d h = ⊎_elim
     (λ (v : Among (map (λ (j : ℕ). Position j) (others T c)) d) e. let r = map_among (λ (j : ℕ). Position j) (others T c) d v in let bad : Position r.0 ≡ TableCell = r.2 ∙ e in absurd (cc bad))
     (split _ _ d h)
 
-both_true : (b d : Bool) → b && d ≡ true → (b ≡ true) × (d ≡ true)
-both_true true d e = (refl, e)
-both_true false d e = absurd (true≢false (sym e))
-
-chosen : {A : Type 0} (b : Bool) (x y : A) → b ≡ false → cond b x y ≡ y
-chosen b x y e = rw e refl
-
 -- who holds the zones of its footprint may read its cells
 pub guarded : (S : Setup) (w : Wanted) (a : Actor) (f : Footprint) → IsCoreSetup (core S) → w.train < 32 → w.table < length S.tables → f ≡ needs S w a.position
     → a.held ≡ span f.zones 0 S.layout.zones → (c : Cell) → Among (cells_of f.table f.claim) c → (is_cell (core S) c ≡ true) × (may_read (core S) a.held c ≡ true)
@@ -101,9 +84,9 @@ guarded S w a f ok lt inside is held c h =
     let t : ℕ = w.table in
     let off : (p == control) ≡ false = ne_eqb p control (λ e. absurd (omega (arith, e, lt))) in
     let T : Table = (offer S.tables t).table in
-    let zs : zones (core S) p a t w.steps ≡ f.zones = chosen (p == control) (below S.layout.zones) (zones_of S.layout T (claim_of T p a.position w.steps)) off ∙ ap (λ (g : Footprint). g.zones) (sym is) in
+    let zs : zones (core S) p a t w.steps ≡ f.zones = second_of (p == control) (below S.layout.zones) (zones_of S.layout T (claim_of T p a.position w.steps)) off ∙ ap (λ (g : Footprint). g.zones) (sym is) in
     let cs : cells (core S) p a t w.steps ≡ cells_of f.table f.claim =
-    chosen (p == control) (TableCell ∷ map (λ (i : ℕ). Position i) (below (trains_of (core S)))) (cells_of T (claim_of T p a.position w.steps)) off
+    second_of (p == control) (TableCell ∷ map (λ (i : ℕ). Position i) (below (trains_of (core S)))) (cells_of T (claim_of T p a.position w.steps)) off
     ∙ ap (λ (g : Footprint). cells_of g.table g.claim) (sym is) in
     both_true (is_cell (core S) c) (may_read (core S) a.held c)
     (readable (core S) ok p a t w.steps inside a.held c
@@ -111,13 +94,9 @@ guarded S w a f ok lt inside is held c h =
     subst (λ l. has z l ≡ true) (sym held) (among f.zones z 0 S.layout.zones there (omega arith) (low z 0 S.layout.zones _ (subst (λ (g : Footprint). has z g.zones ≡ true) is there))))
     (subst (λ l. Among l c) (sym cs) h))
 
-take_whole : {A : Type 0} (xs : List A) → take (length xs) xs ≡ xs
-take_whole [] = refl
-take_whole (x ∷ xs) = ap (λ l. x ∷ l) (take_whole xs)
-
 -- the cells after the first
 pub tail_of : (x : Cell) (rest l : List Cell) → l ≡ x ∷ rest → take (length l - 1) (drop 1 l) ≡ rest
-tail_of x rest l is = ap (λ (m : List Cell). take (length m - 1) (drop 1 m)) is ∙ (ap (λ n. take n rest) (let e : suc (length rest) - 1 ≡ length rest = omega arith in e) ∙ take_whole rest)
+tail_of x rest l is = ap (λ (m : List Cell). take (length m - 1) (drop 1 m)) is ∙ (ap (λ n. take n rest) (let e : suc (length rest) - 1 ≡ length rest = omega arith in e) ∙ take-length rest)
 
 pub tail_known : (rest : List Cell) (known : List (Cell × ℕ)) (t : ℕ) → number_of TableCell known ≡ Some t → first_unknown rest known ≡ None → first_unknown (TableCell ∷ rest) known ≡ None
 tail_known rest known t e h = rw e h

@@ -9,22 +9,10 @@ use Rattle.zone_machine.specs.Steps.{still_known}
 use Rattle.zone_machine.proofs.Guards.{may_read-bare}
 use Rattle.zone_yard.specs.Setup.{core}
 use Rattle.zone_yard.specs.Passes.{Try, StartsWith}
-use Rattle.zone_yard.specs.Views.{tried_at, took, gave}
+use Rattle.zone_yard.specs.Views.{took, gave}
 use Rattle.zone_yard.specs.Tells.{Sat}
 use Rattle.zone_yard.specs.Holding.{span, Holds, Gives}
 use Rattle.zone_yard.proofs.Spans.{span_next, span_skip, given_back, not_needed}
-
--- a try is noted, and what is held stays
-pub tries_on : (z found : ℕ) (held : List ℕ) (old l new : Sat) → Holds old l held → new ≡ (tried_at z found l.0, l.1) → Holds old new held
-tries_on z found held old l new h is =
-    let t : Try = record { zone = z; found = found; glanced = option_map_or (λ t. t) l.0.actor.glance 0 } in
-    let was : Sat = (record old.0 { tries = l.0.tries; actor = record old.0.actor { held = held } }, old.1) in
-    let at : new ≡ (tried_at z found was.0, was.1) = is ∙ ap (λ (m : Sat). (tried_at z found m.0, m.1)) h.now in
-    let tries = ap (λ (m : Sat). m.0.tries) at in
-    record {
-      tries = subst (λ (m : Sat). StartsWith m.0.tries old.0.tries) (sym is) (h.tries.0 ++ t ∷ [], ap (λ x. x ++ t ∷ []) h.tries.1 ∙ append_assoc old.0.tries h.tries.0 (t ∷ []));
-      now = at ∙ (λ i. (record old.0 { tries = sym tries i; actor = record old.0.actor { held = held } }, old.1));
-    }
 
 -- a zone is held besides
 pub takes_one : (z : ℕ) (held : List ℕ) (old l new : Sat) → Holds old l held → new ≡ (took z l.0, l.1) → Holds old new (held ++ z ∷ [])

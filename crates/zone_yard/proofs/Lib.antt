@@ -1,5 +1,4 @@
 pub mod RowsOfPasses
-pub mod Answered
 pub mod Apart
 pub mod Closes
 pub mod Opens
@@ -25,12 +24,8 @@ pub mod Replied
 pub mod Retries
 pub mod Drivers
 pub mod Turning
-pub mod Turned
 pub mod LinesKept
-pub mod AskedAgain
-pub mod Served
 pub mod LowPlaces
-pub mod LinesStay
 pub mod RowsOfAnswers
 pub mod RowsOfSeats
 pub mod Closed

@@ -1,22 +1,20 @@
 -- The lines of a pass grow by those of its own entries.
-use Rattle.std.proofs.Common.{◌≡◌, lt_of_not-le, true≢false, get_or-set_same, ◌≢◌, ℕ, zero, suc, ◌+◌, ◌-◌, ◌<◌, ◌≤◌, ◌==◌, List, [], ◌∷◌, ◌++◌, length, length-set, set, get_or-set_other, get_or, min, replicate, Bool, true, false, if◌then◌else◌, cond, All, Option, Some, None, refl, sym, ap, ◌∙◌, subst, arith, eq-eqb, ne_eqb, append_assoc, append-nil, length-append}
-use Rattle.std.proofs.lemmas.List.{get_or_past}
+use Rattle.std.proofs.Common.{◌≡◌, lt_of_not-le, true≢false, get_or-set_same, ◌≢◌, ℕ, zero, suc, ◌+◌, ◌-◌, ◌<◌, ◌≤◌, ◌==◌, List, [], ◌∷◌, ◌++◌, length, length-set, set, get_or-set_other, get_or, replicate, Bool, true, false, if◌then◌else◌, All, Some, None, refl, sym, ap, ◌∙◌, subst, arith, eq-eqb, ne_eqb, append-nil, length-append}
+use Rattle.std.proofs.lemmas.List.{get_or_past, append_cancel_left}
 use Rattle.std.proofs.lemmas.List.Elements.{All-cons}
 use Rattle.std.specs.Prelude.{unwrap_or}
 use mathlib.Core.Logic.{dite}
 use native.Mathlib.Decide.{ℕ_discrete, dec_le}
-use Rattle.rail_model.specs.declared.types.Ask.{Ask}
 use Rattle.rail_model.specs.declared.types.Ask.TheVariants.{Yes, Arrived, Occupied, Full, Waits}
 use Rattle.rail_model.specs.declared.types.BlockAsk.{BlockAsk}
 use Rattle.rail_model.specs.declared.types.BlockAsk.TheVariants as block
 use Rattle.rail_model.specs.Blocks.{block_entries}
 use Rattle.rail_model.proofs.Histories.{history_parts}
-use Rattle.move_claim.specs.declared.cells.Cell.{Cell}
 use Rattle.move_claim.specs.declared.cells.Cell.TheVariants.{Table as TableCell}
 use Rattle.move_claim.specs.declared.claims.Claim.{Claim}
 use Rattle.move_claim.specs.Cells.{number_of, number_in}
 use Rattle.move_claim.specs.Claims.{claim_of}
-use Rattle.move_claim.specs.Deciding.{ask_after, first_refused, stopped, decided}
+use Rattle.move_claim.specs.Deciding.{decided}
 use Rattle.zone_machine.specs.Entries.{known_table, tried}
 use Rattle.rail_model.specs.declared.types.Reply.TheVariants.{Driver, Control}
 use Rattle.rail_model.specs.declared.types.Entry.{Entry}
@@ -24,12 +22,11 @@ use Rattle.rail_model.specs.declared.types.Line.{Line}
 use Rattle.rail_model.specs.declared.types.Line.TheVariants.{Move as MoveLine}
 use Rattle.rail_model.specs.declared.types.Tried.{Tried}
 use Rattle.rail_model.specs.Lines.{line_of, move_line}
-use Rattle.rail_model.specs.Table.{Table, point, place, trains, last}
+use Rattle.rail_model.specs.Table.{Table, point, place, trains}
 use Rattle.rail_model.specs.Yard.{Offer, Yard, offer, control, in_force, after, moved, IsHistory}
 use Rattle.table_exchange.proofs.Histories.{stands_history}
 use Rattle.ticket_lines.specs.declared.tickets.TicketLine.{TicketLine}
 use Rattle.ticket_lines.specs.Merging.{Row}
-use Rattle.zone_locks.specs.Zones.{has}
 use Rattle.ticket_lines.specs.Tickets.{at_ticket, marks_of, own_lines, lines_of}
 use Rattle.ticket_lines.proofs.Histories.{own_here, own_lines_go_on, silent}
 use Rattle.ticket_lines.proofs.Counted.{places_counted, tables_counted}
@@ -39,20 +36,11 @@ use Rattle.zone_yard.specs.Passes.{Receipt, StartsWith, entries_from, entries_of
 use Rattle.zone_yard.specs.Views.{View, new_entries, pass_view}
 use Rattle.zone_yard.specs.Lines.{Lines, AreLines, IsLeft, AreLeft, most_lines, moves_from}
 use Rattle.zone_yard.specs.Tells.{Sat, Appends}
+use Rattle.zone_yard.specs.Blocks.{CanAnswer}
+use Rattle.zone_yard.proofs.Lists.{first_of, second_of, starts_on}
+use Rattle.zone_yard.proofs.Counts.{all_few}
+use Rattle.zone_yard.proofs.BlockEntries.{can_answer}
 use Rattle.zone_yard.proofs.Entered.{entries-append}
-
--- the lines of a pass rest on what it was made with, its number, what it has seen and its entries
-pub lines_stay : (v w : View) (l : Lines) → w.setup ≡ v.setup → w.number ≡ v.number → w.seen ≡ v.seen → w.mine ≡ v.mine → AreLines v l → AreLines w l
-lines_stay v w l setup number seen mine h = record {
-  own = (λ i. entries_of (number i) (seen i)) ∙ (h.own ∙ sym mine);
-  items = h.items ∙ (λ i. lines_of (sym setup i).tables (sym setup i).opening.yard (sym number i) (sym seen i));
-  room = subst (λ p. most_lines p ≤ l.room) (sym number) h.room;
-}
-
--- a part that adds nothing is empty
-adds_none : {A : Type 0} (xs ys : List A) → xs ++ ys ≡ xs → ys ≡ []
-adds_none [] ys e = e
-adds_none (x ∷ xs) ys e = adds_none xs ys (cc e)
 
 -- entries none of which is the pass's
 others : (p k : ℕ) (es : List Entry) → entries_from k p es ≡ [] → All (λ (e : Entry). p ≢ e.who) es
@@ -64,6 +52,14 @@ others p k (e ∷ es) none = by_test (λ _ h. others p (suc k) es h) (p == e.who
     by_test later true is h = absurd (cc h)
     by_test later false is h = All-cons (λ (x : Entry). p ≢ x.who) e es (λ same. true≢false (sym (eq-eqb p e.who same) ∙ is)) (later 0 h)
 
+-- what others add gives a pass no line
+same_lines : (S : Setup) (p : ℕ) (seen rest : List Entry) → entries_of p (seen ++ rest) ≡ entries_of p seen → lines_of S.tables S.opening.yard p (seen ++ rest) ≡ lines_of S.tables S.opening.yard p seen
+same_lines S p seen rest same =
+    let none = append_cancel_left (entries_of p seen) (entries_from (0 + length seen) p rest) [] (sym (entries-append 0 p seen rest) ∙ (same ∙ sym (append-nil (entries_of p seen)))) in
+    own_lines_go_on S.tables S.opening.yard p seen rest
+    ∙ (ap (λ l. lines_of S.tables S.opening.yard p seen ++ l) (silent S.tables (after S.opening.yard seen) p (length seen) rest (others p (0 + length seen) rest none))
+    ∙ append-nil (lines_of S.tables S.opening.yard p seen))
+
 module _ (steps found : ℕ) (m after_it : Sat) (a : Appends steps m found after_it) (own : entries_of m.0.number m.0.seen ≡ m.0.mine) where
   abbrev S : Setup
   S = m.0.setup
@@ -73,15 +69,7 @@ module _ (steps found : ℕ) (m after_it : Sat) (a : Appends steps m found after
 
   -- what others added before the entry gives the pass no line
   before_lines : lines_of S.tables S.opening.yard p a.before ≡ lines_of S.tables S.opening.yard p m.0.seen
-  before_lines =
-      let rest = a.begins.0 in
-      let whole : m.0.mine ++ entries_from (0 + length m.0.seen) p rest ≡ m.0.mine =
-      ap (λ l. l ++ entries_from (0 + length m.0.seen) p rest) (sym own) ∙ (sym (entries-append 0 p m.0.seen rest) ∙ (ap (entries_of p) (sym a.begins.1) ∙ a.so_far)) in
-      let none = others p (0 + length m.0.seen) rest (adds_none m.0.mine (entries_from (0 + length m.0.seen) p rest) whole) in
-      ap (lines_of S.tables S.opening.yard p) a.begins.1
-      ∙ (own_lines_go_on S.tables S.opening.yard p m.0.seen rest
-      ∙ (ap (λ l. lines_of S.tables S.opening.yard p m.0.seen ++ l) (silent S.tables (after S.opening.yard m.0.seen) p (length m.0.seen) rest none)
-      ∙ append-nil (lines_of S.tables S.opening.yard p m.0.seen)))
+  before_lines = ap (lines_of S.tables S.opening.yard p) a.begins.1 ∙ same_lines S p m.0.seen a.begins.0 (ap (entries_of p) (sym a.begins.1) ∙ (a.so_far ∙ sym own))
 
   -- the pass's lines grow by those of its new entries
   pub lines_grow : lines_of S.tables S.opening.yard p after_it.0.seen
@@ -104,12 +92,6 @@ module _ (steps found : ℕ) (m after_it : Sat) (a : Appends steps m found after
             ∙ (sym lines_grow ∙ (λ i. lines_of (sym made i).tables (sym made i).opening.yard (sym named i) after_it.0.seen)));
         room = subst (λ (x : ℕ × ℕ). most_lines x.0 ≤ x.1) (λ i. (sym named i, sym room i)) h.room;
       }
-
--- each table has at most 32 trains
-pub all_few : (S : Setup) → IsCoreSetup (core S) → (t : ℕ) → trains (offer S.tables t).table ≤ 32
-all_few S formed t = dite (dec_le (length S.tables) t)
-    (λ (far : length S.tables ≤ t). let none : length (offer S.tables t).table.missions ≡ 0 = ap (λ (o : Offer). length o.table.missions) (get_or_past S.tables t (record { table = record { missions = []; sections = []; connections = [] }; after = 0 }) far) in omega arith)
-    (λ near. (formed.formed t (lt_of_not-le near)).few_trains)
 
 -- the control has no more lines than tables were answered
 pub few_of_control : (S : Setup) (H : List Entry) → IsCoreSetup (core S) → IsLegalHistory S H → length (lines_of S.tables S.opening.yard 32 H) ≤ 15
@@ -166,74 +148,15 @@ pub moves_count : (T : Table) (i a k n : ℕ) → length (moves_from k T i a n) 
 moves_count T i a k zero = refl
 moves_count T i a k (suc n) = ap suc (moves_count T i (a + 1) (suc k) n)
 
--- An answer that isn't a grant has no grant in it.
-abbrev pub IsQuiet : BlockAsk → Type 0
-IsQuiet block.Yes = Unit {0}
-IsQuiet (block.First ask) = ask ≡ Yes → ⊥
-IsQuiet (block.NotWhole step ask) = Unit {0}
-
-abbrev pub Stops : Option (ℕ × Ask) → Type 0
-Stops None = Unit {0}
-Stops (Some r) = r.1 ≡ Yes → ⊥
-
-module _ (T : Table) (c : Claim) (number : Cell → ℕ) where
-  stops : (n k : ℕ) → Stops (first_refused T c number n k)
-  stops zero k = tt
-  stops (suc n) k = by_ask (stops n (k + 1)) (ask_after T c number k)
-    where
-      by_ask : Stops (first_refused T c number n (k + 1)) → (a : Ask) → Stops (elim a [ Yes ↦ first_refused T c number n (k + 1) | ask ↦ Some (k, ask) ])
-      by_ask h Yes = h
-      by_ask h Arrived = λ e. absurd (cc e)
-      by_ask h (Occupied by) = λ e. absurd (cc e)
-      by_ask h (Full s m) = λ e. absurd (cc e)
-      by_ask h (Waits x) = λ e. absurd (cc e)
-
-  quiet : IsQuiet (decided T c number)
-  quiet = by_steps (c.steps == 0) (first_refused T c number c.steps 0) (stops c.steps 0)
-    where
-      by_place : (k : ℕ) (a : Ask) → (a ≡ Yes → ⊥) → IsQuiet (stopped k a)
-      by_place zero a h = h
-      by_place (suc k) a h = tt
-
-      by_steps : (b : Bool) (o : Option (ℕ × Ask)) → Stops o → IsQuiet (cond b (block.First Arrived) (elim o [ None ↦ block.Yes | Some r ↦ stopped r.0 r.1 ]))
-      by_steps true o h = λ e. absurd (cc e)
-      by_steps false None h = tt
-      by_steps false (Some r) h = by_place r.0 r.1 h
-
-  -- an answer that isn't a grant gives no line
-  pub quiet_lines : (tables : List Offer) (y : Yard) (p k n : ℕ) (x : BlockAsk) → x ≡ decided T c number → (x ≡ block.Yes → ⊥) → own_lines p k (marks_of tables y (block_entries p n x)) ≡ []
-  quiet_lines tables y p k n x is not_yes = by_answer x (subst IsQuiet (sym is) quiet) not_yes
-    where
-      by_ask : (a : Ask) → (a ≡ Yes → ⊥) → own_lines p k (marks_of tables y (record { who = p; reply = Driver a } ∷ [])) ≡ []
-      by_ask Yes h = absurd (h refl)
-      by_ask Arrived h = own_here p k (record { who = p; line = None }) [] refl
-      by_ask (Occupied by) h = own_here p k (record { who = p; line = None }) [] refl
-      by_ask (Full s m) h = own_here p k (record { who = p; line = None }) [] refl
-      by_ask (Waits b) h = own_here p k (record { who = p; line = None }) [] refl
-
-      by_answer : (x : BlockAsk) → IsQuiet x → (x ≡ block.Yes → ⊥) → own_lines p k (marks_of tables y (block_entries p n x)) ≡ []
-      by_answer block.Yes h not_yes = absurd (not_yes refl)
-      by_answer (block.First a) h not_yes = by_ask a h
-      by_answer (block.NotWhole step a) h not_yes = own_here p k (record { who = p; line = None }) [] refl
-
--- the entries of a driver that knows the table in force
-pub entries_under : (v : View) (t steps : ℕ) (c : Claim) (x : BlockAsk) → v.number ≡ c.train → c.train < 32 → number_of TableCell v.actor.known ≡ Some t
-    → c ≡ claim_of (offer v.setup.tables t).table c.train v.actor.position steps → x ≡ decided (offer v.setup.tables t).table c (number_in v.actor.known)
-    → new_entries steps v ≡ block_entries c.train c.steps x
-entries_under v t steps c x named low table claim is =
-    let known : known_table v.actor ≡ t = ap (λ (o : Option ℕ). unwrap_or o 0) table in
-    let off : (v.number == control) ≡ false = ne_eqb v.number control (λ e. omega (arith, named, e)) in
-    let under : ℕ → ℕ → List Entry = λ k q. block_entries q (claim_of (offer v.setup.tables k).table q v.actor.position steps).steps
-    (decided (offer v.setup.tables k).table (claim_of (offer v.setup.tables k).table q v.actor.position steps) (number_in v.actor.known)) in
-    let driver : new_entries steps v ≡ under (known_table v.actor) v.number =
-    chosen (v.number == control) (record { who = v.number; reply = Control (tried (core v.setup) v.actor) } ∷ []) (under (known_table v.actor) v.number) off in
-    driver
-    ∙ ((λ i. under (known i) (named i))
-    ∙ (ap (λ (d : Claim). block_entries c.train d.steps (decided (offer v.setup.tables t).table d (number_in v.actor.known))) (sym claim)
-    ∙ ap (block_entries c.train c.steps) (sym is)))
-  where
-    chosen : {A : Type 0} (b : Bool) (x y : A) → b ≡ false → cond b x y ≡ y
-    chosen b x y e = rw e refl
+-- an answer that isn't a grant gives no line
+quiet_lines : (tables : List Offer) (y : Yard) (p k n : ℕ) (x : BlockAsk) → CanAnswer n x → (x ≡ block.Yes → ⊥) → own_lines p k (marks_of tables y (block_entries p n x)) ≡ []
+quiet_lines tables y p k n block.Yes can not_yes = absurd (not_yes refl)
+quiet_lines tables y p k n (block.NotWhole step a) can not_yes = own_here p k (record { who = p; line = None }) [] refl
+quiet_lines tables y p k n (block.First Yes) can not_yes = absurd (can refl)
+quiet_lines tables y p k n (block.First Arrived) can not_yes = own_here p k (record { who = p; line = None }) [] refl
+quiet_lines tables y p k n (block.First (Occupied by)) can not_yes = own_here p k (record { who = p; line = None }) [] refl
+quiet_lines tables y p k n (block.First (Full s m)) can not_yes = own_here p k (record { who = p; line = None }) [] refl
+quiet_lines tables y p k n (block.First (Waits b)) can not_yes = own_here p k (record { who = p; line = None }) [] refl
 
 -- What a driver has that enters its answer: its table, its claim, and the answer to it.
 pub record Tells (v : View) (t steps : ℕ) (c : Claim) (x : BlockAsk) : Type 0 where
@@ -250,8 +173,18 @@ module _ (t steps found : ℕ) (c : Claim) (m w : Sat) (a : Appends steps m foun
   abbrev y : Yard
   y = state_after R a.before
 
+  off : (m.0.number == control) ≡ false
+  off = ne_eqb m.0.number control (λ e. (let n = tells.named in let l = tells.low in omega arith))
+
+  -- the entries of a driver that knows the table in force
   entries : new_entries steps m.0 ≡ block_entries c.train c.steps x
-  entries = entries_under m.0 t steps c x tells.named tells.low tells.table tells.claim tells.answer
+  entries =
+      let under : ℕ → ℕ → List Entry = λ k q. block_entries q (claim_of (offer R.tables k).table q m.0.actor.position steps).steps
+      (decided (offer R.tables k).table (claim_of (offer R.tables k).table q m.0.actor.position steps) (number_in m.0.actor.known)) in
+      second_of (m.0.number == control) _ (under (known_table m.0.actor) m.0.number) off
+      ∙ ((λ i. under (unwrap_or (tells.table i) 0) (tells.named i))
+      ∙ (ap (λ (d : Claim). block_entries c.train d.steps (decided (offer R.tables t).table d (number_in m.0.actor.known))) (sym tells.claim)
+      ∙ ap (block_entries c.train c.steps) (sym tells.answer)))
 
   -- the entry's table and place
   table_is : in_force R.tables y ≡ (offer R.tables t).table
@@ -259,19 +192,12 @@ module _ (t steps found : ℕ) (c : Claim) (m w : Sat) (a : Appends steps m foun
 
   place_is : place y.positions c.train ≡ c.place
   place_is =
-      let off : (m.0.number == control) ≡ false = ne_eqb m.0.number control (λ e. (let n = tells.named in let l = tells.low in omega arith)) in
-      let stood : m.0.actor.position ≡ place y.positions m.0.number = a.stood ∙ picked (m.0.number == control) y.tried (place y.positions m.0.number) off in
-      sym (ap (place y.positions) tells.named) ∙ (sym stood ∙ sym (ap (λ (d : Claim). d.place) tells.claim))
-    where
-      picked : (b : Bool) (i j : ℕ) → b ≡ false → cond b i j ≡ j
-      picked b i j e = rw e refl
+      sym (ap (place y.positions) tells.named)
+      ∙ (sym (a.stood ∙ second_of (m.0.number == control) y.tried (place y.positions m.0.number) off) ∙ sym (ap (λ (d : Claim). d.place) tells.claim))
 
   legal_entries : IsHistory R.tables y (block_entries c.train c.steps x)
   legal_entries = subst (IsHistory R.tables y) entries
       ((history_parts R.tables R.opening.yard a.before (new_entries steps m.0)).0 (subst (λ (z : Sat). IsLegalHistory R z.0.seen) a.now a.legal)).1
-
-  gained : List TicketLine
-  gained = own_lines m.0.number found (marks_of R.tables y (new_entries steps m.0))
 
   pub granted : x ≡ block.Yes → own_lines m.0.number found (marks_of R.tables y (new_entries steps m.0)) ≡ moves_from found (offer R.tables t).table c.train c.place c.steps
   granted is_yes =
@@ -283,29 +209,7 @@ module _ (t steps found : ℕ) (c : Claim) (m w : Sat) (a : Appends steps m foun
   pub none_granted : (x ≡ block.Yes → ⊥) → own_lines m.0.number found (marks_of R.tables y (new_entries steps m.0)) ≡ []
   none_granted not_yes =
       (λ i. own_lines (tells.named i) found (marks_of R.tables y (entries i)))
-      ∙ quiet_lines (offer R.tables t).table c (number_in m.0.actor.known) R.tables y c.train found c.steps x tells.answer not_yes
-
-  -- a train that moves is one of the table's, at a low place
-  pub moves_low : IsCoreSetup (core R) → x ≡ block.Yes → 0 < c.steps → (c.train < trains (offer R.tables t).table) × (c.place + c.steps ≤ 127)
-  moves_low formed is_yes some =
-      let all : IsHistory R.tables y (replicate c.steps (record { who = c.train; reply = Driver Yes })) = subst (λ z. IsHistory R.tables y (block_entries c.train c.steps z)) is_yes legal_entries in
-      let lt : c.train < trains (in_force R.tables y) = first c.steps some all in
-      let train : c.train < trains (offer R.tables t).table = subst (λ (T : Table). c.train < trains T) table_is lt in
-      let claimed : c.steps ≡ min steps (last (offer R.tables t).table c.train - m.0.actor.position) = ap (λ (d : Claim). d.steps) tells.claim in
-      let at : c.place ≡ m.0.actor.position = ap (λ (d : Claim). d.place) tells.claim in
-      let places : last (offer R.tables t).table c.train ≤ 127 = last_low t train in (
-        train,
-        omega arith,
-      )
-    where
-      first : (n : ℕ) → 0 < n → IsHistory R.tables y (replicate n (record { who = c.train; reply = Driver Yes })) → c.train < trains (in_force R.tables y)
-      first zero some h = absurd (omega arith)
-      first (suc n) some h = h.0.0
-
-      last_low : (k : ℕ) → c.train < trains (offer R.tables k).table → last (offer R.tables k).table c.train ≤ 127
-      last_low k lt = dite (dec_le (length R.tables) k)
-          (λ (far : length R.tables ≤ k). let none : length (offer R.tables k).table.missions ≡ 0 = ap (λ (o : Offer). length o.table.missions) (get_or_past R.tables k (record { table = record { missions = []; sections = []; connections = [] }; after = 0 }) far) in absurd (omega arith))
-          (λ near. ((formed.formed k (lt_of_not-le near)).missions c.train lt).few_places)
+      ∙ quiet_lines R.tables y c.train found c.steps x (subst (CanAnswer c.steps) (sym tells.answer) (can_answer (offer R.tables t).table c (number_in m.0.actor.known))) not_yes
 
   -- there is room for the lines of the moves
   pub moves_fit : (old : Lines) → IsCoreSetup (core R) → AreLines m.0 old → x ≡ block.Yes → length old.items + c.steps ≤ old.room
@@ -315,11 +219,8 @@ module _ (t steps found : ℕ) (c : Claim) (m w : Sat) (a : Appends steps m foun
       let grow : length (lines_of R.tables R.opening.yard m.0.number w.0.seen) ≡ length old.items + c.steps =
       ap length (lines_grow steps found m w a own ∙ (λ i. sym h.items i ++ granted is_yes i))
       ∙ (length-append old.items (moves_from found (offer R.tables t).table c.train c.place c.steps) ∙ ap (λ n. length old.items + n) (moves_count (offer R.tables t).table c.train c.place found c.steps)) in
-      let room : 127 ≤ old.room = subst (λ n. n ≤ old.room) (picked (m.0.number == control) (ne_eqb m.0.number control (λ e. (let n = tells.named in let l = tells.low in omega arith)))) h.room in
+      let room : 127 ≤ old.room = subst (λ n. n ≤ old.room) (second_of (m.0.number == control) 15 127 off) h.room in
       omega arith
-    where
-      picked : (b : Bool) → b ≡ false → cond {A = ℕ} b 15 127 ≡ 127
-      picked b e = rw e refl
 
 -- What the control has that enters its answer to the next table.
 pub record Tries (v : View) (next : ℕ) (x : Tried) : Type 0 where
@@ -331,22 +232,15 @@ module _ (next found : ℕ) (m w : Sat) (a : Appends 1 m found w) (own : entries
   abbrev pub entry : Entry
   entry = record { who = control; reply = Control x }
 
+  on : (m.0.number == control) ≡ true
+  on = eq-eqb m.0.number control tries.named
+
   one_told : new_entries 1 m.0 ≡ entry ∷ []
-  one_told =
-      let on : (m.0.number == control) ≡ true = eq-eqb m.0.number control tries.named in
-      picked (m.0.number == control) _ _ on ∙ (λ i. record { who = tries.named i; reply = Control (sym tries.answer i) } ∷ [])
-    where
-      picked : (b : Bool) (i j : List Entry) → b ≡ true → cond b i j ≡ i
-      picked b i j e = rw e refl
+  one_told = first_of (m.0.number == control) _ _ on ∙ (λ i. record { who = tries.named i; reply = Control (sym tries.answer i) } ∷ [])
 
   -- the table that is tried is the first without an answer
   pub next_tried : next ≡ (state_after m.0.setup a.before).tried + 1
-  next_tried =
-      let stood : m.0.actor.position ≡ (state_after m.0.setup a.before).tried = a.stood ∙ picked (m.0.number == control) _ _ (eq-eqb m.0.number control tries.named) in
-      tries.next_is ∙ ap (λ k. k + 1) stood
-    where
-      picked : (b : Bool) (i j : ℕ) → b ≡ true → cond b i j ≡ i
-      picked b i j e = rw e refl
+  next_tried = tries.next_is ∙ ap (λ k. k + 1) (a.stood ∙ first_of (m.0.number == control) _ _ on)
 
   pub table_lines : own_lines m.0.number found (marks_of m.0.setup.tables (state_after m.0.setup a.before) (new_entries 1 m.0))
       ≡ at_ticket found (line_of m.0.setup.tables (state_after m.0.setup a.before) entry)
@@ -364,14 +258,8 @@ module _ (next found : ℕ) (m w : Sat) (a : Appends 1 m found w) (own : entries
       ∙ length-append old.items (record { ticket = found; line = l } ∷ []) in
       let same : length (lines_of m.0.setup.tables m.0.setup.opening.yard m.0.number w.0.seen) ≡ length (lines_of m.0.setup.tables m.0.setup.opening.yard 32 w.0.seen) =
       ap (λ q. length (lines_of m.0.setup.tables m.0.setup.opening.yard q w.0.seen)) tries.named in
-      let room : 15 ≤ old.room = subst (λ n. n ≤ old.room) (picked (m.0.number == control) (eq-eqb m.0.number control tries.named)) h.room in
+      let room : 15 ≤ old.room = subst (λ n. n ≤ old.room) (first_of (m.0.number == control) 15 127 on) h.room in
       omega arith
-    where
-      picked : (b : Bool) → b ≡ true → cond {A = ℕ} b 15 127 ≡ 15
-      picked b e = rw e refl
-
-starts_on : {A : Type 0} (c b a : List A) → StartsWith c b → StartsWith b a → StartsWith c a
-starts_on c b a h k = (k.0 ++ h.0, h.1 ∙ (ap (λ l. l ++ h.0) k.1 ∙ append_assoc a k.0 h.0))
 
 -- a pass that boards has no line
 pub lines_begin : (v : View) (p : ℕ) (l : Lines) → l.items ≡ [] → most_lines p ≤ l.room → entries_of p v.seen ≡ [] → AreLines (pass_view p v) l
@@ -383,10 +271,7 @@ lines_begin v p l none room unheard = record {
 
 -- the most lines of a train
 pub most_of_train : (p : ℕ) → p < 32 → most_lines p ≡ 127
-most_of_train p low = picked (p == control) (ne_eqb p control (λ e. omega arith))
-  where
-    picked : (b : Bool) → b ≡ false → cond {A = ℕ} b 15 127 ≡ 127
-    picked b e = rw e refl
+most_of_train p low = second_of (p == control) 15 127 (ne_eqb p control (λ e. omega arith))
 
 -- what the root keeps rests on what it was made with, what it has seen, and who has left
 pub left_stay : (v w : View) (rows : List Row) → w.setup ≡ v.setup → w.seen ≡ v.seen → w.done ≡ v.done → AreLeft v rows → AreLeft w rows
@@ -435,23 +320,7 @@ left_more v w new rows p row l left lines named low made made_new done theirs ow
     later : (q n : ℕ) (mine : List Receipt) (rest : List (ℕ × List Receipt)) → q ≢ n → done_of q ((n, mine) ∷ rest) ≡ done_of q rest
     later q n mine rest ne = rw (ne_eqb q n ne) refl
 
--- who hasn't boarded with another boarding hasn't boarded before
-pub has_less : (q t : ℕ) (l : List ℕ) → has q (t ∷ l) ≡ false → has q l ≡ false
-has_less q t l h = by_test (q == t) h
-  where
-    by_test : (b : Bool) → (if b then true else has q l) ≡ false → has q l ≡ false
-    by_test true e = absurd (true≢false e)
-    by_test false e = e
-
 -- at the end the lines of a pass that left are those of its entries in the whole history
 pub left_whole : (v : View) (p : ℕ) (lines : List TicketLine) → IsLeft v p lines → entries_of p v.seen ≡ done_of p v.done → lines ≡ lines_of v.setup.tables v.setup.opening.yard p v.seen
 left_whole v p lines left own =
-    let rest = left.begins.0 in
-    let whole : entries_of p left.seen ++ entries_from (0 + length left.seen) p rest ≡ entries_of p left.seen =
-    sym (entries-append 0 p left.seen rest) ∙ (ap (entries_of p) (sym left.begins.1) ∙ (own ∙ sym left.own)) in
-    let none = others p (0 + length left.seen) rest (adds_none (entries_of p left.seen) (entries_from (0 + length left.seen) p rest) whole) in
-    left.items
-    ∙ sym (ap (lines_of v.setup.tables v.setup.opening.yard p) left.begins.1
-    ∙ (own_lines_go_on v.setup.tables v.setup.opening.yard p left.seen rest
-    ∙ (ap (λ l. lines_of v.setup.tables v.setup.opening.yard p left.seen ++ l) (silent v.setup.tables (after v.setup.opening.yard left.seen) p (length left.seen) rest none)
-    ∙ append-nil (lines_of v.setup.tables v.setup.opening.yard p left.seen))))
+    left.items ∙ sym (ap (lines_of v.setup.tables v.setup.opening.yard p) left.begins.1 ∙ same_lines v.setup p left.seen left.begins.0 (ap (entries_of p) (sym left.begins.1) ∙ (own ∙ sym left.own)))

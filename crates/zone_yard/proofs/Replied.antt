@@ -1,19 +1,25 @@
--- From what a request was told to its reply.
-use Rattle.std.proofs.Common.{◌≡◌, ℕ, zero, suc, ◌-◌, ◌<◌, ◌≤◌, List, [], ◌∷◌, ◌++◌, length, min, refl, ap, ◌∙◌, subst, arith, append_assoc}
+-- From what a request was told, or what came of it, to its reply.
+use Rattle.std.proofs.Common.{◌≡◌, ℕ, zero, suc, ◌-◌, ◌<◌, ◌≤◌, [], ◌∷◌, ◌++◌, length, min, refl, ap, ◌∙◌, subst, arith, true, sym}
 use Rattle.rail_model.specs.declared.types.Ask.{Ask}
 use Rattle.rail_model.specs.declared.types.Ask.TheVariants as ask
 use Rattle.rail_model.specs.declared.types.BlockAsk.{BlockAsk}
 use Rattle.rail_model.specs.declared.types.BlockAsk.TheVariants as block
 use Rattle.rail_model.specs.declared.types.Reply.TheVariants.{Driver}
 use Rattle.rail_model.specs.Table.{Table, last}
-use Rattle.rail_model.specs.Yard.{in_force}
-use Rattle.move_claim.specs.Claims.{claim_of}
+use Rattle.rail_model.specs.Yard.{in_force, offer}
+use Rattle.move_claim.specs.Claims.{claim_of, zones_of}
 use Rattle.move_claim.specs.Deciding.{one_ask}
 use Rattle.zone_yard.specs.Setup.{state_after, IsLegalHistory}
 use Rattle.zone_yard.specs.Passes.{Pass, StartsWith, told, receipts_from, standing}
 use Rattle.zone_yard.specs.Entering.{Enters, HasRoom}
 use Rattle.zone_yard.specs.Blocks.{replies_of, CanAnswer, IsAnswered, steps_left}
 use Rattle.zone_yard.specs.Replies.{asked_steps, reply_to, block_reply_to, IsTold, Replies, BlockReplies}
+use Rattle.zone_yard.proofs.Lists.{starts_on}
+use Rattle.zone_locks.specs.Zones.{has}
+use Rattle.move_claim.specs.declared.claims.Claim.{Claim}
+use Rattle.zone_yard.specs.declared.requests.Attempt.{Attempt}
+use Rattle.zone_yard.specs.declared.requests.Attempt.TheVariants.{Told, Busy}
+use Rattle.zone_yard.specs.Asked.{Asked, IsAnswer, reply_of, block_reply_of}
 
 pub replies_to : (old new : Pass) (ticket : ℕ) (answer : Ask) → IsTold old ticket answer new → Replies old (reply_to ticket answer) new
 replies_to old new ticket ask.Yes h = h
@@ -60,9 +66,6 @@ module _ (pass : Pass) (want asked : ℕ) (room : HasRoom pass) (is : asked ≡ 
   answers_block new steps ticket (block.First (ask.Full s n)) a = (room, a.entered)
   answers_block new steps ticket (block.First (ask.Waits c)) a = (room, a.entered)
 
-pub starts_on : {A : Type 0} (c b a : List A) → StartsWith c b → StartsWith b a → StartsWith c a
-starts_on c b a h k = (k.0 ++ h.0, h.1 ∙ (ap (λ l. l ++ h.0) k.1 ∙ append_assoc a k.0 h.0))
-
 -- what was answered since only tries were added
 pub answered_since : (asked steps ticket : ℕ) (answer : BlockAsk) (old m new : Pass) → m ≡ record old { tries = m.tries } → StartsWith m.tries old.tries
     → IsAnswered asked answer steps ticket m new → IsAnswered asked answer steps ticket old new
@@ -86,3 +89,39 @@ answered_since asked steps ticket answer old m new same tries a =
       remain = a.remain ∙ ap (λ (x : Pass). steps_left x e.before asked) same;
       can = a.can;
     }
+
+pub asked_reply : (attempt : Attempt) (old new : Pass) → HasRoom old → Asked 1 old attempt new → Replies old (reply_of attempt) new
+asked_reply (Told answer steps ticket) old new room h = answers_one old new steps ticket answer room h
+asked_reply (Busy zone holder) old new room h = (room, h)
+
+pub asked_block : (want asked : ℕ) (attempt : Attempt) (old new : Pass) → HasRoom old → asked ≡ min want (old.yard.setup.calls - length old.mine) → Asked asked old attempt new
+    → BlockReplies want old (block_reply_of attempt) new
+asked_block want asked (Told answer steps ticket) old new room is h = answers_block old want asked room is new steps ticket answer h
+asked_block want asked (Busy zone holder) old new room is b =
+    let T : Table = (offer old.yard.setup.tables b.glanced).table in (
+      room,
+      record {
+        earlier = b.earlier;
+        glanced = b.glanced;
+        tries = b.tries;
+        another = b.another;
+        listed = b.listed;
+        needed = subst (λ (c : Claim). has zone (zones_of old.yard.setup.layout T c) ≡ true) (sym (same_claim old asked asked room (omega (arith, is)) T) ∙ same_claim old want asked room is T) b.needed;
+        rest = b.rest;
+        free = b.free;
+      },
+    )
+
+-- Only tries were added.
+pub record IsTriedOn (old new : Pass) : Type 0 where
+  pub tries : StartsWith new.tries old.tries
+  pub rest : new ≡ record old { tries = new.tries }
+
+-- the answer to the last request is one to the first
+pub asked_again : (n : ℕ) (attempt : Attempt) (old m new : Pass) → IsTriedOn old m → IsAnswer attempt → Asked n m attempt new → Asked n old attempt new
+asked_again n (Told answer steps ticket) old m new t answered h = answered_since n steps ticket answer old m new t.rest t.tries h
+asked_again n (Busy zone holder) old m new t answered h = absurd answered
+
+pub is_answer : (attempt : Attempt) → ((zone holder : ℕ) → attempt ≡ Busy zone holder → ⊥) → IsAnswer attempt
+is_answer (Told answer steps ticket) other = tt
+is_answer (Busy zone holder) other = other zone holder refl

@@ -1,5 +1,5 @@
 -- Tries at a block of steps, one after the other.
-use Rattle.std.proofs.Common.{◌≡◌, ℕ, suc, ◌+◌, ◌<◌, ◌≤◌, List, [], ◌∷◌, ◌++◌, length, true, false, Some, Option, refl, sym, ap, ◌∙◌, subst, arith, append-nil, append_assoc}
+use Rattle.std.proofs.Common.{◌≡◌, ℕ, suc, ◌+◌, ◌<◌, ◌≤◌, List, [], ◌∷◌, ◌++◌, length, true, false, Some, Option, sym, ap, ◌∙◌, subst, arith, append_assoc}
 use Rattle.std.specs.Option.{option_map_or}
 use Rattle.atomic_table.specs.Seated.{TableId}
 use Rattle.rail_model.specs.declared.types.BlockAsk.{BlockAsk}
@@ -15,11 +15,9 @@ use Rattle.zone_yard.specs.Blocks.{needs, granted_steps}
 use Rattle.zone_yard.specs.Views.{glanced, pass_of}
 use Rattle.zone_yard.specs.Aboard.{IsIdle}
 use Rattle.zone_yard.specs.Tells.{Sat}
-use Rattle.zone_yard.specs.Attempts.{Refuses, Moves, IsToldBlock, Attempts, Since, TurnsAway, Asks}
-use Rattle.zone_yard.proofs.Replied.{starts_on, answered_since}
-
-pub since_itself : (m : Sat) → Since m m
-since_itself m = record { tries = ([], sym (append-nil m.0.tries)); noted = omega arith; now = refl }
+use Rattle.zone_yard.specs.Attempts.{Refuses, IsToldBlock, Attempts, Since, TurnsAway, Asks}
+use Rattle.zone_yard.proofs.Lists.{starts_on}
+use Rattle.zone_yard.proofs.Replied.{answered_since}
 
 pub since_glance : (t : ℕ) (old l g : Sat) → Since old l → l.0.noted ≤ t → g ≡ (glanced t l.0, l.1) → Since old g
 since_glance t old l g s le is =
@@ -34,22 +32,6 @@ since_glance t old l g s le is =
       now = at ∙ (λ i. (record old.0 { tries = sym tries i; noted = sym noted i; actor = record old.0.actor { glance = sym glance i } }, old.1));
     }
 
-pub setup_since : (old m : Sat) → Since old m → m.0.setup ≡ old.0.setup
-setup_since old m s = ap (λ (x : Sat). x.0.setup) s.now
-
-pub glance_is : (t : ℕ) (l g : Sat) → g ≡ (glanced t l.0, l.1) → g.0.actor.glance ≡ Some t
-glance_is t l g is = ap (λ (m : Sat). m.0.actor.glance) is
-
-pub idle_since : (position : ℕ) (old m : Sat) → Since old m → IsIdle position old.0.actor → IsIdle position m.0.actor
-idle_since position old m s i = record {
-  stage = ap (λ (x : Sat). x.0.actor.stage) s.now ∙ i.stage;
-  held = ap (λ (x : Sat). x.0.actor.held) s.now ∙ i.held;
-  known = ap (λ (x : Sat). x.0.actor.known) s.now ∙ i.known;
-  owed = ap (λ (x : Sat). x.0.actor.owed) s.now ∙ i.owed;
-  still = ap (λ (x : Sat). x.0.actor.closing) s.now ∙ i.still;
-  stands = ap (λ (x : Sat). x.0.actor.position) s.now ∙ i.stands;
-}
-
 -- back as it was, but for tries and looks
 back : (position noted : ℕ) (tries : List Try) (glance : Option ℕ) (old g : Sat) → Since old g → IsIdle position old.0.actor
     → ◌≡◌ {A = Sat} (record g.0 { tries = tries; noted = noted; actor = record g.0.actor { held = []; known = []; closing = false; glance = glance } }, g.1)
@@ -57,13 +39,6 @@ back : (position noted : ℕ) (tries : List Try) (glance : Option ℕ) (old g : 
 back position noted tries glance old g s idle =
     ap (λ (m : Sat). (record m.0 { tries = tries; noted = noted; actor = record m.0.actor { held = []; known = []; closing = false; glance = glance } }, m.1)) s.now
     ∙ (λ i. (record old.0 { tries = tries; noted = noted; actor = record old.0.actor { held = sym idle.held i; known = sym idle.known i; closing = sym idle.still i; glance = glance } }, old.1))
-
-pub since_moved : (table position : ℕ) (old g new : Sat) → Since old g → Moves table g new → IsIdle position old.0.actor → Since old new
-since_moved table position old g new s m idle = record {
-  tries = starts_on new.0.tries g.0.tries old.0.tries m.tries s.tries;
-  noted = (let a = s.noted in let b = m.noted in omega arith);
-  now = m.now ∙ back position new.0.noted new.0.tries new.0.actor.glance old g s idle;
-}
 
 pub told_since : (id : TableId) (asked steps ticket : ℕ) (answer : BlockAsk) (old g new : Sat) → Since old g → IsToldBlock id asked answer steps ticket g new → IsToldBlock id asked answer steps ticket old new
 told_since id asked steps ticket answer old g new s h = (
@@ -75,33 +50,31 @@ told_since id asked steps ticket answer old g new s h = (
   },
 )
 
-pub turned_since : (S : Setup) (w : Wanted) (zone found position zones : ℕ) (f : Footprint) (old g new : Sat) → old.0.setup ≡ S → old.0.number ≡ w.train → f ≡ needs S w old.0.actor.position → w.table < length S.tables
-    → Since old g → g.0.actor.glance ≡ Some w.table → IsIdle position old.0.actor → Refuses zones f.zones g new zone found → TurnsAway w.steps old new zone found
-turned_since S w zone found position zones f old g new made number next inside s glance idle r =
-    let t : ℕ = w.table in
-    let seen : Try = record { zone = zone; found = found; glanced = t } in
-    let at : new.0.tries ≡ g.0.tries ++ r.earlier ++ seen ∷ [] = r.tries ∙ ap (λ (o : Option ℕ). g.0.tries ++ r.earlier ++ record { zone = zone; found = found; glanced = option_map_or (λ t. t) o 0 } ∷ []) glance in
-    let noted : new.0.noted ≡ g.0.noted = ap (λ (m : Sat). m.0.noted) r.now in
-    record {
-      earlier = s.tries.0 ++ r.earlier;
-      table = t;
-      tries = at ∙ ap (λ l. l ++ seen ∷ []) (ap (λ l. l ++ r.earlier) s.tries.1 ∙ append_assoc old.0.tries s.tries.0 r.earlier);
-      another = (r.another.0, (λ e. r.another.1 (e ∙ ap suc (sym (ap (λ (m : Sat). m.0.number) s.now)))), r.another.2);
-      listed = subst (λ (T : Setup). t < length T.tables) (sym made) inside;
-      needed = subst (λ (x : Setup × ℕ). has zone (zones_of x.0.layout (offer x.0.tables t).table (claim_of (offer x.0.tables t).table x.1 old.0.actor.position w.steps)) ≡ true) (λ i. (sym made i, sym number i))
-          (subst (λ (h : Footprint). has zone h.zones ≡ true) next r.wanted);
-      since = record {
-        tries = starts_on new.0.tries g.0.tries old.0.tries (r.earlier ++ seen ∷ [], at ∙ append_assoc g.0.tries r.earlier (seen ∷ [])) s.tries;
-        noted = (let a = s.noted in omega (arith, a, noted));
-        now = r.now ∙ ((λ i. (record g.0 { tries = new.0.tries; noted = sym noted i; actor = record g.0.actor { held = []; known = []; closing = false; glance = new.0.actor.glance } }, g.1))
-            ∙ back position new.0.noted new.0.tries new.0.actor.glance old g s idle);
-      };
-    }
+module _ (S : Setup) (id : TableId) (w : Wanted) (position zones : ℕ) (f : Footprint) (old g new : Sat) (made : old.0.setup ≡ S) (number : old.0.number ≡ w.train)
+    (next : f ≡ needs S w old.0.actor.position) (inside : w.table < length S.tables) (s : Since old g) (glance : g.0.actor.glance ≡ Some w.table) (idle : IsIdle position old.0.actor) where
+  turned_since : (zone found : ℕ) → Refuses zones f.zones g new zone found → TurnsAway w.steps old new zone found
+  turned_since zone found r =
+      let t : ℕ = w.table in
+      let seen : Try = record { zone = zone; found = found; glanced = t } in
+      let at : new.0.tries ≡ g.0.tries ++ r.earlier ++ seen ∷ [] = r.tries ∙ ap (λ (o : Option ℕ). g.0.tries ++ r.earlier ++ record { zone = zone; found = found; glanced = option_map_or (λ t. t) o 0 } ∷ []) glance in
+      let noted : new.0.noted ≡ g.0.noted = ap (λ (m : Sat). m.0.noted) r.now in
+      record {
+        earlier = s.tries.0 ++ r.earlier;
+        table = t;
+        tries = at ∙ ap (λ l. l ++ seen ∷ []) (ap (λ l. l ++ r.earlier) s.tries.1 ∙ append_assoc old.0.tries s.tries.0 r.earlier);
+        another = (r.another.0, (λ e. r.another.1 (e ∙ ap suc (sym (ap (λ (m : Sat). m.0.number) s.now)))), r.another.2);
+        listed = subst (λ (T : Setup). t < length T.tables) (sym made) inside;
+        needed = subst (λ (x : Setup × ℕ). has zone (zones_of x.0.layout (offer x.0.tables t).table (claim_of (offer x.0.tables t).table x.1 old.0.actor.position w.steps)) ≡ true) (λ i. (sym made i, sym number i))
+            (subst (λ (h : Footprint). has zone h.zones ≡ true) next r.wanted);
+        since = record {
+          tries = starts_on new.0.tries g.0.tries old.0.tries (r.earlier ++ seen ∷ [], at ∙ append_assoc g.0.tries r.earlier (seen ∷ [])) s.tries;
+          noted = (let a = s.noted in omega (arith, a, noted));
+          now = r.now ∙ ((λ i. (record g.0 { tries = new.0.tries; noted = sym noted i; actor = record g.0.actor { held = []; known = []; closing = false; glance = new.0.actor.glance } }, g.1))
+              ∙ back position new.0.noted new.0.tries new.0.actor.glance old g s idle);
+        };
+      }
 
--- the last of the tries says what came of the request
-pub asks_since : (S : Setup) (id : TableId) (w : Wanted) (position zones : ℕ) (f : Footprint) (old g new : Sat) (attempt : Attempt) → old.0.setup ≡ S → old.0.number ≡ w.train
-    → f ≡ needs S w old.0.actor.position → w.table < length S.tables → Since old g → g.0.actor.glance ≡ Some w.table → IsIdle position old.0.actor
-    → Attempts id w zones f.zones g (Some attempt) new → Asks id w.steps old attempt new
-asks_since S id w position zones f old g new (Told answer steps ticket) made number next inside s glance idle h = told_since id w.steps steps ticket answer old g new s h
-asks_since S id w position zones f old g new (Busy zone holder) made number next inside s glance idle h =
-    turned_since S w zone (suc holder) position zones f old g new made number next inside s glance idle h
+  -- the last of the tries says what came of the request
+  pub asks_since : (attempt : Attempt) → Attempts id w zones f.zones g (Some attempt) new → Asks id w.steps old attempt new
+  asks_since (Told answer steps ticket) h = told_since id w.steps steps ticket answer old g new s h
+  asks_since (Busy zone holder) h = turned_since zone (suc holder) h

@@ -1,8 +1,9 @@
 -- Rows: what the answers of requests and exchanges say on small yards, and wrong answers that they refuse.
-use Rattle.std.proofs.Common.{◌≡◌, ℕ, zero, suc, ◌<◌, List, [], ◌∷◌, ◌++◌, length, true, true≢false, Some, ℤ, pos, ◌≤ℤ◌, refl, sym, subst, arith, lit<, lit≤, inl}
+use Rattle.std.proofs.Common.{◌≡◌, ℕ, zero, suc, ◌<◌, List, [], ◌∷◌, ◌++◌, length, append-nil, true, true≢false, Some, ℤ, pos, ◌≤ℤ◌, refl, sym, subst, arith, lit<, lit≤, inl}
 use Rattle.std.proofs.lemmas.Int.{ints}
 use Rattle.rail_model.specs.declared.types.Ask.TheVariants.{Occupied}
 use Rattle.rail_model.specs.declared.types.Tried.TheVariants.{Exchanged, Early}
+use Rattle.rail_model.specs.declared.types.Reply.{Reply}
 use Rattle.rail_model.specs.declared.types.Reply.TheVariants.{Driver, Control}
 use Rattle.rail_model.specs.declared.types.Entry.{Entry}
 use Rattle.rail_model.specs.declared.types.Line.TheVariants.{Move as MoveLine, Table as TableLine}
@@ -15,14 +16,41 @@ use Rattle.rail_model.proofs.Told.{told as admits}
 use Rattle.zone_locks.specs.Zones.{has}
 use Rattle.zone_yard.specs.declared.replies.Reply.TheVariants as one
 use Rattle.zone_yard.specs.declared.replies.Turn.TheVariants as turn
-use Rattle.zone_yard.specs.Setup.{SharedYard}
-use Rattle.zone_yard.specs.Passes.{Pass}
+use Rattle.zone_yard.specs.Setup.{SharedYard, state_after, IsLegalHistory}
+use Rattle.zone_yard.specs.Passes.{Pass, IsFree, told, receipts_from, entries_of, standing}
+use Rattle.zone_yard.specs.Entering.{Enters}
 use Rattle.zone_yard.specs.Replies.{Replies, Turns, needed_zones}
-use Rattle.zone_yard.proofs.Samples.{table_of, boarded, yes, four_zones, one_zone, two_tables}
+use Rattle.zone_yard.proofs.Samples.{table_of, boarded, grant, yes, four_zones, one_zone, two_tables}
 
 -- a move that the checker computes
 pub goes : (T : Table) (p : List ℕ) (i : ℕ) → is_move T p i ≡ true → Move T p i (advance p i)
 goes T p i h = (Decides-move T p i).0 h
+
+-- a free pass enters these replies after all that it has seen and some more
+module _ (old : Pass) (more : List Entry) (replies : List Reply) (position : ℕ) where
+  abbrev pub told_at : Pass
+  told_at = record old {
+    position = position;
+    seen = (old.seen ++ more) ++ told old.number replies;
+    mine = old.mine ++ receipts_from (length (old.seen ++ more)) (told old.number replies);
+  }
+
+  abbrev pub enters : entries_of old.number told_at.seen ≡ told_at.mine → position ≡ standing (state_after old.yard.setup told_at.seen) old.number → IsFree old
+      → IsLegalHistory old.yard.setup told_at.seen → Enters (length (old.seen ++ more)) replies old told_at
+  enters own stands free legal = record {
+    before = old.seen ++ more;
+    begins = (more, refl);
+    counted = refl;
+    seen = refl;
+    legal = legal;
+    mine = refl;
+    own = own;
+    stands = stands;
+    number = refl;
+    yard = refl;
+    tries = ([], sym (append-nil old.tries));
+    free = free;
+  }
 
 pub nothing : {A : Type 0} (xs : List A) → length xs ≡ 0 → xs ≡ []
 nothing [] e = refl
@@ -57,43 +85,17 @@ granted_after yard p before = record (boarded yard p) {
 first_grant : Replies (boarded one_zone 0) (one.Granted 0) (granted_after one_zone 0 [])
 first_grant = (
   lit< tt,
-  record {
-    before = [];
-    begins = ([], refl);
-    counted = refl;
-    seen = refl;
-    legal = ((lit< tt, goes (table_of ((0 ∷ 1 ∷ []) ∷ (2 ∷ 3 ∷ []) ∷ [])) (0 ∷ 0 ∷ []) 0 refl), tt);
-    mine = refl;
-    own = refl;
-    stands = refl;
-    number = refl;
-    yard = refl;
-    tries = ([], refl);
-    free = (refl, refl);
-  },
+  enters (boarded one_zone 0) [] (grant ∷ []) 1 refl refl (refl, refl) ((lit< tt, goes (table_of ((0 ∷ 1 ∷ []) ∷ (2 ∷ 3 ∷ []) ∷ [])) (0 ∷ 0 ∷ []) 0 refl), tt),
 )
 
 -- C to D is granted at ticket 1, after the other train's grant, of which its pass had not heard
 second_grant : Replies (boarded one_zone 1) (one.Granted 1) (granted_after one_zone 1 (yes 0 ∷ []))
 second_grant = (
   lit< tt,
-  record {
-    before = yes 0 ∷ [];
-    begins = (yes 0 ∷ [], refl);
-    counted = refl;
-    seen = refl;
-    legal = (
-      (lit< tt, goes (table_of ((0 ∷ 1 ∷ []) ∷ (2 ∷ 3 ∷ []) ∷ [])) (0 ∷ 0 ∷ []) 0 refl),
-      ((lit< tt, goes (table_of ((0 ∷ 1 ∷ []) ∷ (2 ∷ 3 ∷ []) ∷ [])) (1 ∷ 0 ∷ []) 1 refl), tt),
-    );
-    mine = refl;
-    own = refl;
-    stands = refl;
-    number = refl;
-    yard = refl;
-    tries = ([], refl);
-    free = (refl, refl);
-  },
+  enters (boarded one_zone 1) (yes 0 ∷ []) (grant ∷ []) 1 refl refl (refl, refl) (
+    (lit< tt, goes (table_of ((0 ∷ 1 ∷ []) ∷ (2 ∷ 3 ∷ []) ∷ [])) (0 ∷ 0 ∷ []) 0 refl),
+    ((lit< tt, goes (table_of ((0 ∷ 1 ∷ []) ∷ (2 ∷ 3 ∷ []) ∷ [])) (1 ∷ 0 ∷ []) 1 refl), tt),
+  ),
 )
 
 -- the first answer of all can't be that the other train is in the way
@@ -101,9 +103,9 @@ not_occupied : (new : Pass) → Replies (boarded one_zone 0) (one.Occupied 0 1) 
 not_occupied new r =
     let e = r.1 in
     let none : e.before ≡ [] = nothing e.before e.counted in
-    let told = subst (λ H. IsHistory one_zone.setup.tables one_zone.setup.opening.yard (H ++ record { who = 0; reply = Driver (Occupied 1) } ∷ [])) none
+    let answer = subst (λ H. IsHistory one_zone.setup.tables one_zone.setup.opening.yard (H ++ record { who = 0; reply = Driver (Occupied 1) } ∷ [])) none
     (subst (IsHistory one_zone.setup.tables one_zone.setup.opening.yard) e.seen e.legal) in
-    let by = told.0.1.1 in
+    let by = answer.0.1.1 in
     absurd (cc (by.2.1, by.2.2))
 
 -- a pass that may make one entry has made it
@@ -133,20 +135,7 @@ turned : Turns (boarded two_tables 32) (turn.Exchanged 0) exchanged
 turned = (
   lit< tt,
   lit< tt,
-  record {
-    before = [];
-    begins = ([], refl);
-    counted = refl;
-    seen = refl;
-    legal = (takes_over, tt);
-    mine = refl;
-    own = refl;
-    stands = refl;
-    number = refl;
-    yard = refl;
-    tries = ([], refl);
-    free = (refl, refl);
-  },
+  enters (boarded two_tables 32) [] (Control Exchanged ∷ []) 1 refl refl (refl, refl) (takes_over, tt),
 )
 
 -- a table that is due isn't told that it is early
@@ -154,28 +143,15 @@ not_early : (new : Pass) → Turns (boarded two_tables 32) (turn.Early 0 0) new 
 not_early new r =
     let e = r.2 in
     let none : e.before ≡ [] = nothing e.before e.counted in
-    let told = subst (λ H. IsHistory two_tables.setup.tables two_tables.setup.opening.yard (H ++ record { who = 32; reply = Control (Early 0) } ∷ [])) none
+    let answer = subst (λ H. IsHistory two_tables.setup.tables two_tables.setup.opening.yard (H ++ record { who = 32; reply = Control (Early 0) } ∷ [])) none
     (subst (IsHistory two_tables.setup.tables two_tables.setup.opening.yard) e.seen e.legal) in
-    told.0.2.2 (lit< tt, inl (lit≤ tt))
+    answer.0.2.2 (lit< tt, inl (lit≤ tt))
 
 -- the train, which glanced the first table, is then led by the second
 after_exchange : Replies (boarded two_tables 0) (one.Granted 1) (granted_after two_tables 0 (exchange ∷ []))
 after_exchange = (
   lit< tt,
-  record {
-    before = exchange ∷ [];
-    begins = (exchange ∷ [], refl);
-    counted = refl;
-    seen = refl;
-    legal = (takes_over, ((lit< tt, goes (table_of ((0 ∷ 2 ∷ []) ∷ [])) (0 ∷ []) 0 refl), tt));
-    mine = refl;
-    own = refl;
-    stands = refl;
-    number = refl;
-    yard = refl;
-    tries = ([], refl);
-    free = (refl, refl);
-  },
+  enters (boarded two_tables 0) (exchange ∷ []) (grant ∷ []) 1 refl refl (refl, refl) (takes_over, ((lit< tt, goes (table_of ((0 ∷ 2 ∷ []) ∷ [])) (0 ∷ []) 0 refl), tt)),
 )
 
 printed : journal_of two_tables.setup.tables two_tables.setup.opening.yard (exchange ∷ yes 0 ∷ []) ≡ TableLine 1 ∷ MoveLine 0 0 (Some 2) ∷ []

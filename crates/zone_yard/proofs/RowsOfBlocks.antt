@@ -15,8 +15,8 @@ use Rattle.zone_yard.specs.Passes.{Pass}
 use Rattle.zone_yard.specs.Entering.{Enters}
 use Rattle.zone_yard.specs.Replies.{BlockReplies, steps_after}
 use Rattle.zone_yard.specs.Blocks.{IsAnswered, steps_left}
-use Rattle.zone_yard.proofs.Samples.{boarded, yes, first_path, passing_loop, corridor}
-use Rattle.zone_yard.proofs.Rows.{goes, nothing}
+use Rattle.zone_yard.proofs.Samples.{boarded, grant, yes, first_path, passing_loop, corridor}
+use Rattle.zone_yard.proofs.Rows.{goes, nothing, enters}
 
 -- the table of such a yard
 abbrev only : SharedYard → Table
@@ -38,20 +38,7 @@ abbrev two_steps : BlockReplies 4 (boarded (first_path 9) 0) (block.Granted 0 2)
 two_steps = (
   lit< tt,
   (
-    record {
-      before = [];
-      begins = ([], refl);
-      counted = refl;
-      seen = refl;
-      legal = ((lit< tt, goes (only (first_path 9)) (0 ∷ []) 0 refl), ((lit< tt, goes (only (first_path 9)) (1 ∷ []) 0 refl), tt));
-      mine = refl;
-      own = refl;
-      stands = refl;
-      number = refl;
-      yard = refl;
-      tries = ([], refl);
-      free = (refl, refl);
-    },
+    enters (boarded (first_path 9) 0) [] (grant ∷ grant ∷ []) 2 refl refl (refl, refl) ((lit< tt, goes (only (first_path 9)) (0 ∷ []) 0 refl), ((lit< tt, goes (only (first_path 9)) (1 ∷ []) 0 refl), tt)),
     refl,
   ),
 )
@@ -86,23 +73,10 @@ told_arrived = record through {
 arrives : BlockReplies 4 through (block.Arrived 2) told_arrived
 arrives = (
   lit< tt,
-  record {
-    before = yes 0 ∷ yes 0 ∷ [];
-    begins = ([], refl);
-    counted = refl;
-    seen = refl;
-    legal = (
-      (lit< tt, goes (only (first_path 9)) (0 ∷ []) 0 refl),
-      ((lit< tt, goes (only (first_path 9)) (1 ∷ []) 0 refl), ((lit< tt, refl), tt)),
-    );
-    mine = refl;
-    own = refl;
-    stands = refl;
-    number = refl;
-    yard = refl;
-    tries = ([], refl);
-    free = (refl, refl);
-  },
+  enters through [] (Driver Arrived ∷ []) 2 refl refl (refl, refl) (
+    (lit< tt, goes (only (first_path 9)) (0 ∷ []) 0 refl),
+    ((lit< tt, goes (only (first_path 9)) (1 ∷ []) 0 refl), ((lit< tt, refl), tt)),
+  ),
 )
 
 -- in the passing loop the first of two steps could be made, and then the other train is in the way
@@ -116,26 +90,13 @@ pub not_whole : BlockReplies 2 (boarded passing_loop 0) (block.NotWhole 0 1 (Occ
 not_whole = (
   lit< tt,
   (
-    record {
-      before = [];
-      begins = ([], refl);
-      counted = refl;
-      seen = refl;
-      legal = (
-        (
-          lit< tt,
-          (lit< tt, lit< tt, lit< tt, run (only passing_loop) (0 ∷ 0 ∷ []) (0 ∷ []) refl, (lit< tt, (lit< tt, (λ e. cc), (2, refl, refl))), (λ e. cc)),
-        ),
-        tt,
-      );
-      mine = refl;
-      own = refl;
-      stands = refl;
-      number = refl;
-      yard = refl;
-      tries = ([], refl);
-      free = (refl, refl);
-    },
+    enters (boarded passing_loop 0) [] (NotWhole 1 (Occupied 1) ∷ []) 0 refl refl (refl, refl) (
+      (
+        lit< tt,
+        (lit< tt, lit< tt, lit< tt, run (only passing_loop) (0 ∷ 0 ∷ []) (0 ∷ []) refl, (lit< tt, (lit< tt, (λ e. cc), (2, refl, refl))), (λ e. cc)),
+      ),
+      tt,
+    ),
     lit< tt,
   ),
 )
@@ -168,23 +129,10 @@ crosses : BlockReplies 3 (boarded corridor 0) (block.Granted 0 3) crossed
 crosses = (
   lit< tt,
   (
-    record {
-      before = [];
-      begins = ([], refl);
-      counted = refl;
-      seen = refl;
-      legal = (
-        (lit< tt, goes (only corridor) (0 ∷ 0 ∷ []) 0 refl),
-        ((lit< tt, goes (only corridor) (1 ∷ 0 ∷ []) 0 refl), ((lit< tt, goes (only corridor) (2 ∷ 0 ∷ []) 0 refl), tt)),
-      );
-      mine = refl;
-      own = refl;
-      stands = refl;
-      number = refl;
-      yard = refl;
-      tries = ([], refl);
-      free = (refl, refl);
-    },
+    enters (boarded corridor 0) [] (grant ∷ grant ∷ grant ∷ []) 3 refl refl (refl, refl) (
+      (lit< tt, goes (only corridor) (0 ∷ 0 ∷ []) 0 refl),
+      ((lit< tt, goes (only corridor) (1 ∷ 0 ∷ []) 0 refl), ((lit< tt, goes (only corridor) (2 ∷ 0 ∷ []) 0 refl), tt)),
+    ),
     refl,
   ),
 )
@@ -200,29 +148,16 @@ follows : BlockReplies 2 (boarded corridor 1) (block.Granted 3 2) followed
 follows = (
   lit< tt,
   (
-    record {
-      before = yes 0 ∷ yes 0 ∷ yes 0 ∷ [];
-      begins = (yes 0 ∷ yes 0 ∷ yes 0 ∷ [], refl);
-      counted = refl;
-      seen = refl;
-      legal = (
-        (lit< tt, goes (only corridor) (0 ∷ 0 ∷ []) 0 refl),
+    enters (boarded corridor 1) (yes 0 ∷ yes 0 ∷ yes 0 ∷ []) (grant ∷ grant ∷ []) 2 refl refl (refl, refl) (
+      (lit< tt, goes (only corridor) (0 ∷ 0 ∷ []) 0 refl),
+      (
+        (lit< tt, goes (only corridor) (1 ∷ 0 ∷ []) 0 refl),
         (
-          (lit< tt, goes (only corridor) (1 ∷ 0 ∷ []) 0 refl),
-          (
-            (lit< tt, goes (only corridor) (2 ∷ 0 ∷ []) 0 refl),
-            ((lit< tt, goes (only corridor) (3 ∷ 0 ∷ []) 1 refl), ((lit< tt, goes (only corridor) (3 ∷ 1 ∷ []) 1 refl), tt)),
-          ),
+          (lit< tt, goes (only corridor) (2 ∷ 0 ∷ []) 0 refl),
+          ((lit< tt, goes (only corridor) (3 ∷ 0 ∷ []) 1 refl), ((lit< tt, goes (only corridor) (3 ∷ 1 ∷ []) 1 refl), tt)),
         ),
-      );
-      mine = refl;
-      own = refl;
-      stands = refl;
-      number = refl;
-      yard = refl;
-      tries = ([], refl);
-      free = (refl, refl);
-    },
+      ),
+    ),
     refl,
   ),
 )
@@ -242,20 +177,7 @@ last_entry : BlockReplies 4 (boarded (first_path 1) 0) (block.Granted 0 1) one_s
 last_entry = (
   lit< tt,
   (
-    record {
-      before = [];
-      begins = ([], refl);
-      counted = refl;
-      seen = refl;
-      legal = ((lit< tt, goes (only (first_path 1)) (0 ∷ []) 0 refl), tt);
-      mine = refl;
-      own = refl;
-      stands = refl;
-      number = refl;
-      yard = refl;
-      tries = ([], refl);
-      free = (refl, refl);
-    },
+    enters (boarded (first_path 1) 0) [] (grant ∷ []) 1 refl refl (refl, refl) ((lit< tt, goes (only (first_path 1)) (0 ∷ []) 0 refl), tt),
     refl,
   ),
 )

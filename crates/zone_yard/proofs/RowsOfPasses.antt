@@ -8,8 +8,8 @@ use Rattle.zone_yard.specs.Passes.{Pass, Root, IsAshore}
 use Rattle.zone_yard.specs.Replies.{Replies}
 use Rattle.zone_yard.specs.Boarding.{fresh_root, with_pass, Boards, TakesBack}
 use Rattle.rail_model.specs.Lines.{journal_of}
-use Rattle.zone_yard.proofs.Samples.{table_of, boarded, yes, one_zone, first_path}
-use Rattle.zone_yard.proofs.Rows.{goes, granted_after}
+use Rattle.zone_yard.proofs.Samples.{table_of, boarded, grant, yes, one_zone, first_path}
+use Rattle.zone_yard.proofs.Rows.{goes, granted_after, enters}
 use Rattle.zone_yard.proofs.RowsOfBlocks.{through, kept_back, one_further, not_whole}
 
 -- a train boards once
@@ -56,20 +56,7 @@ not_unseen h = cc h.theirs.1
 one_step : Replies kept_back (one.Granted 1) one_further
 one_step = (
   lit< tt,
-  record {
-    before = kept_back.seen;
-    begins = ([], refl);
-    counted = refl;
-    seen = refl;
-    legal = (not_whole.1.0.legal.0, ((lit< tt, goes (table_of ((0 ∷ 1 ∷ 2 ∷ []) ∷ (2 ∷ 3 ∷ 0 ∷ []) ∷ [])) (0 ∷ 0 ∷ []) 0 refl), tt));
-    mine = refl;
-    own = refl;
-    stands = refl;
-    number = refl;
-    yard = refl;
-    tries = ([], refl);
-    free = (refl, refl);
-  },
+  enters kept_back [] (grant ∷ []) 1 refl refl (refl, refl) (not_whole.1.0.legal.0, ((lit< tt, goes (table_of ((0 ∷ 1 ∷ 2 ∷ []) ∷ (2 ∷ 3 ∷ 0 ∷ []) ∷ [])) (0 ∷ 0 ∷ []) 0 refl), tt)),
 )
 
 -- the first path's yard comes to its two moves

@@ -11,6 +11,7 @@ use Rattle.zone_yard.specs.Views.{root_view, pass_view, knower}
 use Rattle.zone_yard.specs.Tells.{Sat}
 use Rattle.zone_yard.specs.Aboard.{IsDriver, IsControl}
 use Rattle.zone_yard.specs.Attempts.{Refuses, Moves, Since, TurnsAway}
+use Rattle.zone_yard.proofs.Roots.{fresh}
 use Rattle.zone_yard.proofs.Samples.{four_zones, one_zone, two_tables}
 
 -- the seat of a train that has boarded a new yard
@@ -19,16 +20,7 @@ seat yard p = (pass_view p (root_view yard.setup []), [])
 
 driver : IsDriver 1 0 0 (seat one_zone 1)
 driver = record {
-  pass = record {
-    aboard = refl;
-    number_is = refl;
-    idle = record { stage = refl; held = refl; known = refl; owed = refl; still = refl; stands = refl };
-    made = refl;
-    room = lit≤ tt;
-    few_calls = lit< tt;
-    legal = tt;
-    slots = refl;
-  };
+  pass = fresh (root_view one_zone.setup []) 1 (lit< tt) tt;
   named = lit< tt;
 }
 
@@ -42,16 +34,7 @@ not_another h = cc h.pass.number_is
 -- the control has boarded a yard of one train, whose first table is in force
 control : IsControl 0 0 (0 ∷ []) (seat two_tables 32)
 control = record {
-  pass = record {
-    aboard = refl;
-    number_is = refl;
-    idle = record { stage = refl; held = refl; known = refl; owed = refl; still = refl; stands = refl };
-    made = refl;
-    room = lit≤ tt;
-    few_calls = lit< tt;
-    legal = tt;
-    slots = refl;
-  };
+  pass = fresh (root_view two_tables.setup []) 32 (lit< tt) tt;
   answered = refl;
   one_each = refl;
 }

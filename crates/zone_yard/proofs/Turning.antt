@@ -1,5 +1,5 @@
 -- The control that holds all zones, and knows the table in force and every position.
-use Rattle.std.proofs.Common.{◌≡◌, ℕ, zero, suc, ◌+◌, ◌<◌, ◌≤◌, ◌==◌, List, [], ◌∷◌, length, get_or, Bool, true, false, true≢false, cond, None, refl, sym, ap, ◌∙◌, subst, arith, lt-ltb, eq-eqb}
+use Rattle.std.proofs.Common.{◌≡◌, ℕ, zero, suc, ◌+◌, ◌<◌, ◌≤◌, ◌==◌, List, [], ◌∷◌, length, get_or, true, false, true≢false, None, refl, sym, ap, ◌∙◌, subst, arith, lt-ltb, eq-eqb}
 use Rattle.std.specs.Prelude.{not, map}
 use Rattle.rail_model.specs.declared.types.Reply.TheVariants.{Control}
 use Rattle.rail_model.specs.Checks.{below}
@@ -22,6 +22,7 @@ use Rattle.zone_yard.specs.Core.{MayEnter}
 use Rattle.zone_yard.specs.Holding.{span}
 use Rattle.zone_yard.specs.Setup.{Setup, core}
 use Rattle.zone_yard.specs.Views.{View, knower, new_entries, actor_after}
+use Rattle.zone_yard.proofs.Lists.{first_of}
 use Rattle.zone_yard.proofs.BlockEntries.{among}
 
 -- each zone is held
@@ -56,19 +57,16 @@ ready_control S v made number still held known more room =
       room,
     )
 
-chosen : {A : Type 0} (b : Bool) (x y : A) → b ≡ true → cond b x y ≡ x
-chosen b x y e = rw e refl
-
 module _ (S : Setup) (v : View) (made : v.setup ≡ S) (number : v.number ≡ control) where
   pub control_entry : new_entries 1 v ≡ record { who = control; reply = Control (tried (core S) v.actor) } ∷ []
   control_entry =
-      chosen (v.number == control) (record { who = v.number; reply = Control (tried (core v.setup) v.actor) } ∷ [])
+      first_of (v.number == control) (record { who = v.number; reply = Control (tried (core v.setup) v.actor) } ∷ [])
       (block_entries v.number (own_claim (core v.setup) v.number v.actor 1).steps (answer (core v.setup) v.number v.actor 1)) (eq-eqb v.number control number)
       ∙ (λ i. record { who = number i; reply = Control (tried (core (made i)) v.actor) } ∷ [])
 
   pub control_actor : actor_after 1 v ≡ control_after (core S) v.actor
   control_actor =
-      chosen (v.number == control) (control_after (core v.setup) v.actor) (driver_after (core v.setup) v.number v.actor 1) (eq-eqb v.number control number)
+      first_of (v.number == control) (control_after (core v.setup) v.actor) (driver_after (core v.setup) v.number v.actor 1) (eq-eqb v.number control number)
       ∙ ap (λ (T : Setup). control_after (core T) v.actor) made
 
 -- the item of a list of tables

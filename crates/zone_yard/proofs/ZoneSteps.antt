@@ -1,7 +1,7 @@
 -- Zones are taken and given back under the rule, by the core's own steps.
-use Rattle.std.proofs.Common.{◌≡◌, ◌≢◌, ℕ, zero, suc, ◌+◌, ◌-◌, ◌*◌, ◌/◌, ◌<◌, ◌≤◌, ◌==◌, nat_lt, nat_le, List, [], ◌∷◌, ◌++◌, length, set, get_or, Bool, true, false, true≢false, ◌&&◌, if◌then◌else◌, Ok, refl, sym, ap, ◌∙◌, subst, arith, eq-eqb, ne_eqb, get_or-set_other}
-use Rattle.std.specs.Prelude.{Some, slice_get}
+use Rattle.std.proofs.Common.{◌≡◌, ◌≢◌, ℕ, zero, suc, ◌+◌, ◌-◌, ◌*◌, ◌/◌, ◌<◌, ◌≤◌, ◌==◌, nat_lt, nat_le, List, [], ◌∷◌, ◌++◌, length, set, get_or, Bool, true, false, true≢false, if◌then◌else◌, Ok, refl, sym, ap, ◌∙◌, subst, arith, eq-eqb, ne_eqb, get_or-set_other}
 use Rattle.std.proofs.lemmas.List.{set-get_or}
+use Rattle.std.proofs.lemmas.Option.{get_or_from_slice_get, slice_get_within}
 use Rattle.std.proofs.lemmas.Bool.Decides.{nat_tests}
 use mathlib.Core.Logic.{dite}
 use mathlib.Core.Option.{none, some}
@@ -22,8 +22,9 @@ use Rattle.zone_yard.specs.Setup.{Setup, core, most_passes}
 use Rattle.zone_yard.specs.Views.{View, tried_at, took, gave}
 use Rattle.zone_yard.specs.Kept.{Kept}
 use Rattle.zone_yard.specs.Tells.{Sat, Takes, Releases}
+use Rattle.zone_yard.proofs.Lists.{both_true}
 use Rattle.zone_yard.proofs.Apart.{found_apart}
-use Rattle.zone_yard.proofs.Keeps.{St, own_keeps, Stays}
+use Rattle.zone_yard.proofs.Keeps.{St, seated, own_keeps, Stays}
 
 -- the core's take of a free zone
 pub takes : (S : CoreSetup) (p z : ℕ) (w : World) (a : Actor) → actor w p ≡ a → a.stage ≡ Aboard → a.closing ≡ false → nat_le S.layout.zones z ≡ false
@@ -40,17 +41,9 @@ releases S p z w a is stage held paid = rw (is, stage, held, paid) refl
 above_new : (z : ℕ) (held : List ℕ) → is_above z held ≡ true → has z held ≡ true → ⊥
 above_new z [] above h = true≢false (sym h)
 above_new z (x ∷ xs) above h = dite (ℕ_discrete z x)
-    (λ (e : z ≡ x). true≢false (sym (first (nat_lt x z) above) ∙ ap (λ y. nat_lt x y) e ∙ below_self x))
-    (λ (ne : z ≢ x). above_new z xs (rest (nat_lt x z) above) (subst (λ (b : Bool). if b then true else has z xs ≡ true) (ne_eqb z x ne) h))
+    (λ (e : z ≡ x). true≢false (sym (both_true (nat_lt x z) (is_above z xs) above).0 ∙ ap (λ y. nat_lt x y) e ∙ below_self x))
+    (λ (ne : z ≢ x). above_new z xs (both_true (nat_lt x z) (is_above z xs) above).1 (subst (λ (b : Bool). if b then true else has z xs ≡ true) (ne_eqb z x ne) h))
   where
-    first : (b : Bool) → b && is_above z xs ≡ true → b ≡ true
-    first true e = refl
-    first false e = e
-
-    rest : (b : Bool) → b && is_above z xs ≡ true → is_above z xs ≡ true
-    rest true e = e
-    rest false e = absurd (true≢false (sym e))
-
     below_self : (n : ℕ) → nat_lt n n ≡ false
     below_self n = grind (arith, nat_tests)
 
@@ -62,18 +55,8 @@ table_else S w z n p a lt = get_or-set_other w.words (suc z) (suc (S.layout.zone
 held_by : (S : Setup) (w : World) (p z : ℕ) → Sound (core S) w → z < S.layout.zones → get_or w.words (suc z) 0 ≡ suc p → (has z (actor w p).held ≡ true) × (p < 33)
 held_by S w p z sound lt is =
     let h = sound.holds p z lt is in
-    let found : actor w p ≡ h.0 = slice_get_or w.actors p h.0 gone h.1 in
-    (ap (λ (a : Actor). has z a.held) found ∙ h.2, subst (λ n. p < n) sound.actors (slice_get_inside w.actors p h.0 h.1))
-  where
-    slice_get_or : {A : Type 0} (xs : List A) (i : ℕ) (a d : A) → slice_get xs i ≡ Some a → get_or xs i d ≡ a
-    slice_get_or [] i a d e = absurd (cc e)
-    slice_get_or (x ∷ xs) zero a d e = cc e
-    slice_get_or (x ∷ xs) (suc i) a d e = slice_get_or xs i a d e
-
-    slice_get_inside : {A : Type 0} (xs : List A) (i : ℕ) (a : A) → slice_get xs i ≡ Some a → i < length xs
-    slice_get_inside [] i a e = absurd (cc e)
-    slice_get_inside (x ∷ xs) zero a e = omega arith
-    slice_get_inside (x ∷ xs) (suc i) a e = let r = slice_get_inside xs i a e in omega arith
+    let found : actor w p ≡ h.0 = get_or_from_slice_get w.actors p h.0 gone h.1 in
+    (ap (λ (a : Actor). has z a.held) found ∙ h.2, subst (λ n. p < n) sound.actors (slice_get_within w.actors p h.0 h.1))
 
 -- the zone of its word in the shared table
 pub zone_back : (z : ℕ) → 8 * suc z / 8 - 1 ≡ z
@@ -90,18 +73,13 @@ look_keeps S s k id i j v v' c is at aboard stays same noted =
     let unchanged : with_word w i n v.number v'.actor ≡ w = (λ j. record {
       words = (ap (λ m. set w.words i m) found ∙ set-get_or w.words i 0) j;
       history = w.history;
-      actors = (ap (λ (x : Actor). set w.actors v.number x) (same ∙ sym here.actor) ∙ set_get_or w.actors v.number gone) j;
+      actors = (ap (λ (x : Actor). set w.actors v.number x) (same ∙ sym here.actor) ∙ set-get_or w.actors v.number gone) j;
     }) in
     subst (λ x. Kept S (stepped s x n id c v' keeps)) (sym is)
     (own_keeps S s k id i n v v' c at aboard stays (ap (λ (a : Actor). a.stage) same ∙ here.stage)
     (subst (Sound (core S)) (sym unchanged) k.sound)
     (subst (λ x. word (core S) w TableCell ≤ word (core S) x TableCell) (sym unchanged) (omega arith))
     (subst (λ x. v'.noted ≤ word (core S) x TableCell) (sym unchanged) noted))
-  where
-    set_get_or : {A : Type 0} (xs : List A) (i : ℕ) (d : A) → set xs i (get_or xs i d) ≡ xs
-    set_get_or [] i d = refl
-    set_get_or (x ∷ xs) zero d = refl
-    set_get_or (x ∷ xs) (suc i) d = ap (λ l. x ∷ l) (set_get_or xs i d)
 
 -- a zone is tried: where it was free it is taken, and else another pass holds it
 pub take_allows : (S : Setup) → (slots id z i new : ℕ) (me : Sat) → new ≡ suc me.0.number → i ≡ 8 * suc z → me.0.aboard ≡ true
@@ -171,7 +149,7 @@ release_allows S slots id z i me is aboard has_it paid s k _ at _ =
     let a' : Actor = releasing (core S) v.number z v.actor in
     let gives : ℕ → View = λ y. gave y v in
     let is_a : (gives z).actor ≡ a' = ap (λ (T : Setup). releasing (core T) v.number z v.actor) here.setup in
-    let low = (k.sound.named v.number v.actor z (at_number S w v here.actor here.low k.sound.actors) has_it).0 in
+    let low = (k.sound.named v.number v.actor z (seated S w v.number v.actor k.sound here.low here.actor) has_it).0 in
     let same_table = table_else (core S) w z 0 v.number a' low in (
       gives (i / 8 - 1),
       keeps,
@@ -185,11 +163,3 @@ release_allows S slots id z i me is aboard has_it paid s k _ at _ =
           (subst (λ (a : Actor). v.noted ≤ word (core S) (with_word w (suc z) 0 v.number a) TableCell) (sym is_a) (let t = fit.noted in omega (arith, same_table)))),
       refl,
     )
-  where
-    get_some : {A : Type 0} (xs : List A) (i : ℕ) (a d : A) → i < length xs → get_or xs i d ≡ a → slice_get xs i ≡ Some a
-    get_some [] i a d lt e = absurd (omega arith)
-    get_some (x ∷ xs) zero a d lt e = ap Some e
-    get_some (x ∷ xs) (suc i) a d lt e = get_some xs i a d (omega arith) e
-
-    at_number : (S : Setup) (w : World) (v : View) → actor w v.number ≡ v.actor → v.number < most_passes → length w.actors ≡ 33 → slice_get w.actors v.number ≡ Some v.actor
-    at_number S w v is low long = get_some w.actors v.number v.actor gone (omega arith) is

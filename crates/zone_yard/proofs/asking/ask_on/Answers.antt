@@ -36,8 +36,8 @@ returns-in-Some g c =
       same = (c.ask_once.ensures.same.0 ∙ same, c.ask_once.ensures.same.1 ∙ (glance.same.1 ∙ before.id));
       lines = c.in-Some.ensures.lines;
       asks = asks_since c.args.yard.now.setup c.args.seat.now.table_id wanted c.args.position c.args.yard.now.setup.layout.zones c.fill_block.new.self old seen c.ask_once.new.seat.me
-          c.in-Some.attempt c.requires.ours.1 c.requires.train.1 next listed
-          (since_glance c.glance-table.result old c.loop-round.seat.me seen before.since glance.sees.0 glance.glanced) (ap (λ (m : Sat). m.0.actor.glance) glance.glanced) c.requires.idle
+          c.requires.ours.1 c.requires.train.1 next listed
+          (since_glance c.glance-table.result old c.loop-round.seat.me seen before.since glance.sees.0 glance.glanced) (ap (λ (m : Sat). m.0.actor.glance) glance.glanced) c.requires.idle c.in-Some.attempt
           (subst (λ (id : TableId). Attempts id wanted c.args.yard.now.setup.layout.zones c.fill_block.new.self.zones seen (Some c.in-Some.attempt) c.ask_once.new.seat.me) same c.in-Some.ensures.attempts);
       formed = c.word_of-word.ensures.formed;
     }

@@ -1,4 +1,4 @@
-use Rattle.zone_yard.proofs.AskedAgain.{asked_again, is_answer}
+use Rattle.zone_yard.proofs.Replied.{asked_again, is_answer}
 use Rattle.zone_yard.proofs.asking.ask_until.Goals as goal
 
 pub returns-in_default-clause-asked : goal.returns-in_default-clause-asked

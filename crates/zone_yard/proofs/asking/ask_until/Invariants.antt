@@ -1,4 +1,4 @@
-use Rattle.zone_yard.proofs.AskedAgain.{IsTriedOn}
+use Rattle.zone_yard.proofs.Replied.{IsTriedOn}
 use Rattle.zone_yard.proofs.asking.ask_until.Given as goal
 
 abbrev pub invariant-loop : goal.invariant-loop

@@ -1,6 +1,7 @@
 use Rattle.std.proofs.Common.{◌≡◌, ◌<◌, ◌≤◌, ◌∙◌, ℕ, List, length, get_or, true, false, sym, ap, subst, ⊎_elim, arith}
 use Rattle.std.specs.Prelude.{slice_get, is_none}
 use Rattle.std.proofs.lemmas.Bool.{cases_lt}
+use Rattle.std.proofs.lemmas.Option.{slice_get-get_or}
 use Rattle.move_claim.specs.declared.cells.Cell.{Cell}
 use Rattle.move_claim.specs.declared.cells.Cell.TheVariants.{Point}
 use Rattle.move_claim.specs.Cells.{number_of, put}
@@ -10,19 +11,19 @@ use Rattle.zone_machine.proofs.Places.{same_some}
 use Rattle.zone_yard.specs.Setup.{core}
 use Rattle.zone_yard.specs.Holding.{AreAllSmall}
 use Rattle.zone_yard.specs.Tells.{Sat}
-use Rattle.zone_yard.proofs.CellLists.{get_some, put-length, put-small, put-new, put-seen, all_seen, knows_next}
+use Rattle.zone_yard.proofs.CellLists.{put-length, put-small, put-new, put-seen, all_seen, knows_next}
 use Rattle.zone_yard.proofs.cells.read_all.Goals as goal
 
 pub read-number-requires-clause-guard : goal.read-number-requires-clause-guard
 read-number-requires-clause-guard c =
-    let at = c.requires.guard c.loop-cell.cell-index _ (get_some c.args.cells.now c.loop-cell.cell-index (Point 0) (omega (arith, c.loop-cell-test.true))) in
+    let at = c.requires.guard c.loop-cell.cell-index _ (slice_get-get_or c.args.cells.now c.loop-cell.cell-index (Point 0) (omega (arith, c.loop-cell-test.true))) in
     (at.0, subst (λ l. may_read (core c.args.yard.now.setup) l (get_or c.args.cells.now c.loop-cell.cell-index (Point 0)) ≡ true) (sym (ap (λ (m : Sat). m.0.actor.held) c.loop-cell.invariant.knows)) at.1)
 
 pub loop-cell-preserved : goal.loop-cell-preserved
 loop-cell-preserved c =
     let k : ℕ = c.loop-cell.cell-index in
     let here : Cell = get_or c.args.cells.now c.loop-cell.cell-index (Point 0) in
-    let there = get_some c.args.cells.now c.loop-cell.cell-index (Point 0) (omega (arith, c.loop-cell-test.true)) in
+    let there = slice_get-get_or c.args.cells.now c.loop-cell.cell-index (Point 0) (omega (arith, c.loop-cell-test.true)) in
     let old = c.loop-cell.invariant in
     let found : ℕ = c.read-number.result in
     let now : c.put.new.self ≡ put here found c.loop-cell.known = c.put.ensures in

@@ -1,4 +1,5 @@
-use Rattle.std.proofs.Common.{◌≡◌, ◌≢◌, ◌++◌, ◌+◌, ◌*◌, ◌-◌, ℕ, List, length, get_or, set, sym, ap, ◌∙◌, subst, arith, rules, get_or-set_same, get_or-set_other, length-set}
+use Rattle.std.proofs.Common.{◌≡◌, ◌≢◌, ◌++◌, ◌+◌, ◌*◌, ◌-◌, ◌<◌, ◌≤◌, ℕ, List, length, get_or, set, sym, ap, ◌∙◌, subst, arith, rules, get_or-set_same, get_or-set_other, length-set}
+use Rattle.std.proofs.lemmas.Grind.{same_number_lists}
 use mathlib.Core.Logic.{dite}
 use mathlib.Core.Option.{some}
 use native.Mathlib.Decide.{ℕ_discrete}
@@ -6,7 +7,9 @@ use lib.ListN.{get_elem?}
 use Rattle.rail_model.specs.Lines.{journal_of}
 use Rattle.rail_model.specs.Plain.{Plain}
 use Rattle.rail_model.specs.Table.{place}
+use Rattle.rail_model.specs.Yard.{Yard}
 use Rattle.plain_yard.specs.Keeps.{Keeps}
+use Rattle.ticket_lines.specs.Merging.{Row}
 use Rattle.move_claim.specs.declared.cells.Cell.TheVariants.{Position, Table as TableCell}
 use Rattle.zone_machine.specs.World.{word_of}
 use Rattle.zone_yard.specs.Setup.{Setup, SharedYard, core, state_after}
@@ -15,209 +18,127 @@ use Rattle.zone_yard.specs.Views.{View}
 use Rattle.zone_yard.specs.Boarding.{Closes}
 use Rattle.zone_yard.specs.Kept.{Kept}
 use Rattle.zone_yard.proofs.Keeps.{St}
-use Rattle.zone_yard.proofs.Closed.{ended, size, place_of, table_of, counts, closes, same_members}
+use Rattle.zone_yard.proofs.Closed.{ended, size, place_of, table_of, counts, closes}
+use Rattle.zone_yard.proofs.closing.read_back.Goals.{After-close_with-closed}
 use Rattle.zone_yard.proofs.closing.read_back.Goals as goal
+
+-- the shared table at its end, where nobody is out
+module _ (c : After-close_with-closed) where
+  abbrev v : View
+  v = c.root.inside.seat.me.0
+
+  abbrev s : St
+  s = c.close_with-closed.ensures.values.2.0
+
+  made : c.yard.inside.key ≡ v.setup
+  made = ap (λ (y : SharedYard). y.setup) (c.yard.view_is ∙ sym c.requires.ours) ∙ sym (ap (λ (x : Root). x.yard.setup) c.root.view_is)
+
+  ours : c.args.yard.setup ≡ v.setup
+  ours = ap (λ (y : SharedYard). y.setup) (sym c.requires.ours) ∙ sym (ap (λ (x : Root). x.yard.setup) c.root.view_is)
+
+  k : Kept v.setup s
+  k = subst (λ (T : Setup). Kept T s) (c.yard.invariant.key_is ∙ made) c.close_with-closed.ensures.values.2.1.0
+
+  at : get_elem? s.views 0 ≡ some v
+  at = subst (λ id. get_elem? s.views id ≡ some v) c.root.invariant.0.first c.close_with-closed.ensures.values.2.1.1
+
+  nobody : v.out ≡ 0
+  nobody = ap (λ (x : Root). x.out) c.root.view_is ∙ c.requires.nobody
+
+  abbrev end : Yard
+  end = ended v s k at nobody
+
+  opened : Keeps v.setup.tables v.setup.opening.yard v.setup.opening.lines
+  opened = subst (λ (T : Setup). Keeps T.tables T.opening.yard T.opening.lines) made c.yard.invariant.keeps
+
+  lines_are : c.args.lines.items ≡ v.setup.opening.lines ++ journal_of v.setup.tables v.setup.opening.yard v.seen
+  lines_are = c.requires.lines ∙ ap (λ (x : Root). x.yard.setup.opening.lines ++ journal_of x.yard.setup.tables x.yard.setup.opening.yard x.seen) (sym c.root.view_is)
+
+  long : length c.args.positions ≡ length end.positions
+  long = c.requires.positions ∙ (ap (λ (x : Root). length x.yard.setup.opening.yard.positions) (sym c.root.view_is) ∙ sym (size v s k at nobody))
+
+  -- what the words of a train's place and of the table in force say
+  place_read : (i m : ℕ) (words : List ℕ) → s.words ≡ words → i < length end.positions → get_elem? words (8 * (c.word_of-first.result + i)) ≡ some m → (m ≡ place end.positions i) × (m ≤ 127)
+  place_read i m words same lt found = place_of v s k at nobody i m c.word_of-first.result (c.word_of-first.ensures.word ∙ ap (λ (T : Setup). word_of (core T) (Position 0)) ours) lt
+      (subst (λ ws. get_elem? ws (8 * (c.word_of-first.result + i)) ≡ some m) (sym same) found)
+
+  table_read : (m : ℕ) (words : List ℕ) → s.words ≡ words → get_elem? words (8 * c.word_of-at.result) ≡ some m → (m ≡ end.table) × (m < 16)
+  table_read m words same found = table_of v s k at nobody m c.word_of-at.result (c.word_of-at.ensures.word ∙ ap (λ (T : Setup). word_of (core T) TableCell) ours)
+      (subst (λ ws. get_elem? ws (8 * c.word_of-at.result) ≡ some m) (sym same) found)
+
+  -- how many tables were tried and how many lines there are, by the control's row
+  tally : (row : Row) → row ≡ get_or c.root.inside.lines.items 32 row
+      → (c.yard.inside.key.opening.yard.tried + length row.items ≡ end.tried) × (length c.args.lines.items ≡ end.moves + end.tried) × (end.tried < 16) × (end.moves ≤ 4064)
+  tally row is =
+      let count = counts v s k at nobody c.root.inside.lines.items row c.args.lines.items c.root.invariant.1 is opened lines_are in
+      (ap (λ (T : Setup). T.opening.yard.tried + length row.items) made ∙ count.0, count.1, count.2, count.3)
 
 pub overflow_cast-word : goal.overflow_cast-word
 overflow_cast-word c =
-    let v : View = c.root.inside.seat.me.0 in
-    let made : c.yard.inside.key ≡ v.setup =
-    ap (λ (y : SharedYard). y.setup) (c.yard.view_is ∙ sym c.requires.ours) ∙ sym (ap (λ (x : Root). x.yard.setup) c.root.view_is) in
-    let f = c.close_with-closed.ensures.values.2 in
-    let s : St = f.0 in
-    let k : Kept v.setup s = subst (λ (T : Setup). Kept T s) (c.yard.invariant.key_is ∙ made) f.1.0 in
-    let at : get_elem? s.views 0 ≡ some v = subst (λ id. get_elem? s.views id ≡ some v) c.root.invariant.0.first f.1.1 in
-    let nobody : v.out ≡ 0 = ap (λ (x : Root). x.out) c.root.view_is ∙ c.requires.nobody in
-    let ours : c.args.yard.setup ≡ v.setup = ap (λ (y : SharedYard). y.setup) (sym c.requires.ours) ∙ sym (ap (λ (x : Root). x.yard.setup) c.root.view_is) in
-    let first : c.word_of-first.result ≡ word_of (core v.setup) (Position 0) = c.word_of-first.ensures.word ∙ ap (λ (T : Setup). word_of (core T) (Position 0)) ours in
-    let long : length c.args.positions ≡ length (ended v s k at nobody).positions =
-    c.requires.positions ∙ (ap (λ (x : Root). length x.yard.setup.opening.yard.positions) (sym c.root.view_is) ∙ sym (size v s k at nobody)) in
-    let ends = c.len-train-end.ensures in
-    let lt = c.loop-train-test.true in
-    let found : get_elem? s.words (8 * (c.word_of-first.result + c.loop-train.train)) ≡ some c.word.result =
-    subst (λ ws. get_elem? ws (8 * (c.word_of-first.result + c.loop-train.train)) ≡ some c.word.result) (sym f.2) c.word.ensures in
-    let is = place_of v s k at nobody c.loop-train.train c.word.result c.word_of-first.result first (omega arith) found in
-    let small = is.1 in omega arith
+    let closed = (goal.at.overflow_cast-word c).After-close_with-closed in
+    let is = place_read closed c.loop-train.train c.word.result _ c.close_with-closed.ensures.values.2.2 (omega (arith, c.loop-train-test.true, c.len-train-end.ensures, long closed)) c.word.ensures in
+    omega (arith, is.1)
 
 pub loop-train-preserved : goal.loop-train-preserved
 loop-train-preserved c =
-    let v : View = c.root.inside.seat.me.0 in
-    let made : c.yard.inside.key ≡ v.setup =
-    ap (λ (y : SharedYard). y.setup) (c.yard.view_is ∙ sym c.requires.ours) ∙ sym (ap (λ (x : Root). x.yard.setup) c.root.view_is) in
-    let f = c.close_with-closed.ensures.values.2 in
-    let s : St = f.0 in
-    let k : Kept v.setup s = subst (λ (T : Setup). Kept T s) (c.yard.invariant.key_is ∙ made) f.1.0 in
-    let at : get_elem? s.views 0 ≡ some v = subst (λ id. get_elem? s.views id ≡ some v) c.root.invariant.0.first f.1.1 in
-    let nobody : v.out ≡ 0 = ap (λ (x : Root). x.out) c.root.view_is ∙ c.requires.nobody in
-    let ours : c.args.yard.setup ≡ v.setup = ap (λ (y : SharedYard). y.setup) (sym c.requires.ours) ∙ sym (ap (λ (x : Root). x.yard.setup) c.root.view_is) in
-    let first : c.word_of-first.result ≡ word_of (core v.setup) (Position 0) = c.word_of-first.ensures.word ∙ ap (λ (T : Setup). word_of (core T) (Position 0)) ours in
-    let long : length c.args.positions ≡ length (ended v s k at nobody).positions =
-    c.requires.positions ∙ (ap (λ (x : Root). length x.yard.setup.opening.yard.positions) (sym c.root.view_is) ∙ sym (size v s k at nobody)) in
-    let ends = c.len-train-end.ensures in
-    let lt = c.loop-train-test.true in
-    let found : get_elem? s.words (8 * (c.word_of-first.result + c.loop-train.train)) ≡ some c.word.result =
-    subst (λ ws. get_elem? ws (8 * (c.word_of-first.result + c.loop-train.train)) ≡ some c.word.result) (sym f.2) c.word.ensures in
-    let is = place_of v s k at nobody c.loop-train.train c.word.result c.word_of-first.result first (omega arith) found in
+    let closed = (goal.at.loop-train-preserved c).After-close_with-closed in
     let inv = c.loop-train.invariant in
     let n = c.loop-train.train in
-    let sized = inv.size in
+    let near : n < length c.args.positions = omega (arith, c.loop-train-test.true, c.len-train-end.ensures) in
+    let is = place_read closed n c.word.result _ c.close_with-closed.ensures.values.2.2 (omega (arith, near, long closed)) c.word.ensures in
     record {
       size = ap length c.set.ensures ∙ (length-set c.loop-train.positions n c.word.result ∙ inv.size);
-      read = λ i near. ap (λ (l : List ℕ). get_or l i 0) c.set.ensures ∙ dite (ℕ_discrete i n)
+      read = λ i lt. ap (λ (l : List ℕ). get_or l i 0) c.set.ensures ∙ dite (ℕ_discrete i n)
           (λ (same : i ≡ n). ap (λ j. get_or (set c.loop-train.positions n c.word.result) j 0) same
-          ∙ (get_or-set_same c.loop-train.positions n c.word.result 0 (omega arith)
-          ∙ (is.0 ∙ (ap (place (ended v s k at nobody).positions) (sym same) ∙ ap (λ (x : Root). place (state_after x.yard.setup x.seen).positions i) c.root.view_is))))
+          ∙ (get_or-set_same c.loop-train.positions n c.word.result 0 (omega (arith, near, inv.size))
+          ∙ (is.0 ∙ (ap (place (end closed).positions) (sym same) ∙ ap (λ (x : Root). place (state_after x.yard.setup x.seen).positions i) c.root.view_is))))
           (λ (ne : i ≢ n). get_or-set_other c.loop-train.positions n i c.word.result 0 ne ∙ inv.read i (omega arith));
     }
 
 pub overflow_cast-table : goal.overflow_cast-table
-overflow_cast-table c =
-    let v : View = c.root.inside.seat.me.0 in
-    let made : c.yard.inside.key ≡ v.setup =
-    ap (λ (y : SharedYard). y.setup) (c.yard.view_is ∙ sym c.requires.ours) ∙ sym (ap (λ (x : Root). x.yard.setup) c.root.view_is) in
-    let f = c.close_with-closed.ensures.values.2 in
-    let s : St = f.0 in
-    let k : Kept v.setup s = subst (λ (T : Setup). Kept T s) (c.yard.invariant.key_is ∙ made) f.1.0 in
-    let at : get_elem? s.views 0 ≡ some v = subst (λ id. get_elem? s.views id ≡ some v) c.root.invariant.0.first f.1.1 in
-    let nobody : v.out ≡ 0 = ap (λ (x : Root). x.out) c.root.view_is ∙ c.requires.nobody in
-    let ours : c.args.yard.setup ≡ v.setup = ap (λ (y : SharedYard). y.setup) (sym c.requires.ours) ∙ sym (ap (λ (x : Root). x.yard.setup) c.root.view_is) in
-    let word : c.word_of-at.result ≡ word_of (core v.setup) TableCell = c.word_of-at.ensures.word ∙ ap (λ (T : Setup). word_of (core T) TableCell) ours in
-    let found : get_elem? s.words (8 * c.word_of-at.result) ≡ some c.word-table.result =
-    subst (λ ws. get_elem? ws (8 * c.word_of-at.result) ≡ some c.word-table.result) (sym f.2) c.word-table.ensures in
-    let is = table_of v s k at nobody c.word-table.result c.word_of-at.result word found in
-    let small = is.1 in omega arith
+overflow_cast-table c = let is = table_read (goal.at.overflow_cast-table c).After-close_with-closed c.word-table.result _ c.close_with-closed.ensures.values.2.2 c.word-table.ensures in omega (arith, is.1)
 
 pub overflow_cast-tried : goal.overflow_cast-tried
 overflow_cast-tried c =
-    let v : View = c.root.inside.seat.me.0 in
-    let made : c.yard.inside.key ≡ v.setup =
-    ap (λ (y : SharedYard). y.setup) (c.yard.view_is ∙ sym c.requires.ours) ∙ sym (ap (λ (x : Root). x.yard.setup) c.root.view_is) in
-    let f = c.close_with-closed.ensures.values.2 in
-    let s : St = f.0 in
-    let k : Kept v.setup s = subst (λ (T : Setup). Kept T s) (c.yard.invariant.key_is ∙ made) f.1.0 in
-    let at : get_elem? s.views 0 ≡ some v = subst (λ id. get_elem? s.views id ≡ some v) c.root.invariant.0.first f.1.1 in
-    let nobody : v.out ≡ 0 = ap (λ (x : Root). x.out) c.root.view_is ∙ c.requires.nobody in
-    let opened : Keeps v.setup.tables v.setup.opening.yard v.setup.opening.lines =
-    subst (λ (T : Setup). Keeps T.tables T.opening.yard T.opening.lines) made c.yard.invariant.keeps in
-    let lines_are : c.args.lines.items ≡ v.setup.opening.lines ++ journal_of v.setup.tables v.setup.opening.yard v.seen =
-    c.requires.lines ∙ ap (λ (x : Root). x.yard.setup.opening.lines ++ journal_of x.yard.setup.tables x.yard.setup.opening.yard x.seen) (sym c.root.view_is) in
-    let count = counts v s k at nobody c.root.inside.lines.items c.index.result.now c.args.lines.items c.root.invariant.1 c.index.ensures opened lines_are in
+    let count = tally (goal.at.overflow_cast-tried c).After-close_with-closed c.index.result.now c.index.ensures in
     let row : c.len.result ≡ length c.index.result.now.items = search rules in
-    let tried : c.tried.result ≡ v.setup.opening.yard.tried = c.tried.ensures ∙ ((λ i. (c.key.view_is i).opening.yard.tried) ∙ ap (λ (T : Setup). T.opening.yard.tried) made) in
-    let by_tried = count.0 in
-    let by_lines = count.1 in
-    let few_tried = count.2 in
-    let few_moves = count.3 in
-    omega arith
+    omega (arith, count.0, count.2, row)
 
 pub overflow_add-tried : goal.overflow_add-tried
 overflow_add-tried c =
-    let v : View = c.root.inside.seat.me.0 in
-    let made : c.yard.inside.key ≡ v.setup =
-    ap (λ (y : SharedYard). y.setup) (c.yard.view_is ∙ sym c.requires.ours) ∙ sym (ap (λ (x : Root). x.yard.setup) c.root.view_is) in
-    let f = c.close_with-closed.ensures.values.2 in
-    let s : St = f.0 in
-    let k : Kept v.setup s = subst (λ (T : Setup). Kept T s) (c.yard.invariant.key_is ∙ made) f.1.0 in
-    let at : get_elem? s.views 0 ≡ some v = subst (λ id. get_elem? s.views id ≡ some v) c.root.invariant.0.first f.1.1 in
-    let nobody : v.out ≡ 0 = ap (λ (x : Root). x.out) c.root.view_is ∙ c.requires.nobody in
-    let opened : Keeps v.setup.tables v.setup.opening.yard v.setup.opening.lines =
-    subst (λ (T : Setup). Keeps T.tables T.opening.yard T.opening.lines) made c.yard.invariant.keeps in
-    let lines_are : c.args.lines.items ≡ v.setup.opening.lines ++ journal_of v.setup.tables v.setup.opening.yard v.seen =
-    c.requires.lines ∙ ap (λ (x : Root). x.yard.setup.opening.lines ++ journal_of x.yard.setup.tables x.yard.setup.opening.yard x.seen) (sym c.root.view_is) in
-    let count = counts v s k at nobody c.root.inside.lines.items c.index.result.now c.args.lines.items c.root.invariant.1 c.index.ensures opened lines_are in
+    let count = tally (goal.at.overflow_add-tried c).After-close_with-closed c.index.result.now c.index.ensures in
     let row : c.len.result ≡ length c.index.result.now.items = search rules in
-    let tried : c.tried.result ≡ v.setup.opening.yard.tried = c.tried.ensures ∙ ((λ i. (c.key.view_is i).opening.yard.tried) ∙ ap (λ (T : Setup). T.opening.yard.tried) made) in
-    let by_tried = count.0 in
-    let by_lines = count.1 in
-    let few_tried = count.2 in
-    let few_moves = count.3 in
-    omega arith
+    let tried : c.tried.result ≡ c.yard.inside.key.opening.yard.tried = c.tried.ensures ∙ (λ i. (c.key.view_is i).opening.yard.tried) in
+    omega (arith, count.0, count.2, row, tried)
 
 pub overflow_cast-moves : goal.overflow_cast-moves
 overflow_cast-moves c =
-    let v : View = c.root.inside.seat.me.0 in
-    let made : c.yard.inside.key ≡ v.setup =
-    ap (λ (y : SharedYard). y.setup) (c.yard.view_is ∙ sym c.requires.ours) ∙ sym (ap (λ (x : Root). x.yard.setup) c.root.view_is) in
-    let f = c.close_with-closed.ensures.values.2 in
-    let s : St = f.0 in
-    let k : Kept v.setup s = subst (λ (T : Setup). Kept T s) (c.yard.invariant.key_is ∙ made) f.1.0 in
-    let at : get_elem? s.views 0 ≡ some v = subst (λ id. get_elem? s.views id ≡ some v) c.root.invariant.0.first f.1.1 in
-    let nobody : v.out ≡ 0 = ap (λ (x : Root). x.out) c.root.view_is ∙ c.requires.nobody in
-    let opened : Keeps v.setup.tables v.setup.opening.yard v.setup.opening.lines =
-    subst (λ (T : Setup). Keeps T.tables T.opening.yard T.opening.lines) made c.yard.invariant.keeps in
-    let lines_are : c.args.lines.items ≡ v.setup.opening.lines ++ journal_of v.setup.tables v.setup.opening.yard v.seen =
-    c.requires.lines ∙ ap (λ (x : Root). x.yard.setup.opening.lines ++ journal_of x.yard.setup.tables x.yard.setup.opening.yard x.seen) (sym c.root.view_is) in
-    let count = counts v s k at nobody c.root.inside.lines.items c.index.result.now c.args.lines.items c.root.invariant.1 c.index.ensures opened lines_are in
-    let row : c.len.result ≡ length c.index.result.now.items = search rules in
-    let tried : c.tried.result ≡ v.setup.opening.yard.tried = c.tried.ensures ∙ ((λ i. (c.key.view_is i).opening.yard.tried) ∙ ap (λ (T : Setup). T.opening.yard.tried) made) in
-    let by_tried = count.0 in
-    let by_lines = count.1 in
-    let few_tried = count.2 in
-    let few_moves = count.3 in
+    let count = tally (goal.at.overflow_cast-moves c).After-close_with-closed c.index.result.now c.index.ensures in
     let all : c.len-2.result ≡ length c.args.lines.items = search rules in
-    omega arith
+    omega (arith, count.1, count.2, count.3, all)
 
 pub overflow_sub-moves : goal.overflow_sub-moves
 overflow_sub-moves c =
-    let v : View = c.root.inside.seat.me.0 in
-    let made : c.yard.inside.key ≡ v.setup =
-    ap (λ (y : SharedYard). y.setup) (c.yard.view_is ∙ sym c.requires.ours) ∙ sym (ap (λ (x : Root). x.yard.setup) c.root.view_is) in
-    let f = c.close_with-closed.ensures.values.2 in
-    let s : St = f.0 in
-    let k : Kept v.setup s = subst (λ (T : Setup). Kept T s) (c.yard.invariant.key_is ∙ made) f.1.0 in
-    let at : get_elem? s.views 0 ≡ some v = subst (λ id. get_elem? s.views id ≡ some v) c.root.invariant.0.first f.1.1 in
-    let nobody : v.out ≡ 0 = ap (λ (x : Root). x.out) c.root.view_is ∙ c.requires.nobody in
-    let opened : Keeps v.setup.tables v.setup.opening.yard v.setup.opening.lines =
-    subst (λ (T : Setup). Keeps T.tables T.opening.yard T.opening.lines) made c.yard.invariant.keeps in
-    let lines_are : c.args.lines.items ≡ v.setup.opening.lines ++ journal_of v.setup.tables v.setup.opening.yard v.seen =
-    c.requires.lines ∙ ap (λ (x : Root). x.yard.setup.opening.lines ++ journal_of x.yard.setup.tables x.yard.setup.opening.yard x.seen) (sym c.root.view_is) in
-    let count = counts v s k at nobody c.root.inside.lines.items c.index.result.now c.args.lines.items c.root.invariant.1 c.index.ensures opened lines_are in
+    let count = tally (goal.at.overflow_sub-moves c).After-close_with-closed c.index.result.now c.index.ensures in
     let row : c.len.result ≡ length c.index.result.now.items = search rules in
-    let tried : c.tried.result ≡ v.setup.opening.yard.tried = c.tried.ensures ∙ ((λ i. (c.key.view_is i).opening.yard.tried) ∙ ap (λ (T : Setup). T.opening.yard.tried) made) in
-    let by_tried = count.0 in
-    let by_lines = count.1 in
-    let few_tried = count.2 in
-    let few_moves = count.3 in
+    let tried : c.tried.result ≡ c.yard.inside.key.opening.yard.tried = c.tried.ensures ∙ (λ i. (c.key.view_is i).opening.yard.tried) in
     let all : c.len-2.result ≡ length c.args.lines.items = search rules in
-    omega arith
+    omega (arith, count.0, count.1, count.2, count.3, row, tried, all)
 
 pub returns : goal.returns
 returns c =
-    let v : View = c.root.inside.seat.me.0 in
-    let made : c.yard.inside.key ≡ v.setup =
-    ap (λ (y : SharedYard). y.setup) (c.yard.view_is ∙ sym c.requires.ours) ∙ sym (ap (λ (x : Root). x.yard.setup) c.root.view_is) in
-    let f = c.close_with-closed.ensures.values.2 in
-    let s : St = f.0 in
-    let k : Kept v.setup s = subst (λ (T : Setup). Kept T s) (c.yard.invariant.key_is ∙ made) f.1.0 in
-    let at : get_elem? s.views 0 ≡ some v = subst (λ id. get_elem? s.views id ≡ some v) c.root.invariant.0.first f.1.1 in
-    let nobody : v.out ≡ 0 = ap (λ (x : Root). x.out) c.root.view_is ∙ c.requires.nobody in
-    let ours : c.args.yard.setup ≡ v.setup = ap (λ (y : SharedYard). y.setup) (sym c.requires.ours) ∙ sym (ap (λ (x : Root). x.yard.setup) c.root.view_is) in
-    let word : c.word_of-at.result ≡ word_of (core v.setup) TableCell = c.word_of-at.ensures.word ∙ ap (λ (T : Setup). word_of (core T) TableCell) ours in
-    let found : get_elem? s.words (8 * c.word_of-at.result) ≡ some c.word-table.result =
-    subst (λ ws. get_elem? ws (8 * c.word_of-at.result) ≡ some c.word-table.result) (sym f.2) c.word-table.ensures in
-    let is = table_of v s k at nobody c.word-table.result c.word_of-at.result word found in
-    let opened : Keeps v.setup.tables v.setup.opening.yard v.setup.opening.lines =
-    subst (λ (T : Setup). Keeps T.tables T.opening.yard T.opening.lines) made c.yard.invariant.keeps in
-    let lines_are : c.args.lines.items ≡ v.setup.opening.lines ++ journal_of v.setup.tables v.setup.opening.yard v.seen =
-    c.requires.lines ∙ ap (λ (x : Root). x.yard.setup.opening.lines ++ journal_of x.yard.setup.tables x.yard.setup.opening.yard x.seen) (sym c.root.view_is) in
-    let count = counts v s k at nobody c.root.inside.lines.items c.index.result.now c.args.lines.items c.root.invariant.1 c.index.ensures opened lines_are in
+    let closed = (goal.at.returns c).After-close_with-closed in
+    let count = tally closed c.index.result.now c.index.ensures in
     let row : c.len.result ≡ length c.index.result.now.items = search rules in
-    let tried : c.tried.result ≡ v.setup.opening.yard.tried = c.tried.ensures ∙ ((λ i. (c.key.view_is i).opening.yard.tried) ∙ ap (λ (T : Setup). T.opening.yard.tried) made) in
-    let by_tried = count.0 in
-    let by_lines = count.1 in
-    let few_tried = count.2 in
-    let few_moves = count.3 in
+    let tried : c.tried.result ≡ c.yard.inside.key.opening.yard.tried = c.tried.ensures ∙ (λ i. (c.key.view_is i).opening.yard.tried) in
     let all : c.len-2.result ≡ length c.args.lines.items = search rules in
-    let long : length c.args.positions ≡ length (ended v s k at nobody).positions =
-    c.requires.positions ∙ (ap (λ (x : Root). length x.yard.setup.opening.yard.positions) (sym c.root.view_is) ∙ sym (size v s k at nobody)) in
-    let ends = c.len-train-end.ensures in
-    let past = c.loop-train-test.false in
-    let sized = c.loop-train.invariant.size in
-    let places : c.loop-train.positions ≡ (ended v s k at nobody).positions = same_members c.loop-train.positions (ended v s k at nobody).positions (omega arith)
-    (λ i lt. c.loop-train.invariant.read i (omega arith) ∙ ap (λ (x : Root). place (state_after x.yard.setup x.seen).positions i) (sym c.root.view_is)) in
+    let inv = c.loop-train.invariant in
+    let whole : length c.loop-train.positions ≡ length (end closed).positions = inv.size ∙ long closed in
+    let places : c.loop-train.positions ≡ (end closed).positions = same_number_lists c.loop-train.positions (end closed).positions whole
+    (λ i lt. inv.read i (omega (arith, lt, inv.size, c.loop-train-test.false, c.len-train-end.ensures)) ∙ ap (λ (x : Root). place (state_after x.yard.setup x.seen).positions i) (sym c.root.view_is)) in
     let moves : ℕ = c.len-2.result - (c.tried.result + c.len.result) in
     let state : c.new-2.result ≡ record { yard = record { positions = c.loop-train.positions; table = c.word-table.result; tried = c.tried.result + c.len.result; moves = c.len-2.result - (c.tried.result + c.len.result) }; lines = c.args.lines.items } =
     c.new-2.ensures ∙ (λ i. record { yard = c.new.ensures i; lines = c.args.lines.items }) in
     subst (λ (x : Root × Plain). Closes x.0 x.1) (λ i. (c.root.view_is i, sym state i))
-    (closes v s k at nobody c.root.inside.seat.table_id c.loop-train.positions c.word-table.result (c.tried.result + c.len.result) moves c.args.lines.items opened
-    places is.0 (omega arith) lines_are (omega arith))
+    (closes (v closed) (s closed) (k closed) (at closed) (nobody closed) c.root.inside.seat.table_id c.loop-train.positions c.word-table.result (c.tried.result + c.len.result) moves c.args.lines.items (opened closed)
+    places (table_read closed c.word-table.result _ c.close_with-closed.ensures.values.2.2 c.word-table.ensures).0 (omega (arith, count.0, row, tried)) (lines_are closed) (omega (arith, all)))

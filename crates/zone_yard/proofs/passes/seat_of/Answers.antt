@@ -5,11 +5,13 @@ use Rattle.zone_locks.specs.Zones.{has}
 use Rattle.zone_yard.specs.Setup.{Setup, SharedYard, state_after, IsLegalHistory}
 use Rattle.zone_yard.specs.Tells.{Sat}
 use Rattle.zone_yard.specs.Passes.{Root as RootValue, entries_of, standing}
+use Rattle.zone_yard.specs.Aboard.{IsPass}
 use Rattle.zone_yard.specs.Lines.{AreLeft, AreLines}
 use Rattle.zone_yard.specs.Kept.{IsActor}
 use Rattle.zone_yard.specs.Views.{View, boarding, pass_view}
-use Rattle.zone_yard.proofs.LinesKept.{has_less, left_stay, lines_begin}
-use Rattle.zone_yard.proofs.Roots.{many_few, many_set}
+use Rattle.zone_yard.proofs.LinesKept.{left_stay, lines_begin}
+use Rattle.zone_yard.proofs.Keeps.{has_less}
+use Rattle.zone_yard.proofs.Roots.{many_few, many_set, fresh}
 use Rattle.zone_yard.proofs.passes.seat_of.Goals as goal
 
 not_true : (b : Bool) → (b ≡ true → ⊥) → b ≡ false
@@ -65,25 +67,9 @@ invariant_of-root c =
 
 pub returns-clause-fresh : goal.returns-clause-fresh
 returns-clause-fresh c =
-    let me = c.board_seat-seat.ensures.seat.1 in
-    let r = c.root.invariant.0 in
-    record {
-      aboard = ap (λ (m : Sat). m.0.aboard) me;
-      number_is = ap (λ (m : Sat). m.0.number) me;
-      idle = record {
-        stage = ap (λ (m : Sat). m.0.actor.stage) me;
-        held = ap (λ (m : Sat). m.0.actor.held) me;
-        known = ap (λ (m : Sat). m.0.actor.known) me;
-        owed = ap (λ (m : Sat). m.0.actor.owed) me;
-        still = ap (λ (m : Sat). m.0.actor.closing) me;
-        stands = ap (λ (m : Sat). m.0.actor.position) me ∙ ap (λ (x : RootValue). standing x.yard.setup.opening.yard c.args.number) c.root.view_is;
-      };
-      made = ap (λ (m : Sat). length m.0.mine) me;
-      room = omega arith;
-      few_calls = subst (λ (T : Setup). T.calls < 2 ^ 32) (ap (λ (m : Sat). m.0.setup) (sym me)) r.few_calls;
-      legal = subst (λ (m : Sat). IsLegalHistory m.0.setup m.0.seen) (sym me) r.legal;
-      slots = ap (λ (m : Sat). m.1) me;
-    }
+    let stands = ap (λ (x : RootValue). standing x.yard.setup.opening.yard c.args.number) c.root.view_is in
+    subst (λ (x : ℕ × Sat). IsPass c.args.number x.0 0 x.1) (λ i. (stands i, sym c.board_seat-seat.ensures.seat.1 i))
+    (fresh c.root.inside.seat.me.0 c.args.number c.root.invariant.0.few_calls c.root.invariant.0.legal)
 
 pub returns-clause-lines : goal.returns-clause-lines
 returns-clause-lines c = λ l none room.

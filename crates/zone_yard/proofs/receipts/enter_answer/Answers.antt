@@ -1,72 +1,61 @@
-use Rattle.std.proofs.Common.{◌≡◌, ◌++◌, ◌<◌, ℕ, refl, sym, ap, ◌∙◌, subst, append-nil}
-use Rattle.rail_model.specs.declared.types.BlockAsk.{BlockAsk}
+use Rattle.std.proofs.Common.{◌≡◌, ◌++◌, refl, sym, ap, ◌∙◌, subst, append-nil}
 use Rattle.rail_model.specs.Yard.{offer}
 use Rattle.move_claim.specs.Cells.{number_in}
 use Rattle.move_claim.specs.Claims.{claim_of}
-use Rattle.move_claim.specs.declared.claims.Claim.{Claim}
 use Rattle.move_claim.specs.Deciding.{decided}
 use Rattle.zone_machine.specs.Sound.{IsSetup}
-use Rattle.zone_yard.specs.Setup.{Setup, core}
-use Rattle.zone_yard.specs.Lines.{Lines, moves_from}
+use Rattle.ticket_lines.specs.Tickets.{marks_of, own_lines}
+use Rattle.zone_yard.specs.Views.{new_entries}
+use Rattle.zone_yard.specs.Setup.{Setup, core, state_after}
+use Rattle.zone_yard.specs.Lines.{Lines, AreLines, moves_from}
 use Rattle.zone_yard.specs.Tells.{Sat}
 use Rattle.zone_yard.proofs.LinesKept.{Tells, granted, none_granted, moves_fit, lines_kept}
+use Rattle.zone_yard.proofs.receipts.enter_answer.Given.{Over}
+use Rattle.zone_yard.proofs.receipts.enter_answer.Goals.{After-append-ticket}
 use Rattle.zone_yard.proofs.receipts.enter_answer.Goals as goal
 
--- what the call asks, by what the pass was made with
-tells : (S : Setup) (m : Sat) (t steps : ℕ) (c : Claim) (x : BlockAsk) → m.0.setup ≡ S → m.0.number ≡ c.train → c.train < 32
-    → Tells (record m.0 { setup = S }) t steps c x → Tells m.0 t steps c x
-tells S m t steps c x made named low h = record {
-  named = named;
-  low = low;
-  table = h.table;
-  claim = h.claim ∙ ap (λ (R : Setup). claim_of (offer R.tables t).table c.train m.0.actor.position steps) (sym made);
-  answer = h.answer ∙ ap (λ (R : Setup). decided (offer R.tables t).table c (number_in m.0.actor.known)) (sym made);
-}
+-- the entry of a driver, before its lines are kept
+module _ (g : Over) (c : After-append-ticket g) where
+  abbrev m : Sat
+  m = c.args.seat.now.me
+
+  abbrev w : Sat
+  w = c.append-ticket.new.seat.me
+
+  abbrev old : Lines
+  old = c.args.receipts.now
+
+  asked : Tells m.0 c.args.table c.args.steps c.args.claim c.args.answer
+  asked = record {
+    named = c.requires.train.1;
+    low = c.requires.train.0;
+    table = c.requires.table.1;
+    claim = c.requires.claim ∙ ap (λ (R : Setup). claim_of (offer R.tables c.args.table).table c.args.claim.train m.0.actor.position c.args.steps) (sym c.requires.ours.1);
+    answer = c.requires.answer ∙ ap (λ (R : Setup). decided (offer R.tables c.args.table).table c.args.claim (number_in m.0.actor.known)) (sym c.requires.ours.1);
+  }
+
+  kept : (new : Lines) → new.room ≡ old.room → new.items ≡ old.items ++ own_lines m.0.number c.append-ticket.result (marks_of m.0.setup.tables (state_after m.0.setup c.append-ticket.ensures.appends.before) (new_entries c.args.steps m.0)) → AreLines w.0 new
+  kept new room items = lines_kept c.args.steps c.append-ticket.result m w c.append-ticket.ensures.appends c.requires.lines.own old new c.requires.lines room items
 
 pub push_moves-requires-clause-room : goal.push_moves-requires-clause-room
 push_moves-requires-clause-room g c =
-    let m : Sat = c.args.seat.now.me in
-    let S : Setup = c.args.yard.now.setup in
-    let made : c.yard.inside.key ≡ c.args.yard.now.setup = ap (λ y. y.setup) c.yard.view_is in
-    let formed : IsSetup (core m.0.setup) = subst (λ (R : Setup). IsSetup (core R)) (made ∙ sym c.requires.ours.1) c.yard.invariant.formed in
-    let told : Tells m.0 c.args.table c.args.steps c.args.claim c.args.answer =
-    tells S m c.args.table c.args.steps c.args.claim c.args.answer c.requires.ours.1 c.requires.train.1 c.requires.train.0
-    record { named = c.requires.train.1; low = c.requires.train.0; table = c.requires.table.1; claim = c.requires.claim; answer = c.requires.answer } in
-    moves_fit c.args.table c.args.steps c.append-ticket.result c.args.claim m c.append-ticket.new.seat.me c.append-ticket.ensures.appends c.requires.lines.own c.args.answer told
-    c.args.receipts.now formed c.requires.lines c.in-Yes.is
+    let at = (goal.at.push_moves-requires-clause-room g c).After-append-ticket in
+    moves_fit c.args.table c.args.steps c.append-ticket.result c.args.claim (m g at) (w g at) c.append-ticket.ensures.appends c.requires.lines.own c.args.answer (asked g at)
+    c.args.receipts.now (subst (λ (R : Setup). IsSetup (core R)) (ap (λ y. y.setup) c.yard.view_is ∙ sym c.requires.ours.1) c.yard.invariant.formed) c.requires.lines c.in-Yes.is
 
 pub returns-in-Yes-clause-lines : goal.returns-in-Yes-clause-lines
 returns-in-Yes-clause-lines g c =
-    let m : Sat = c.args.seat.now.me in
-    let w : Sat = c.append-ticket.new.seat.me in
-    let S : Setup = c.args.yard.now.setup in
-    let made : c.yard.inside.key ≡ c.args.yard.now.setup = ap (λ y. y.setup) c.yard.view_is in
-    let told : Tells m.0 c.args.table c.args.steps c.args.claim c.args.answer =
-    tells S m c.args.table c.args.steps c.args.claim c.args.answer c.requires.ours.1 c.requires.train.1 c.requires.train.0
-    record { named = c.requires.train.1; low = c.requires.train.0; table = c.requires.table.1; claim = c.requires.claim; answer = c.requires.answer } in
-    let a = c.append-ticket.ensures.appends in
-    let table : c.table.result.now ≡ (offer m.0.setup.tables c.args.table).table =
-    c.table.ensures ∙ ap (λ (R : Setup). (offer R.tables c.args.table).table) (made ∙ sym c.requires.ours.1) in
-    lines_kept c.args.steps c.append-ticket.result m w a c.requires.lines.own c.args.receipts.now c.push_moves.new.self c.requires.lines
-    (ap (λ (x : Lines). x.room) c.push_moves.ensures)
+    let at = (goal.at.returns-in-Yes-clause-lines g c).After-append-ticket in
+    let made : c.yard.inside.key ≡ c.args.seat.now.me.0.setup = ap (λ y. y.setup) c.yard.view_is ∙ sym c.requires.ours.1 in
+    let table : c.table.result.now ≡ (offer (m g at).0.setup.tables c.args.table).table = c.table.ensures ∙ ap (λ (R : Setup). (offer R.tables c.args.table).table) made in
+    kept g at c.push_moves.new.self (ap (λ (x : Lines). x.room) c.push_moves.ensures)
     (ap (λ (x : Lines). x.items) c.push_moves.ensures
     ∙ ap (λ l. c.args.receipts.now.items ++ l)
     (ap (λ T. moves_from c.append-ticket.result T c.args.claim.train c.args.claim.place c.args.claim.steps) table
-    ∙ sym (granted c.args.table c.args.steps c.append-ticket.result c.args.claim m w a c.requires.lines.own c.args.answer told c.in-Yes.is)))
+    ∙ sym (granted c.args.table c.args.steps c.append-ticket.result c.args.claim (m g at) (w g at) c.append-ticket.ensures.appends c.requires.lines.own c.args.answer (asked g at) c.in-Yes.is)))
 
-pub returns-in_default : goal.returns-in_default
-returns-in_default g c =
-    let m : Sat = c.args.seat.now.me in
-    let w : Sat = c.append-ticket.new.seat.me in
-    let S : Setup = c.args.yard.now.setup in
-    let told : Tells m.0 c.args.table c.args.steps c.args.claim c.args.answer =
-    tells S m c.args.table c.args.steps c.args.claim c.args.answer c.requires.ours.1 c.requires.train.1 c.requires.train.0
-    record { named = c.requires.train.1; low = c.requires.train.0; table = c.requires.table.1; claim = c.requires.claim; answer = c.requires.answer } in
-    let a = c.append-ticket.ensures.appends in
-    let none = none_granted c.args.table c.args.steps c.append-ticket.result c.args.claim m w a c.requires.lines.own c.args.answer told c.in_default.not-Yes in
-    record {
-      same = c.append-ticket.ensures.same;
-      appends = a;
-      lines = lines_kept c.args.steps c.append-ticket.result m w a c.requires.lines.own c.args.receipts.now c.args.receipts.now c.requires.lines refl
-          (sym (ap (λ l. c.args.receipts.now.items ++ l) none ∙ append-nil c.args.receipts.now.items));
-    }
+pub returns-in_default-clause-lines : goal.returns-in_default-clause-lines
+returns-in_default-clause-lines g c =
+    let at = (goal.at.returns-in_default-clause-lines g c).After-append-ticket in
+    let none = none_granted c.args.table c.args.steps c.append-ticket.result c.args.claim (m g at) (w g at) c.append-ticket.ensures.appends c.requires.lines.own c.args.answer (asked g at) c.in_default.not-Yes in
+    kept g at c.args.receipts.now refl (sym (ap (λ l. c.args.receipts.now.items ++ l) none ∙ append-nil c.args.receipts.now.items))

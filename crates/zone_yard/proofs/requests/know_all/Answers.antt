@@ -4,13 +4,14 @@ use Rattle.rail_model.proofs.Found.{Among}
 use Rattle.move_claim.specs.declared.cells.Cell.TheVariants.{Table as TableCell}
 use Rattle.move_claim.specs.Cells.{number_of, first_unknown, put}
 use Rattle.move_claim.specs.Claims.{Footprint}
+use Rattle.move_claim.proofs.Amongs.{Among-get}
 use Rattle.zone_machine.specs.World.{may_read}
 use Rattle.zone_machine.proofs.OwnSteps.{number_of-put_same}
 use Rattle.zone_yard.specs.Setup.{core}
 use Rattle.zone_yard.specs.Holding.{AreAllSmall}
 use Rattle.zone_yard.specs.Tells.{Sat}
 use Rattle.zone_yard.proofs.CellLists.{put-small}
-use Rattle.zone_yard.proofs.FootprintCells.{later_cells, few_cells, at_among, no_table, guarded, some_held, tail_of, tail_known}
+use Rattle.zone_yard.proofs.FootprintCells.{later_cells, few_cells, no_table, guarded, some_held, tail_of, tail_known}
 use Rattle.zone_yard.proofs.requests.know_all.Goals as goal
 
 pub read_table-requires-clause-guard : goal.read_table-requires-clause-guard
@@ -21,7 +22,7 @@ read_table-requires-clause-guard c =
 pub read_all-requires-clause-guard : goal.read_all-requires-clause-guard
 read_all-requires-clause-guard c = λ k d e.
     let tail = tail_of TableCell (later_cells c.args.footprint.now.table c.args.footprint.now.claim) c.cells.result.now c.cells.ensures in
-    let there : Among (later_cells c.args.footprint.now.table c.args.footprint.now.claim) d = at_among _ k d (ap (λ l. slice_get l k) (sym tail) ∙ e) in
+    let there : Among (later_cells c.args.footprint.now.table c.args.footprint.now.claim) d = Among-get _ k d (ap (λ l. slice_get l k) (sym tail) ∙ e) in
     let held = ap (λ (m : Sat). m.0.actor.held) c.read_table.ensures.reads in
     let may = guarded c.args.yard.now.setup c.args.wanted c.args.seat.now.me.0.actor c.args.footprint.now c.word_of-word.ensures.formed c.requires.train c.requires.listed
     c.requires.footprint c.requires.held d (inr there) in
@@ -49,13 +50,13 @@ read_all-requires-clause-room c =
 pub returns-clause-table : goal.returns-clause-table
 returns-clause-table c = λ _.
     let tail = tail_of TableCell (later_cells c.args.footprint.now.table c.args.footprint.now.claim) c.cells.result.now c.cells.ensures in
-    c.read_all.ensures.others TableCell (λ k d e. no_table c.args.footprint.now.table c.args.footprint.now.claim d (at_among _ k d (ap (λ l. slice_get l k) (sym tail) ∙ e)))
+    c.read_all.ensures.others TableCell (λ k d e. no_table c.args.footprint.now.table c.args.footprint.now.claim d (Among-get _ k d (ap (λ l. slice_get l k) (sym tail) ∙ e)))
     ∙ (ap (number_of TableCell) c.put.ensures ∙ number_of-put_same TableCell c.args.wanted.table c.args.known.now)
 
 pub returns-clause-cells : goal.returns-clause-cells
 returns-clause-cells c = λ _.
     let tail = tail_of TableCell (later_cells c.args.footprint.now.table c.args.footprint.now.claim) c.cells.result.now c.cells.ensures in
-    let table = c.read_all.ensures.others TableCell (λ k d e. no_table c.args.footprint.now.table c.args.footprint.now.claim d (at_among _ k d (ap (λ l. slice_get l k) (sym tail) ∙ e)))
+    let table = c.read_all.ensures.others TableCell (λ k d e. no_table c.args.footprint.now.table c.args.footprint.now.claim d (Among-get _ k d (ap (λ l. slice_get l k) (sym tail) ∙ e)))
     ∙ (ap (number_of TableCell) c.put.ensures ∙ number_of-put_same TableCell c.args.wanted.table c.args.known.now) in
     tail_known (later_cells c.args.footprint.now.table c.args.footprint.now.claim) c.read_all.new.known c.args.wanted.table table
     (ap (λ l. first_unknown l c.read_all.new.known) (sym tail) ∙ c.read_all.ensures.all)

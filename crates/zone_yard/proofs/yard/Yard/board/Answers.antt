@@ -1,9 +1,10 @@
-use Rattle.std.proofs.Common.{◌≡◌, ◌<◌, ℕ, ◌==◌, Bool, cond, false, sym, ap, ◌∙◌, subst, arith, refl, ne_eqb}
+use Rattle.std.proofs.Common.{◌≡◌, ◌<◌, ◌==◌, sym, ap, ◌∙◌, subst, arith, ne_eqb}
 use Rattle.rail_model.specs.Table.{trains, place}
-use Rattle.rail_model.specs.Yard.{Yard, offer, control}
+use Rattle.rail_model.specs.Yard.{offer, control}
 use Rattle.zone_yard.specs.Setup.{Setup, SharedYard}
 use Rattle.zone_yard.specs.Passes.{Pass, standing}
 use Rattle.zone_yard.specs.Aboard.{IsPass}
+use Rattle.zone_yard.proofs.Lists.{second_of}
 use Rattle.zone_yard.proofs.LinesKept.{most_of_train}
 use Rattle.zone_yard.proofs.yard.Yard.board.Goals as goal
 
@@ -16,7 +17,7 @@ invariant_of-result c =
     let low : c.args.train < 32 = omega arith in
     let made : c.seat_of-seat.result.me.0.setup ≡ c.args.root.now.yard.setup = ap (λ (p : Pass). p.yard.setup) c.seat_of-seat.ensures.pass in
     let stands : standing c.args.root.now.yard.setup.opening.yard c.args.train ≡ c.place-position.result =
-    of_train c.args.root.now.yard.setup.opening.yard c.args.train low
+    second_of (c.args.train == control) c.args.root.now.yard.setup.opening.yard.tried (place c.args.root.now.yard.setup.opening.yard.positions c.args.train) (ne_eqb c.args.train control (λ e. omega (arith, e, low)))
     ∙ (ap (λ (y : SharedYard). place y.setup.opening.yard.positions c.args.train) (c.requires.ours ∙ sym c.self.view_is) ∙ sym c.place-position.ensures) in
     let most = most_of_train c.args.train low in (
       record {
@@ -25,9 +26,3 @@ invariant_of-result c =
       },
       c.seat_of-seat.ensures.lines c.in-Ok-Ok-Ok.receipts c.in-Ok-Ok-Ok.ensures.none (omega (arith, most, c.in-Ok-Ok-Ok.ensures.room)),
     )
-  where
-    picked : (b : Bool) (i j : ℕ) → b ≡ false → cond b i j ≡ j
-    picked b i j e = rw e refl
-
-    of_train : (y : Yard) (p : ℕ) → p < 32 → standing y p ≡ place y.positions p
-    of_train y p lt = picked (p == control) y.tried (place y.positions p) (ne_eqb p control (λ e. omega (arith, e, lt)))

@@ -2,20 +2,15 @@ use Rattle.std.proofs.Common.{refl, sym, ap, subst, arith}
 use Rattle.zone_yard.specs.declared.replies.Reply.{Reply}
 use Rattle.zone_yard.specs.Setup.{SharedYard}
 use Rattle.zone_yard.specs.Replies.{Replies}
-use Rattle.zone_yard.proofs.Served.{asked_reply}
+use Rattle.zone_yard.proofs.Replied.{asked_reply}
 use Rattle.zone_yard.proofs.yard.Yard.request.Goals as goal
 
 pub returns-then-left-eq0-clause-reply : goal.returns-then-left-eq0-clause-reply
 returns-then-left-eq0-clause-reply g c =
-    let sum = c.entries_left-left.ensures.left in
-    let none = c.if-left-eq0.true in
-    let calls = ap (λ (y : SharedYard). y.setup.calls) c.requires in
-    (omega (arith, sum, none, calls), (refl, c.entries_left-left.ensures.free))
+    (omega (arith, c.entries_left-left.ensures.left, c.if-left-eq0.true, ap (λ (y : SharedYard). y.setup.calls) c.requires), (refl, c.entries_left-left.ensures.free))
 
 pub returns-clause-reply : goal.returns-clause-reply
 returns-clause-reply g c =
-    let sum = c.entries_left-left.ensures.left in
-    let some = c.if-left-eq0.false in
-    let calls = ap (λ (y : SharedYard). y.setup.calls) c.requires in
     subst (λ (r : Reply). Replies c.args.driver.now r c.ask_until.new.driver) (sym c.reply_of.ensures)
-    (asked_reply c.ask_until.result c.args.driver.now c.ask_until.new.driver (omega (arith, sum, some, calls)) c.ask_until.ensures.asked)
+    (asked_reply c.ask_until.result c.args.driver.now c.ask_until.new.driver
+    (omega (arith, c.entries_left-left.ensures.left, c.if-left-eq0.false, ap (λ (y : SharedYard). y.setup.calls) c.requires)) c.ask_until.ensures.asked)

@@ -2,21 +2,16 @@ use Rattle.std.proofs.Common.{refl, sym, ap, subst, arith}
 use Rattle.zone_yard.specs.declared.replies.BlockReply.{BlockReply}
 use Rattle.zone_yard.specs.Setup.{SharedYard}
 use Rattle.zone_yard.specs.Replies.{BlockReplies}
-use Rattle.zone_yard.proofs.Served.{asked_block}
+use Rattle.zone_yard.proofs.Replied.{asked_block}
 use Rattle.zone_yard.proofs.yard.Yard.try_block.Goals as goal
 
 pub returns-then-left-eq0-clause-reply : goal.returns-then-left-eq0-clause-reply
 returns-then-left-eq0-clause-reply g c =
-    let sum = c.entries_left-left.ensures.left in
-    let none = c.if-left-eq0.true in
-    let calls = ap (λ (y : SharedYard). y.setup.calls) c.requires.ours in
-    (omega (arith, sum, none, calls), (refl, c.entries_left-left.ensures.free))
+    (omega (arith, c.entries_left-left.ensures.left, c.if-left-eq0.true, ap (λ (y : SharedYard). y.setup.calls) c.requires.ours), (refl, c.entries_left-left.ensures.free))
 
 pub returns-clause-reply : goal.returns-clause-reply
 returns-clause-reply g c =
     let sum = c.entries_left-left.ensures.left in
-    let some = c.if-left-eq0.false in
     let calls = ap (λ (y : SharedYard). y.setup.calls) c.requires.ours in
-    let least = c.min.ensures in
     subst (λ (r : BlockReply). BlockReplies c.args.want c.args.driver.now r c.ask_steps.new.driver) (sym c.block_reply_of.ensures)
-    (asked_block c.args.want c.min.result c.ask_steps.result c.args.driver.now c.ask_steps.new.driver (omega (arith, sum, some, calls)) (omega (arith, sum, calls, least)) c.ask_steps.ensures.asked)
+    (asked_block c.args.want c.min.result c.ask_steps.result c.args.driver.now c.ask_steps.new.driver (omega (arith, sum, c.if-left-eq0.false, calls)) (omega (arith, sum, calls, c.min.ensures)) c.ask_steps.ensures.asked)
