@@ -1,5 +1,5 @@
 -- The lines of a pass grow by those of its own entries.
-use Rattle.std.proofs.Common.{◌≡◌, lt_of_not-le, true≢false, get_or-set_same, ◌≢◌, ℕ, zero, suc, ◌+◌, ◌-◌, ◌<◌, ◌≤◌, ◌==◌, List, [], ◌∷◌, ◌++◌, length, length-set, set, get_or-set_other, get_or, replicate, Bool, true, false, if◌then◌else◌, All, Some, None, refl, sym, ap, ◌∙◌, subst, arith, eq-eqb, ne_eqb, append-nil, length-append}
+use Rattle.std.proofs.Common.{◌≡◌, lt_of_not-le, true≢false, get_or-set_same, ◌≢◌, ℕ, zero, suc, ◌+◌, ◌<◌, ◌≤◌, ◌==◌, List, [], ◌∷◌, ◌++◌, length, length-set, set, get_or-set_other, get_or, replicate, Bool, true, false, if◌then◌else◌, All, Some, None, refl, sym, ap, ◌∙◌, subst, arith, eq-eqb, ne_eqb, append-nil, length-append}
 use Rattle.std.proofs.lemmas.List.{get_or_past, append_cancel_left}
 use Rattle.std.proofs.lemmas.List.Elements.{All-cons}
 use Rattle.std.specs.Prelude.{unwrap_or}
