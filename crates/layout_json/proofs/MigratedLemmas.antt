@@ -57,17 +57,20 @@ module _ (D : Doc) (taken : IsTaken (in_version 1 D)) where
   later-is-taken formed =
       again (members_in (in_version 1 D)) (in_version 1 D) made (of-version (in_version 1 D)) 2 D.tables refl
       (λ t lt.
-      let x = own t lt in
-      (x.0, record { exits = λ low. absurd (omega (arith, low)); connections = λ low. x.1.connections (omega arith) }, record {
-        due = x.2.due;
-        table = record {
-          missions = x.2.table.missions;
-          sections = sections-kept (table_at D t) (formed t lt) Four (of_four (table_at D t) (formed t lt));
-          connections = x.2.table.connections;
-          connections_are = x.2.table.connections_are;
-        };
-        times = x.2.times;
-      }))
+      let x = own t lt in (
+        x.0,
+        record { exits = λ low. absurd (omega (arith, low)); connections = λ low. x.1.connections (omega arith) },
+        record {
+          due = x.2.due;
+          table = record {
+            missions = x.2.table.missions;
+            sections = sections-kept (table_at D t) (formed t lt) Four (of_four (table_at D t) (formed t lt));
+            connections = x.2.table.connections;
+            connections_are = x.2.table.connections_are;
+          };
+          times = x.2.times;
+        },
+      ))
       made.start
 
 -- ---- the migrated document

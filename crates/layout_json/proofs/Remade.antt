@@ -114,17 +114,20 @@ module _ (D : Doc) (taken : IsTaken D) where
       (λ t lt.
       let x = own t lt in
       let T : Table = new_table parts t in
-      let missions = h.missions t lt in
-      (x.0, x.1, record {
-        due = x.2.due;
-        table = record {
-          missions = x.2.table.missions ∙ ap Ok (sym missions);
-          sections = sections-kept T (h.formed t lt) (marks_of D.version) (light-marked T (h.light t lt));
-          connections = connections-kept T (h.formed t lt);
-          connections_are = h.connections t lt ∙ x.2.table.connections_are;
-        };
-        times = ap (λ ms. times_refusal t (record T { missions = ms }) (doc_table D t).times) missions ∙ x.2.times;
-      }))
+      let missions = h.missions t lt in (
+        x.0,
+        x.1,
+        record {
+          due = x.2.due;
+          table = record {
+            missions = x.2.table.missions ∙ ap Ok (sym missions);
+            sections = sections-kept T (h.formed t lt) (marks_of D.version) (light-marked T (h.light t lt));
+            connections = connections-kept T (h.formed t lt);
+            connections_are = h.connections t lt ∙ x.2.table.connections_are;
+          };
+          times = ap (λ ms. times_refusal t (record T { missions = ms }) (doc_table D t).times) missions ∙ x.2.times;
+        },
+      ))
       (start-none (new_table parts 0) D.start h.start.one_each (illegality-none (new_table parts 0) D.start h.start))
 
 -- the ways of tables that are taken have names
