@@ -5,7 +5,7 @@ use Rattle.ats_io.specs.Bytes.{Adds, AddsPrefix, ConsumesAtMost}
 use Rattle.ats_io.specs.Memory.{HasMade, IsFull}
 use Rattle.command_words.specs.declared.orders.Order.{Order}
 use Rattle.ats_run.specs.declared.status.Status.TheVariants.{Done, WriteFault}
-use Rattle.ats_run.specs.Orders.{order_of, Reads, Holds}
+use Rattle.ats_run.specs.Orders.{order_of, Reads, HoldsInput}
 use Rattle.ats_run.specs.Causes.{Call, IsServed, Tells, most_bytes}
 use Rattle.ats_run.specs.Complete.{IsGoodInput, IsDoneOrMemory}
 use Rattle.ats_rows.specs.declared.calls.Played.{Played}
@@ -42,7 +42,7 @@ pub record IsPlayed (line : List Text) (input reads writes : List ℕ) (played :
   pub nothing : played.status ≢ Done → played.status ≢ WriteFault → played.written.items ≡ []
   pub prefix : played.status ≡ WriteFault
       → IsServed (order_of line) (Some input) (Some played.left.items) (AddsPrefix (Some []) (Some played.written.items))
-  pub complete : (order : Order) (bytes : List ℕ) → order_of line ≡ Some order → Holds order (Some input) bytes → IsGoodInput order bytes
+  pub complete : (order : Order) (bytes : List ℕ) → order_of line ≡ Some order → HoldsInput order (Some input) bytes → IsGoodInput order bytes
       → (HasSourceFailed reads played → ⊥) → (HasSinkFailed writes played → ⊥) → IsDoneOrMemory played.status
   pub untouched : IfSome (order_of line) (λ order. Reads order → ⊥) → played.left.items ≡ input
   pub at_most : ConsumesAtMost (most_bytes + 1) (Some input) (Some played.left.items)

@@ -22,7 +22,7 @@ use Rattle.ats_run.specs.Checking.{nodes_below}
 use Rattle.ats_run.specs.Command.{Comes, IsRunInput, IsResumedInput}
 use Rattle.ats_run.specs.Generating.{IsDrilled}
 use Rattle.ats_run.specs.Headline.{Ends, plain_after}
-use Rattle.ats_run.specs.Journals.{IsCut, document_part, journal_part}
+use Rattle.ats_run.specs.Journals.{IsCutAt, document_part, journal_part}
 use Rattle.ats_run.specs.Orders.{crew_in}
 use Rattle.ats_run.specs.Tasks.{RunsTrains, PrintsText, PrintsCounts, Prints, LeadsTo, TaskLeads}
 use Rattle.ats_run.proofs.Drilled.{drilled}
@@ -60,7 +60,7 @@ drill_leads D trees from doc accepted is one = record {
 }
 
 pub front_leads : (D : Doc) (trees : List Tree) (input document given : List ℕ) (front : Journal) (from : Plain) → IsDoc D → AreAccepted D trees
-    → (k : ℕ) × IsCut input k × (document ≡ document_part input k) × (given ≡ journal_part input k) → doc_of document ≡ Ok D → IsFrontOf (names_of D) given front
+    → (k : ℕ) × IsCutAt input k × (document ≡ document_part input k) × (given ≡ journal_part input k) → doc_of document ≡ Ok D → IsFrontOf (names_of D) given front
     → IsRight (offers_of D) (opening D.start) front.lines → from.yard ≡ after_lines (opening D.start) front.lines → from.lines ≡ front.lines
     → Keeps (offers_of D) from.yard from.lines → LeadsTo PrintsText (λ crew written. IsResumedInput crew input written) D trees from
 front_leads D trees input document given front from doc accepted cut read is_front right reached same keeps = record {

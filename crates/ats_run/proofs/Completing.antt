@@ -24,9 +24,9 @@ use Rattle.ats_run.specs.Deriving.{derived, FailsToDerive}
 use Rattle.ats_run.specs.Ending.{status_of}
 use Rattle.document_generator.specs.Generated.{generated}
 use Rattle.ats_run.specs.Generating.{full_budget}
-use Rattle.ats_run.specs.Journals.{mark, IsCut, document_part, journal_part, IsUnreadable, FailsToVerify, FailsToResume}
+use Rattle.ats_run.specs.Journals.{mark, IsCutAt, document_part, journal_part, IsUnreadable, FailsToVerify, FailsToResume}
 use Rattle.ats_run.specs.Making.{tables_in, table_in, AreMakeable, FailsToMake, MakesNone}
-use Rattle.ats_run.specs.Orders.{Reads, OnInput, Holds}
+use Rattle.ats_run.specs.Orders.{Reads, OnInput, HoldsInput}
 use Rattle.ats_run.specs.Repairing.{FailsToRepair, IsRepairable}
 use Rattle.ats_run.specs.Report.{IsLineMade}
 use Rattle.ats_run.proofs.AcceptedInput.{same_doc, not_unchecked}
@@ -34,7 +34,7 @@ use Rattle.ats_run.proofs.Reading.{of_input}
 use Rattle.ats_run.proofs.Repairable.{not_unrepaired}
 use Rattle.ats_run.proofs.GoodJournals.{readable, verified, begins_readable, resumed}
 
-same_cut : (input : List ℕ) (j k : ℕ) → IsCut input j → IsCut input k → j ≡ k
+same_cut : (input : List ℕ) (j k : ℕ) → IsCutAt input j → IsCutAt input k → j ≡ k
 same_cut input j k p q = same_first (OccursAt input mark) j k p q
 
 -- what is said of some parts of an input is said of its own
@@ -45,7 +45,7 @@ said_of input P Q good h =
 
 -- the document of such an input is refused for nothing
 part_not_unchecked : (input : List ℕ) (P : Doc → List ℕ → Type 0) (good : IsJournalInput input P) (e : Failure)
-    → (k : ℕ) × IsCut input k × RefusesCheck (document_part input k) e → ⊥
+    → (k : ℕ) × IsCutAt input k × RefusesCheck (document_part input k) e → ⊥
 part_not_unchecked input P good e h =
     not_unchecked (document_part input good.0) good.2 e (subst (λ k. RefusesCheck (document_part input k) e) (same_cut input h.0 good.0 h.1 good.1) h.2)
 
@@ -124,7 +124,7 @@ not_refused (Weave s k) input good e h = not_unchecked input good.1 e h
 -- what a call knows of a good input
 pub record IsGoodCall (call : Call) (order : Order) (input : List ℕ) : Type 0 where
   pub asked : call.order ≡ Some order
-  pub held : Holds order call.held input
+  pub held : HoldsInput order call.held input
   pub good : IsGoodInput order input
   pub source : call.source_failed → ⊥
   pub sink : call.sink_failed → ⊥

@@ -3,7 +3,7 @@ use Rattle.std.proofs.Common.{◌≡◌, ℕ, zero, suc, ◌<◌, Bool, true, fa
 use Rattle.std.proofs.lemmas.Bool.{and_parts, cases_eq}
 use Rattle.memchr.specs.Find.{OccursAt, occurs_at}
 use Rattle.memchr.proofs.lemmas.MatchLemmas.{occurs_at-true, OccursAt-true}
-use Rattle.ats_run.specs.Journals.{mark, IsCut, HasNoCut, document_part, journal_part}
+use Rattle.ats_run.specs.Journals.{mark, IsCutAt, HasNoCut, document_part, journal_part}
 
 -- whether the mark is at none of the first places
 abbrev nowhere : List ℕ → ℕ → Bool
@@ -23,7 +23,7 @@ none_below input (suc n) none j before occurs =
       | inr other ↦ none_below input n parts.1 j (omega (arith, before, other)) occurs
     ]
 
-pub is_cut : (input : List ℕ) (k : ℕ) → occurs_at input mark k ≡ true → nowhere input k ≡ true → IsCut input k
+pub is_cut : (input : List ℕ) (k : ℕ) → occurs_at input mark k ≡ true → nowhere input k ≡ true → IsCutAt input k
 is_cut input k here none = (OccursAt-true input mark k here, none_below input k none)
 
 pub no_cut : (input : List ℕ) → nowhere input (length input) ≡ true → HasNoCut input
@@ -33,10 +33,10 @@ no_cut input none k occurs = none_below input (length input) none k (omega (arit
 abbrev two_marks : List ℕ
 two_marks = codes "{}\njournal\n1 table 1\njournal\nend\n"
 
-first_mark : IsCut two_marks 2
+first_mark : IsCutAt two_marks 2
 first_mark = is_cut two_marks 2 refl refl
 
-not_the_second : IsCut two_marks 20 → ⊥
+not_the_second : IsCutAt two_marks 20 → ⊥
 not_the_second cut = cut.1 2 (lit< tt) first_mark.0
 
 document_of_two : document_part two_marks 2 ≡ codes "{}"
@@ -46,7 +46,7 @@ journal_of_two : journal_part two_marks 2 ≡ codes "1 table 1\njournal\nend\n"
 journal_of_two = refl
 
 -- both parts may be empty
-bare_mark : IsCut (codes "\njournal\n") 0
+bare_mark : IsCutAt (codes "\njournal\n") 0
 bare_mark = is_cut (codes "\njournal\n") 0 refl refl
 
 without_newline : HasNoCut (codes "{}\njournal")

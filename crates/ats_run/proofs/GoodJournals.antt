@@ -9,8 +9,8 @@ use Rattle.move_journal.specs.declared.faults.BadText.TheVariants as text
 use Rattle.move_journal.specs.declared.faults.BadLine.{BadLine}
 use Rattle.move_journal.specs.declared.lines.Part.{Part}
 use Rattle.move_journal.specs.declared.lines.Part.TheVariants.{Whole, Open}
-use Rattle.move_journal.specs.Answers.{HasFault, IsPart, AnswersPrefix}
-use Rattle.move_journal.specs.Replays.{HasBadLine, IsNotWhole}
+use Rattle.move_journal.specs.Answers.{HasTextFault, IsPart, AnswersPrefix}
+use Rattle.move_journal.specs.Replays.{HasBadLine, IsBrokenJournal}
 use Rattle.move_journal.proofs.OneAnswer.{text_or_fault, one_journal, one_prefix}
 use Rattle.move_journal.proofs.OneBadLine.{right_or_bad}
 use Rattle.move_journal.proofs.OneLack.{whole_or_not}
@@ -24,7 +24,7 @@ readable D given good cause h = text_or_fault (names_of D) given good.0 cause h.
 pub verified : (D : Doc) (given : List ℕ) → IsWholeText D given → (cause : BadLine) → FailsToVerify D given cause → ⊥
 verified D given good cause h =
     let same = one_journal (names_of D) given h.journal good.0 h.formed.names h.text good.1 in
-    whole_or_not (offers_of D) (opening D.start) good.0 cause good.2 (subst (λ (J : Journal). IsNotWhole (offers_of D) (opening D.start) J cause) same h.fault)
+    whole_or_not (offers_of D) (opening D.start) good.0 cause good.2 (subst (λ (J : Journal). IsBrokenJournal (offers_of D) (opening D.start) J cause) same h.fault)
 
 -- the part that good bytes are
 part_of : (D : Doc) (given : List ℕ) → IsWholeText D given ⊎ IsRightFront D given → (part : Part) × IsPart (names_of D) given part
@@ -32,14 +32,14 @@ part_of D given (inl good) = (Whole good.0, good.1)
 part_of D given (inr good) = (Open good.0, good.1)
 
 -- a fault of the text that isn't a missing end is an answer of a reader of fronts
-is_answer : (N : Names) (given : List ℕ) (cause : BadText) → HasFault N given cause → cause ≢ text.NoEnd → AnswersPrefix N given (Err cause)
+is_answer : (N : Names) (given : List ℕ) (cause : BadText) → HasTextFault N given cause → cause ≢ text.NoEnd → AnswersPrefix N given (Err cause)
 is_answer N given (text.Line k) h other = h
 is_answer N given (text.Number k) h other = h
 is_answer N given text.After h other = h
 is_answer N given text.NoEnd h other = absurd (other refl)
 is_answer N given text.Memory h other = tt
 
-not_memory : (N : Names) (given : List ℕ) (cause : BadText) → HasFault N given cause → cause ≢ text.Memory
+not_memory : (N : Names) (given : List ℕ) (cause : BadText) → HasTextFault N given cause → cause ≢ text.Memory
 not_memory N given text.Memory h same = h.3
 not_memory N given (text.Line k) h same = cc
 not_memory N given (text.Number k) h same = cc
@@ -68,7 +68,7 @@ whole_not_resumed D given good cause h = elim (h.fault) [
   | inl refused ↦
       let same = one_part (names_of D) given (Whole h.journal) (Whole good.0) h.formed.names refused.0 good.1 in
       let is : h.journal ≡ good.0 = cc in
-      whole_or_not (offers_of D) (opening D.start) good.0 cause good.2 (subst (λ (J : Journal). IsNotWhole (offers_of D) (opening D.start) J cause) is refused.1)
+      whole_or_not (offers_of D) (opening D.start) good.0 cause good.2 (subst (λ (J : Journal). IsBrokenJournal (offers_of D) (opening D.start) J cause) is refused.1)
   | inr refused ↦
       let same = one_part (names_of D) given (Open h.journal) (Whole good.0) h.formed.names refused.0 good.1 in
       cc

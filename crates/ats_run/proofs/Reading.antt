@@ -3,7 +3,7 @@ use Rattle.std.proofs.Common.{◌≡◌, ℕ, List, [], Option, None, Some, sym,
 use Rattle.std.specs.Prelude.{IfSome}
 use Rattle.command_words.specs.declared.orders.Order.{Order}
 use Rattle.command_words.specs.declared.orders.Order.TheVariants.{Generate, Drill}
-use Rattle.ats_run.specs.Orders.{Reads, OnInput, Holds}
+use Rattle.ats_run.specs.Orders.{Reads, OnInput, HoldsInput}
 
 -- of an order that reads its input a fact of the bytes is asked
 pub on_input : (order : Order) (held : Option (List ℕ)) (P : List ℕ → Type 0) → Reads order → IfSome held P → OnInput order held P
@@ -26,7 +26,7 @@ pub of_bytes : (order : Order) (held : Option (List ℕ)) (bytes : List ℕ) (P 
 of_bytes order held bytes P same h = on_weaker order held (λ input. bytes ≡ input) P (λ input is. subst P is h) same
 
 -- what is asked of the input holds of it
-pub of_input : (order : Order) (held : Option (List ℕ)) (input : List ℕ) (P : List ℕ → Type 0) → Holds order held input → OnInput order held P → P input
+pub of_input : (order : Order) (held : Option (List ℕ)) (input : List ℕ) (P : List ℕ → Type 0) → HoldsInput order held input → OnInput order held P → P input
 of_input (Generate s n) held input P is h = subst P (sym is) h
 of_input (Drill s n w) held input P is h = subst P (sym is) h
 of_input order held input P is h = subst (λ (o : Option (List ℕ)). IfSome o P) is h

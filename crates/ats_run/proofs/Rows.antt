@@ -27,7 +27,7 @@ use Rattle.ats_run.specs.Ending.{code, status_of, failure_of_text, failure_of_li
 use Rattle.ats_run.specs.Generating.{drill_text}
 use Rattle.ats_run.specs.Journals.{verified_text}
 use Rattle.shared_run.specs.Crews.{crew_of}
-use Rattle.ats_run.specs.Orders.{order_of, Reads, OnInput, Holds, MakesCertificates, crew_in, IsAlone}
+use Rattle.ats_run.specs.Orders.{order_of, Reads, OnInput, HoldsInput, MakesCertificates, crew_in, IsAlone}
 use Rattle.ats_run.specs.Report.{words_of, line_of}
 use Rattle.ats_run.specs.Simulating.{timed_text, last_text}
 
@@ -48,20 +48,20 @@ refused_words = refl
 input_of_gen : OnInput (order.Generate 2 3) (Some (codes "{}")) (λ input. input ≡ [])
 input_of_gen = refl
 
-gen_holds_nothing : Holds (order.Generate 2 3) (Some (codes "{}")) []
+gen_holds_nothing : HoldsInput (order.Generate 2 3) (Some (codes "{}")) []
 gen_holds_nothing = refl
 
-gen_holds_no_bytes : Holds (order.Generate 2 3) (Some (codes "{}")) (codes "{}") → ⊥
+gen_holds_no_bytes : HoldsInput (order.Generate 2 3) (Some (codes "{}")) (codes "{}") → ⊥
 gen_holds_no_bytes held = cc
 
 -- the input of `run` is what the source held
 input_of_run : OnInput (order.Run 0 5 1) (Some (codes "{}")) (λ input. input ≡ codes "{}")
 input_of_run = refl
 
-run_holds_the_bytes : Holds (order.Run 0 5 1) (Some (codes "{}")) (codes "{}")
+run_holds_the_bytes : HoldsInput (order.Run 0 5 1) (Some (codes "{}")) (codes "{}")
 run_holds_the_bytes = refl
 
-run_holds_no_others : Holds (order.Run 0 5 1) (Some (codes "{}")) [] → ⊥
+run_holds_no_others : HoldsInput (order.Run 0 5 1) (Some (codes "{}")) [] → ⊥
 run_holds_no_others held = cc
 
 crews : (crew_in (order.Run 2 5 1) ≡ crew_of 2 5 1) × (crew_in (order.Resume 3 7 4) ≡ crew_of 3 7 4) × (crew_in (order.Drill 2 3 8) ≡ crew_of 8 1000 1)

@@ -17,7 +17,7 @@ use Rattle.layout_json.proofs.FormedDoc.{read-is-formed}
 use Rattle.shared_run.specs.Crews.{crew_of}
 use Rattle.ats_run.specs.Command.{Comes}
 use Rattle.ats_run.specs.Headline.{IsRun, IsRoundRobin, Ends, plain_after}
-use Rattle.ats_run.specs.Journals.{IsCut, document_part, journal_part}
+use Rattle.ats_run.specs.Journals.{IsCutAt, document_part, journal_part}
 use Rattle.ats_run.proofs.Runs.{goes_on_well}
 use Rattle.ats_run.proofs.Samples.{table, good, the_only, trees, accepted}
 
@@ -108,7 +108,7 @@ is_text : (given : List ℕ) → given ≡ run_text → IsTextOf (names_of good)
 unfolding digits
 is_text given same = record { has = record { lines = are_printable; moves = lit< tt; tables = lit< tt }; text = same }
 
-verified : (input : List ℕ) (k : ℕ) → IsCut input k → doc_of (document_part input k) ≡ Ok good → journal_part input k ≡ run_text
+verified : (input : List ℕ) (k : ℕ) → IsCutAt input k → doc_of (document_part input k) ≡ Ok good → journal_part input k ≡ run_text
     → Comes Verify input (Ok (codes "ok moves=1 tables=0\n"))
 unfolding digits
 verified input k cut read same =
@@ -122,7 +122,7 @@ is_front : (given : List ℕ) → given ≡ [] → IsFrontOf (names_of good) giv
 is_front given none = record { lines = record { few = lit< tt; each = All-nil (IsPrintable (names_of good)) }; text = none; counts = (refl, refl) }
 
 -- from no line on the whole journal is written
-resumed : (input : List ℕ) (k : ℕ) → IsCut input k → doc_of (document_part input k) ≡ Ok good → journal_part input k ≡ [] → Comes (Resume 0 5 1) input (Ok run_text)
+resumed : (input : List ℕ) (k : ℕ) → IsCutAt input k → doc_of (document_part input k) ≡ Ok good → journal_part input k ≡ [] → Comes (Resume 0 5 1) input (Ok run_text)
 unfolding digits
 resumed input k cut read none = (
   k,

@@ -11,7 +11,7 @@ use Rattle.ats_run.specs.declared.status.Status.TheVariants.{Done}
 use Rattle.ats_run.specs.Command.{IsDocWith}
 use Rattle.ats_run.specs.Complete.{IsAcceptedInput, IsGoodInput}
 use Rattle.ats_run.specs.Headline.{IsRun, IsRoundRobin}
-use Rattle.ats_run.specs.Orders.{order_of, OnInput, Holds, MakesCertificates}
+use Rattle.ats_run.specs.Orders.{order_of, OnInput, HoldsInput, MakesCertificates}
 
 -- what the words of a command line ask for, or None where they are refused
 abbrev pub asked : {A : Type 0} → List (String A) → Option Order
@@ -55,4 +55,4 @@ WroteDocument order held Taken = MakesCertificates order → OnInput order held 
 -- What follows where the input suits the order that the words ask for.
 abbrev pub OnGoodInput : Option Order → Option (List ℕ) → Type 0 → Type 0
 OnGoodInput wanted held Follows =
-    (order : Order) (input : List ℕ) → wanted ≡ Some order → Holds order held input → IsGoodInput order input → Follows
+    (order : Order) (input : List ℕ) → wanted ≡ Some order → HoldsInput order held input → IsGoodInput order input → Follows

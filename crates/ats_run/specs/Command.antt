@@ -16,7 +16,7 @@ use Rattle.ats_run.specs.declared.failure.Failure.{Failure}
 use Rattle.ats_run.specs.declared.failure.Failure.TheVariants.{Document, Tree, Certificate, NoJournal, Text, Line}
 use Rattle.ats_run.specs.Certificates.{IsBadTable}
 use Rattle.ats_run.specs.Checking.{IsChecked}
-use Rattle.ats_run.specs.Journals.{IsCut, HasNoCut, document_part, journal_part, IsVerified, IsUnreadable, FailsToVerify, IsResumed, FailsToResume}
+use Rattle.ats_run.specs.Journals.{IsCutAt, HasNoCut, document_part, journal_part, IsVerified, IsUnreadable, FailsToVerify, IsResumed, FailsToResume}
 use Rattle.ats_run.specs.Generating.{full_budget, IsDrilled, IsDrillLine}
 use Rattle.ats_run.specs.Headline.{IsRun, IsRunBy}
 use Rattle.ats_run.specs.Deriving.{IsDerived, FailsToDerive}
@@ -44,7 +44,7 @@ RefusesCheck input e = ⊥
 
 -- The input is a document, the line between, and further bytes, and the fact holds of both parts.
 abbrev pub IsPairWith : List ℕ → (Doc → List ℕ → Type 0) → Type 0
-IsPairWith input P = (k : ℕ) × IsCut input k × IsDocWith (document_part input k) (λ D. P D (journal_part input k))
+IsPairWith input P = (k : ℕ) × IsCutAt input k × IsDocWith (document_part input k) (λ D. P D (journal_part input k))
 
 -- Why an input of a document and a journal is refused: it has no line between the two; the document is; the text is, for a cause of the first
 -- kind; its lines are, for one of the second.
@@ -52,7 +52,7 @@ abbrev pub RefusesPair : (Doc → List ℕ → BadText → Type 0) → (Doc → 
 RefusesPair HasBadText HasBadLine input NoJournal = HasNoCut input
 RefusesPair HasBadText HasBadLine input (Text cause) = IsPairWith input (λ D given. HasBadText D given cause)
 RefusesPair HasBadText HasBadLine input (Line cause) = IsPairWith input (λ D given. HasBadLine D given cause)
-RefusesPair HasBadText HasBadLine input e = (k : ℕ) × IsCut input k × RefusesCheck (document_part input k) e
+RefusesPair HasBadText HasBadLine input e = (k : ℕ) × IsCutAt input k × RefusesCheck (document_part input k) e
 
 -- The input is a document and the text of a whole journal of it.
 abbrev pub IsVerifiedInput : List ℕ → List ℕ → Type 0

@@ -16,7 +16,7 @@ use Rattle.ats_run.specs.Causes.{most_bytes}
 use Rattle.ats_run.specs.Certificates.{AreAccepted}
 use Rattle.ats_run.specs.Command.{IsDocWith}
 use Rattle.ats_run.specs.Generating.{full_budget}
-use Rattle.ats_run.specs.Journals.{IsCut, document_part, journal_part}
+use Rattle.ats_run.specs.Journals.{IsCutAt, document_part, journal_part}
 use Rattle.ats_run.specs.Deriving.{derived, HaveFewRings}
 use Rattle.ats_run.specs.Making.{tables_in, table_in, AreMakeable}
 use Rattle.ats_run.specs.Repairing.{IsRepairable}
@@ -40,7 +40,7 @@ IsRightFront D given = (J : Journal) × IsFrontOf (names_of D) given J × IsRigh
 -- The bytes are an accepted document, the line between, and a journal of which the fact holds.
 abbrev pub IsJournalInput : List ℕ → (Doc → List ℕ → Type 0) → Type 0
 IsJournalInput input P =
-    (k : ℕ) × IsCut input k × IsAcceptedInput (document_part input k)
+    (k : ℕ) × IsCutAt input k × IsAcceptedInput (document_part input k)
     × IsDocWith (document_part input k) (λ D. P D (journal_part input k))
 
 -- Each table has few enough rings; with their sections the start is legal, and each gets a certificate within the budget.

@@ -10,8 +10,8 @@ use Rattle.rail_model.specs.Journal.{Journal, IsWhole, text, with_counts}
 use Rattle.move_journal.specs.declared.faults.BadText.{BadText}
 use Rattle.move_journal.specs.declared.faults.BadText.TheVariants.{NoEnd}
 use Rattle.move_journal.specs.declared.faults.BadLine.{BadLine}
-use Rattle.move_journal.specs.Answers.{IsTextOf, IsFrontOf, HasFault}
-use Rattle.move_journal.specs.Replays.{HasBadLine, IsNotWhole}
+use Rattle.move_journal.specs.Answers.{IsTextOf, IsFrontOf, HasTextFault}
+use Rattle.move_journal.specs.Replays.{HasBadLine, IsBrokenJournal}
 use Rattle.shared_run.specs.declared.crews.Crew.{Crew}
 use Rattle.layout_json.specs.Doc.{Doc, IsDoc, offers_of, names_of}
 use Rattle.ats_run.specs.declared.failure.Failure.{Failure}
@@ -24,8 +24,8 @@ abbrev pub mark : List ℕ
 mark = codes "\njournal\n"
 
 -- The first place of the mark.
-abbrev pub IsCut : List ℕ → ℕ → Type 0
-IsCut input k = IsFirst (OccursAt input mark) k
+abbrev pub IsCutAt : List ℕ → ℕ → Type 0
+IsCutAt input k = IsFirst (OccursAt input mark) k
 
 abbrev pub HasNoCut : List ℕ → Type 0
 HasNoCut input = (k : ℕ) → OccursAt input mark k → ⊥
@@ -52,17 +52,17 @@ pub record IsVerified (D : Doc) (given written : List ℕ) : Type 0 where
 
 -- Why bytes are no journal's text, as a failure of the program.
 abbrev pub IsTextFault : Names → List ℕ → Failure → Type 0
-IsTextFault N given (Text cause) = HasFault N given cause
+IsTextFault N given (Text cause) = HasTextFault N given cause
 IsTextFault N given e = ⊥
 
 -- Why bytes are no front of a text either: an end line isn't asked for.
 abbrev pub IsPartFault : Names → List ℕ → Failure → Type 0
-IsPartFault N given (Text cause) = HasFault N given cause × (cause ≢ NoEnd)
+IsPartFault N given (Text cause) = HasTextFault N given cause × (cause ≢ NoEnd)
 IsPartFault N given e = ⊥
 
 -- What a journal lacks, as a failure of the program.
 abbrev pub IsLineFault : List Offer → Yard → Journal → Failure → Type 0
-IsLineFault tables y J (Line cause) = IsNotWhole tables y J cause
+IsLineFault tables y J (Line cause) = IsBrokenJournal tables y J cause
 IsLineFault tables y J e = ⊥
 
 -- The first line of a front that isn't right, as a failure of the program.
@@ -75,7 +75,7 @@ pub record IsUnreadable (D : Doc) (given : List ℕ) (cause : BadText) : Type 0 
   pub formed : IsDoc D
   pub trees : List Tree
   pub accepted : AreAccepted D trees
-  pub fault : HasFault (names_of D) given cause
+  pub fault : HasTextFault (names_of D) given cause
 
 -- The bytes are the text of a journal that isn't whole, for the first cause.
 pub record FailsToVerify (D : Doc) (given : List ℕ) (cause : BadLine) : Type 0 where
@@ -84,7 +84,7 @@ pub record FailsToVerify (D : Doc) (given : List ℕ) (cause : BadLine) : Type 0
   pub trees : List Tree
   pub accepted : AreAccepted D trees
   pub text : IsTextOf (names_of D) given journal
-  pub fault : IsNotWhole (offers_of D) (opening D.start) journal cause
+  pub fault : IsBrokenJournal (offers_of D) (opening D.start) journal cause
 
 -- The bytes are the text of a front and of lines that go on from its state, by a crew.
 pub record GoesOnFrom (D : Doc) (crew : Crew) (front : Journal) (written : List ℕ) : Type 0 where
@@ -111,5 +111,5 @@ pub record FailsToResume (D : Doc) (given : List ℕ) (cause : BadLine) : Type 0
   pub journal : Journal
   pub trees : List Tree
   pub accepted : AreAccepted D trees
-  pub fault : (IsTextOf (names_of D) given journal × IsNotWhole (offers_of D) (opening D.start) journal cause)
+  pub fault : (IsTextOf (names_of D) given journal × IsBrokenJournal (offers_of D) (opening D.start) journal cause)
       ⊎ (IsFrontOf (names_of D) given journal × HasBadLine (offers_of D) (opening D.start) journal.lines cause)

@@ -24,10 +24,10 @@ OnInput (Drill seed trains workers) held P = P []
 OnInput order held P = IfSome held P
 
 -- The input is what the source held, or the empty one where nothing is read.
-abbrev pub Holds : Order → Option (List ℕ) → List ℕ → Type 0
-Holds (Generate seed trains) held input = input ≡ []
-Holds (Drill seed trains workers) held input = input ≡ []
-Holds order held input = held ≡ Some input
+abbrev pub HoldsInput : Order → Option (List ℕ) → List ℕ → Type 0
+HoldsInput (Generate seed trains) held input = input ≡ []
+HoldsInput (Drill seed trains workers) held input = input ≡ []
+HoldsInput order held input = held ≡ Some input
 
 -- The order makes certificates, and writes a document with them.
 abbrev pub MakesCertificates : Order → Type 0

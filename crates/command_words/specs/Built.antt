@@ -10,8 +10,8 @@ abbrev pub IsLocal : Command → Type 0
 IsLocal command = (out-Command command).has_globals ≡ false
 
 -- What a parse reads of the command is `app`.
-abbrev pub Is : App → Command → Type 0
-Is app command = (app_of command ≡ app) × IsLocal command
+abbrev pub IsBuiltAs : App → Command → Type 0
+IsBuiltAs app command = (app_of command ≡ app) × IsLocal command
 
 -- the texts of a slice of them
 abbrev pub texts : List (Bor (List ℕ)) → List Text

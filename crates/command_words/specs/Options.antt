@@ -52,8 +52,8 @@ abbrev pub trains : NumberOption
 trains = option (codes "trains") 0 32 2
 
 -- The option takes this number.
-abbrev pub Takes : NumberOption → ℕ → Type 0
-Takes o n = (o.least ≤ n) × (n ≤ o.greatest)
+abbrev pub TakesNumber : NumberOption → ℕ → Type 0
+TakesNumber o n = (o.least ≤ n) × (n ≤ o.greatest)
 
 -- the number that a text is, if it is in range
 abbrev pub number_between : ℕ → ℕ → Text → Option ℕ

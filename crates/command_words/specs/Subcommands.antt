@@ -1,7 +1,7 @@
 -- The subcommands: the options of each, and what it asks for.
 use Rattle.std.specs.Prelude.{List, [], ◌∷◌, codes, Option, Some, option_and_then}
 use Rattle.clap.specs.Words.{Row, Text}
-use Rattle.command_words.specs.Options.{NumberOption, Takes, number, workers, rounds, block, budget, most, repair_rounds, seed, steps, trains}
+use Rattle.command_words.specs.Options.{NumberOption, TakesNumber, number, workers, rounds, block, budget, most, repair_rounds, seed, steps, trains}
 use Rattle.command_words.specs.declared.orders.Order.{Order}
 use Rattle.command_words.specs.declared.orders.Order.TheVariants as order
 
@@ -124,12 +124,12 @@ weave = record {
 
 -- Each number of the order is one that its option takes.
 abbrev pub HasItsNumbers : Order → Type 0
-HasItsNumbers (order.Run w r b) = Takes workers w × Takes rounds r × Takes block b
-HasItsNumbers (order.Resume w r b) = Takes workers w × Takes rounds r × Takes block b
-HasItsNumbers (order.Make b) = Takes budget b
-HasItsNumbers (order.Derive m b) = Takes most m × Takes budget b
-HasItsNumbers (order.Repair b r) = Takes budget b × Takes repair_rounds r
-HasItsNumbers (order.Generate s n) = Takes seed s × Takes trains n
-HasItsNumbers (order.Drill s n w) = Takes seed s × Takes trains n × Takes workers w
-HasItsNumbers (order.Weave s k) = Takes seed s × Takes steps k
+HasItsNumbers (order.Run w r b) = TakesNumber workers w × TakesNumber rounds r × TakesNumber block b
+HasItsNumbers (order.Resume w r b) = TakesNumber workers w × TakesNumber rounds r × TakesNumber block b
+HasItsNumbers (order.Make b) = TakesNumber budget b
+HasItsNumbers (order.Derive m b) = TakesNumber most m × TakesNumber budget b
+HasItsNumbers (order.Repair b r) = TakesNumber budget b × TakesNumber repair_rounds r
+HasItsNumbers (order.Generate s n) = TakesNumber seed s × TakesNumber trains n
+HasItsNumbers (order.Drill s n w) = TakesNumber seed s × TakesNumber trains n × TakesNumber workers w
+HasItsNumbers (order.Weave s k) = TakesNumber seed s × TakesNumber steps k
 HasItsNumbers _ = Unit {0}

@@ -30,63 +30,63 @@ const DEFAULT_TRAINS: u32 = 2;
 
 pub(crate) fn workers(matches: &ArgMatches<'_>) -> Option<u32>
     ensures exact { result ≡ spec.number spec.workers (rows_of (found_of matches.now)) }
-    ensures within { IfSome result (spec.Takes spec.workers) }
+    ensures within { IfSome result (spec.TakesNumber spec.workers) }
 {
     number(matches, "workers", 0, MOST_WORKERS, 0)
 }
 
 pub(crate) fn rounds(matches: &ArgMatches<'_>) -> Option<u32>
     ensures exact { result ≡ spec.number spec.rounds (rows_of (found_of matches.now)) }
-    ensures within { IfSome result (spec.Takes spec.rounds) }
+    ensures within { IfSome result (spec.TakesNumber spec.rounds) }
 {
     number(matches, "rounds", 0, MOST_ROUNDS, DEFAULT_ROUNDS)
 }
 
 pub(crate) fn block(matches: &ArgMatches<'_>) -> Option<u32>
     ensures exact { result ≡ spec.number spec.block (rows_of (found_of matches.now)) }
-    ensures within { IfSome result (spec.Takes spec.block) }
+    ensures within { IfSome result (spec.TakesNumber spec.block) }
 {
     number(matches, "block", 1, MOST_BLOCK, 1)
 }
 
 pub(crate) fn steps(matches: &ArgMatches<'_>) -> Option<u32>
     ensures exact { result ≡ spec.number spec.steps (rows_of (found_of matches.now)) }
-    ensures within { IfSome result (spec.Takes spec.steps) }
+    ensures within { IfSome result (spec.TakesNumber spec.steps) }
 {
     number(matches, "steps", 0, MOST_STEPS, 0)
 }
 
 pub(crate) fn budget(matches: &ArgMatches<'_>) -> Option<u32>
     ensures exact { result ≡ spec.number spec.budget (rows_of (found_of matches.now)) }
-    ensures within { IfSome result (spec.Takes spec.budget) }
+    ensures within { IfSome result (spec.TakesNumber spec.budget) }
 {
     number(matches, "budget", 1, MOST_NODES, MOST_NODES)
 }
 
 pub(crate) fn most(matches: &ArgMatches<'_>) -> Option<u32>
     ensures exact { result ≡ spec.number spec.most (rows_of (found_of matches.now)) }
-    ensures within { IfSome result (spec.Takes spec.most) }
+    ensures within { IfSome result (spec.TakesNumber spec.most) }
 {
     number(matches, "most", LEAST_RING, GREATEST_RING, LEAST_RING)
 }
 
 pub(crate) fn repair_rounds(matches: &ArgMatches<'_>) -> Option<u32>
     ensures exact { result ≡ spec.number spec.repair_rounds (rows_of (found_of matches.now)) }
-    ensures within { IfSome result (spec.Takes spec.repair_rounds) }
+    ensures within { IfSome result (spec.TakesNumber spec.repair_rounds) }
 {
     number(matches, "rounds", 0, MOST_REPAIR_ROUNDS, DEFAULT_ROUNDS)
 }
 
 pub(crate) fn seed(matches: &ArgMatches<'_>) -> Option<u32>
     ensures exact { result ≡ spec.number spec.seed (rows_of (found_of matches.now)) }
-    ensures within { IfSome result (spec.Takes spec.seed) }
+    ensures within { IfSome result (spec.TakesNumber spec.seed) }
 {
     number(matches, "seed", 0, u32::MAX, 0)
 }
 
 pub(crate) fn trains(matches: &ArgMatches<'_>) -> Option<u32>
     ensures exact { result ≡ spec.number spec.trains (rows_of (found_of matches.now)) }
-    ensures within { IfSome result (spec.Takes spec.trains) }
+    ensures within { IfSome result (spec.TakesNumber spec.trains) }
 {
     number(matches, "trains", 0, MOST_TRAINS, DEFAULT_TRAINS)
 }

@@ -2,14 +2,14 @@
 ghost use Rattle.std.specs.Prelude.{◌≡◌, false, IfOk};
 ghost use Rattle.clap.specs.Words.{app_of, rule_of, with_subcommand};
 ghost use Rattle.command_words.specs.Words as spec;
-ghost use Rattle.command_words.specs.Built.{Is, IsLocal, texts};
+ghost use Rattle.command_words.specs.Built.{IsBuiltAs, IsLocal, texts};
 
 use clap::{Arg, Command};
 use std::alloc::{AllocError, Global};
 
 /// The whole command.
 pub(crate) fn command<'a>(alloc: Global) -> Result<Command<'a>, AllocError>
-    ensures { IfOk result (Is spec.ats) }
+    ensures { IfOk result (IsBuiltAs spec.ats) }
 {
     let command = with_runs(alloc, start(alloc))?;
     let command = with_makers(alloc, command)?;
@@ -18,7 +18,7 @@ pub(crate) fn command<'a>(alloc: Global) -> Result<Command<'a>, AllocError>
 
 // The command before any subcommand.
 fn start<'a>(alloc: Global) -> Command<'a>
-    ensures { Is spec.start result }
+    ensures { IsBuiltAs spec.start result }
 {
     Command::new(alloc, "ats")
         .no_binary_name(true)
@@ -29,7 +29,7 @@ fn start<'a>(alloc: Global) -> Command<'a>
 
 fn with_runs<'a>(alloc: Global, command: Command<'a>) -> Result<Command<'a>, AllocError>
     requires { IsLocal command }
-    ensures { IfOk result (Is (spec.with_all spec.runs (app_of command.entry))) }
+    ensures { IfOk result (IsBuiltAs (spec.with_all spec.runs (app_of command.entry))) }
 {
     let options: &[&str] = &["workers", "rounds", "block"];
     let command = with_subcommand(alloc, command, "run", options)?;
@@ -40,7 +40,7 @@ fn with_runs<'a>(alloc: Global, command: Command<'a>) -> Result<Command<'a>, All
 
 fn with_makers<'a>(alloc: Global, command: Command<'a>) -> Result<Command<'a>, AllocError>
     requires { IsLocal command }
-    ensures { IfOk result (Is (spec.with_all spec.makers (app_of command.entry))) }
+    ensures { IfOk result (IsBuiltAs (spec.with_all spec.makers (app_of command.entry))) }
 {
     let command = with_subcommand(alloc, command, "migrate", &[])?;
     let command = with_subcommand(alloc, command, "make", &["budget"])?;
@@ -50,7 +50,7 @@ fn with_makers<'a>(alloc: Global, command: Command<'a>) -> Result<Command<'a>, A
 
 fn with_trials<'a>(alloc: Global, command: Command<'a>) -> Result<Command<'a>, AllocError>
     requires { IsLocal command }
-    ensures { IfOk result (Is (spec.with_all spec.trials (app_of command.entry))) }
+    ensures { IfOk result (IsBuiltAs (spec.with_all spec.trials (app_of command.entry))) }
 {
     let command = with_subcommand(alloc, command, "sim", &[])?;
     let command = with_subcommand(alloc, command, "gen", &["seed", "trains"])?;
@@ -66,14 +66,14 @@ fn with_subcommand<'a>(
     options: &[&'a str],
 ) -> Result<Command<'a>, AllocError>
     requires { IsLocal command }
-    ensures { IfOk result (Is (with_subcommand (app_of command.entry) (spec.leaf name.entry.now (texts options.now)).top)) }
+    ensures { IfOk result (IsBuiltAs (with_subcommand (app_of command.entry) (spec.leaf name.entry.now (texts options.now)).top)) }
 {
     command.subcommand(leaf(alloc, name, options)?)
 }
 
 // A subcommand with these options.
 fn leaf<'a>(alloc: Global, name: &'a str, options: &[&'a str]) -> Result<Command<'a>, AllocError>
-    ensures { IfOk result (Is (spec.leaf name.entry.now (texts options.now))) }
+    ensures { IfOk result (IsBuiltAs (spec.leaf name.entry.now (texts options.now))) }
 {
     let mut command = Command::new(alloc, name);
     for &option in options {

@@ -6,7 +6,7 @@ use native.Mathlib.Decide.{ℕ_discrete}
 use Rattle.zone_yard.specs.Setup.{SharedYard}
 use Rattle.zone_yard.specs.Passes.{Pass}
 use Rattle.dispatch_workers.specs.declared.rounds.Round.{Round}
-use Rattle.dispatch_workers.specs.Rounds.{AllOurs, Asked, GoesRound, IsEnd}
+use Rattle.dispatch_workers.specs.Rounds.{AllOurs, DriverAsked, GoesRound, HasNoMore}
 
 -- a fact at each place of two lists that are as long
 pub zipped : {A : Type 0} (R : A → A → Type 0) (xs ys : List A) → length ys ≡ length xs
@@ -29,14 +29,14 @@ ours_set yard ds i e lt ours mine k d inside = dite (ℕ_discrete k i)
     (λ (ne : k ≢ i). ap (λ (x : Pass). x.yard) (get_or-set_other ds i k e d ne) ∙ ours k d (let x = length-set ds i e in omega arith))
 
 pub asked_more : (steps : ℕ) (before ds : List Pass) (all all' : Bool) (i : ℕ) (e : Pass) (round : Round) → i < length ds
-    → ((k : ℕ) (d : Pass) → k < i → Asked steps all (get_or before k d) (get_or ds k d))
+    → ((k : ℕ) (d : Pass) → k < i → DriverAsked steps all (get_or before k d) (get_or ds k d))
     → ((k : ℕ) (d : Pass) → i ≤ k → get_or ds k d ≡ get_or before k d)
-    → ((d : Pass) → GoesRound steps round (get_or ds i d) e) → (all' ≡ true → (all ≡ true) × IsEnd round)
-    → (k : ℕ) (d : Pass) → k < i + 1 → Asked steps all' (get_or before k d) (get_or (set ds i e) k d)
+    → ((d : Pass) → GoesRound steps round (get_or ds i d) e) → (all' ≡ true → (all ≡ true) × HasNoMore round)
+    → (k : ℕ) (d : Pass) → k < i + 1 → DriverAsked steps all' (get_or before k d) (get_or (set ds i e) k d)
 asked_more steps before ds all all' i e round lt asked rest now full k d below = dite (ℕ_discrete k i)
-    (λ (same : k ≡ i). subst (λ j. Asked steps all' (get_or before j d) (get_or (set ds i e) j d)) (sym same)
-    (subst (λ (x : Pass × Pass). Asked steps all' x.0 x.1) (λ j. (rest i d (let z : i ≤ i = omega arith in z) j, sym (get_or-set_same ds i e d lt) j)) (round, now d, λ t. (full t).1)))
-    (λ (ne : k ≢ i). let old = asked k d (omega arith) in subst (λ (x : Pass). Asked steps all' (get_or before k d) x) (sym (get_or-set_other ds i k e d ne)) (old.0, old.1, λ t. old.2 (full t).0))
+    (λ (same : k ≡ i). subst (λ j. DriverAsked steps all' (get_or before j d) (get_or (set ds i e) j d)) (sym same)
+    (subst (λ (x : Pass × Pass). DriverAsked steps all' x.0 x.1) (λ j. (rest i d (let z : i ≤ i = omega arith in z) j, sym (get_or-set_same ds i e d lt) j)) (round, now d, λ t. (full t).1)))
+    (λ (ne : k ≢ i). let old = asked k d (omega arith) in subst (λ (x : Pass). DriverAsked steps all' (get_or before k d) x) (sym (get_or-set_other ds i k e d ne)) (old.0, old.1, λ t. old.2 (full t).0))
 
 pub rest_same : (before ds : List Pass) (i : ℕ) (e : Pass) → ((k : ℕ) (d : Pass) → i ≤ k → get_or ds k d ≡ get_or before k d)
     → (k : ℕ) (d : Pass) → i + 1 ≤ k → get_or (set ds i e) k d ≡ get_or before k d

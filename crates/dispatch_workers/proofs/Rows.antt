@@ -9,7 +9,7 @@ use Rattle.zone_yard.proofs.Samples.{boarded, four_zones}
 use Rattle.zone_yard.proofs.Rows.{granted_after}
 use Rattle.dispatch_workers.specs.declared.rounds.Round.TheVariants.{One, Block}
 use Rattle.dispatch_workers.specs.declared.groups.Group.TheVariants.{Control}
-use Rattle.dispatch_workers.specs.Rounds.{IsWhole, GoesRound, IsEnd, EndsEarly, DriverWorked, Worked, IsLastTurn, Tries, EndsTrying, Turned}
+use Rattle.dispatch_workers.specs.Rounds.{IsWhole, GoesRound, HasNoMore, EndsEarly, DriverWorked, Worked, IsLastTurn, MakesTurns, EndsTrying, Turned}
 use Rattle.dispatch_workers.specs.Groups.{IsOurGroup, GroupWorked}
 
 -- a driver that may make one entry, and has made it
@@ -23,7 +23,7 @@ spent = (refl, (refl, (refl, (refl, refl))), tt)
 not_of_blocks : (new : Pass) → GoesRound 1 (Block block.Spent) made new → ⊥
 not_of_blocks new round = let lt = round.0 in omega (arith, lt)
 
-ends : IsEnd (One (one.Arrived 3)) × IsEnd (One one.Spent) × IsEnd (Block (block.Arrived 3)) × (IsEnd (One (one.Granted 3)) → ⊥)
+ends : HasNoMore (One (one.Arrived 3)) × HasNoMore (One one.Spent) × HasNoMore (Block (block.Arrived 3)) × (HasNoMore (One (one.Granted 3)) → ⊥)
 ends = (tt, tt, tt, λ end. end)
 
 -- after a block that can't be granted whole there is one request more, so the block is no answer
@@ -52,7 +52,7 @@ not_left_out none = none.each
 abbrev control : Pass
 control = boarded (four_zones 9) 32
 
-tried : Tries (turn.NoMore ∷ []) control control
+tried : MakesTurns (turn.NoMore ∷ []) control control
 tried = (control, refl, (lit< tt, (λ more. omega (arith, more)), (refl, (refl, refl))))
 
 turned : Turned 5 control control

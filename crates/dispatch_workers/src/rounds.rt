@@ -2,7 +2,7 @@
 ghost use Rattle.std.specs.Prelude.{◌≡◌, ◌≤◌, ◌<◌, ℕ, IsTrue, length, slice_index_or, true};
 ghost use Rattle.zone_yard.specs.Passes.{Pass};
 ghost use Rattle.zone_yard.specs.Entering.{IsSamePass};
-ghost use Rattle.dispatch_workers.specs.Rounds.{GoesRound, IsEnd, IsLastTurn, AllOurs, Asked, Worked, Turned};
+ghost use Rattle.dispatch_workers.specs.Rounds.{GoesRound, HasNoMore, IsLastTurn, AllOurs, DriverAsked, Worked, Turned};
 
 use ats_io::Gate;
 use rail_model::Ask;
@@ -26,7 +26,7 @@ pub enum Round {
 
 // Whether a driver has no more to ask for: it has arrived, or its entries are spent.
 fn is_end(round: Round) -> bool
-    ensures { result ≡ true → IsEnd round }
+    ensures { result ≡ true → HasNoMore round }
 {
     matches!(
         round,
@@ -87,7 +87,7 @@ fn go_all<R: Wait, G: Gate>(
     requires ours { AllOurs yard.now drivers.old }
     requires block { (1 ≤ block) × (block ≤ 4) }
     ensures ours { AllOurs yard.now drivers.new }
-    ensures asked { (k : ℕ) (d : Pass) → k < length drivers.old → Asked block result (slice_index_or drivers.old k d) (slice_index_or drivers.new k d) }
+    ensures asked { (k : ℕ) (d : Pass) → k < length drivers.old → DriverAsked block result (slice_index_or drivers.old k d) (slice_index_or drivers.new k d) }
 {
     let mut all = true;
     let mut waits = true;

@@ -4,7 +4,7 @@ use Rattle.std.proofs.lemmas.Bool.Decides.{nat_tests}
 use Rattle.std.specs.Prelude.{IfOk, IfErr, ok_or, MatchOption, IsSomeAnd, nat_le}
 use Rattle.serde_json.specs.Data.{Data}
 use Rattle.serde_json.specs.Find.{get}
-use Rattle.rail_model.specs.Turns.{Answers}
+use Rattle.rail_model.specs.Turns.{AnswersAs}
 use Rattle.document_shapes.specs.Shape.{Shape}
 use Rattle.document_shapes.specs.Readings.{ReadsAt, MisfitsAt, ReadsGiven, MisfitsGiven}
 use Rattle.document_shapes.specs.Members.{name_of, need, may, since, shaped}
@@ -22,7 +22,7 @@ module _ {X A : Type 0} {R : Data → X → Type 0} {M : Data → Type 0} {shape
   pub need-answers : (table : Option ℕ) (m : Member) (d : Data) (r : Result X ShapeRefused)
       → IfOk r (λ x. ReadsAt R (name_of m) d x)
       → IfErr r (λ e. (e ≡ refused.Memory) ⊎ ((e ≡ refused.Shape table m) × MisfitsAt M (name_of m) d))
-      → Answers refused.Memory see r (need table m shape d)
+      → AnswersAs refused.Memory see r (need table m shape d)
   need-answers table m d (Ok x) h k = ap (λ o. ok_or o (refused.Shape table m)) ((agrees-at agrees (name_of m)).reads d x h)
   need-answers table m d (Err e) h k = elim k [
     | inl memory ↦ inl memory
@@ -43,7 +43,7 @@ module _ {X A : Type 0} {R : Data → X → Type 0} {M : Data → Type 0} {shape
   pub may-answers : (t : ℕ) (m : Member) (d : Data) (r : Result (Option X) ShapeRefused)
       → IfOk r (λ o. ReadsGiven R (name_of m) d o)
       → IfErr r (λ e. (e ≡ refused.Memory) ⊎ ((e ≡ refused.Shape (Some t) m) × MisfitsGiven M (name_of m) d))
-      → Answers refused.Memory (option_map see) r (may t m shape d)
+      → AnswersAs refused.Memory (option_map see) r (may t m shape d)
   may-answers t m d (Ok x) h k = given (refused.Shape (Some t) m) x (get (name_of m) d) h
   may-answers t m d (Err e) h k = elim k [
     | inl memory ↦ inl memory

@@ -2,7 +2,7 @@
 ghost use Rattle.std.specs.Prelude.{◌≡◌, ◌⊎◌, IfOk, IfErr, MatchResult, map, string_bytes, Some, None, Ok, Err};
 ghost use Rattle.std.specs.List.{list_all};
 ghost use Rattle.serde_json.specs.View.{view};
-ghost use Rattle.rail_model.specs.Turns.{Answers, in_turn};
+ghost use Rattle.rail_model.specs.Turns.{AnswersAs, in_turn};
 ghost use Rattle.document_shapes.specs.Reading.{reading};
 ghost use Rattle.document_shapes.specs.Shape.{list_of, pair, text};
 ghost use Rattle.document_shapes.specs.Shape as shape;
@@ -71,27 +71,27 @@ fn version(value: &Value) -> Result<u32, ShapeRefused>
 }
 
 fn points(alloc: Global, value: &Value) -> Result<Vec<(String, u32)>, ShapeRefused>
-    ensures { Answers ShapeRefused.Memory (λ v. map (λ p. (string_bytes p.0, p.1)) v.items) result
+    ensures { AnswersAs ShapeRefused.Memory (λ v. map (λ p. (string_bytes p.0, p.1)) v.items) result
         (need None Member.Points (list_of (pair text shape.whole)) (view value.now)) }
 {
     needed(alloc, value, None, Member::Points)
 }
 
 fn links(alloc: Global, value: &Value) -> Result<Vec<(String, String)>, ShapeRefused>
-    ensures { Answers ShapeRefused.Memory (λ v. map (λ l. (string_bytes l.0, string_bytes l.1)) v.items) result
+    ensures { AnswersAs ShapeRefused.Memory (λ v. map (λ l. (string_bytes l.0, string_bytes l.1)) v.items) result
         (need None Member.Links (list_of (pair text text)) (view value.now)) }
 {
     needed(alloc, value, None, Member::Links)
 }
 
 fn trains(alloc: Global, value: &Value) -> Result<Vec<String>, ShapeRefused>
-    ensures { Answers ShapeRefused.Memory names_seen result (need None Member.Trains (list_of text) (view value.now)) }
+    ensures { AnswersAs ShapeRefused.Memory names_seen result (need None Member.Trains (list_of text) (view value.now)) }
 {
     needed(alloc, value, None, Member::Trains)
 }
 
 fn start(alloc: Global, value: &Value) -> Result<Vec<u32>, ShapeRefused>
-    ensures { Answers ShapeRefused.Memory (λ v. v.items) result
+    ensures { AnswersAs ShapeRefused.Memory (λ v. v.items) result
         (need None Member.Start (list_of shape.whole) (view value.now)) }
 {
     needed(alloc, value, None, Member::Start)
@@ -124,7 +124,7 @@ fn table_objects(value: &Value) -> Result<&[Value], ShapeRefused>
 
 // The members of a document, in their order.
 fn read_members(alloc: Global, value: &Value) -> Result<DocMembers, ShapeRefused>
-    ensures { Answers ShapeRefused.Memory seen_document result (doc_members (view value.now)) }
+    ensures { AnswersAs ShapeRefused.Memory seen_document result (doc_members (view value.now)) }
 {
     if !value.is_object() {
         return Err(ShapeRefused::Shape {
@@ -158,7 +158,7 @@ fn read_members(alloc: Global, value: &Value) -> Result<DocMembers, ShapeRefused
 /// known; a member is missing or has another shape, in the order of [`DocMembers`] and, table by table, of
 /// [`TableMembers`].
 pub fn read_document(alloc: Global, bytes: &[u8]) -> Result<DocMembers, ShapeRefused>
-    ensures { Answers ShapeRefused.Memory seen_document result (members_of bytes.now) }
+    ensures { AnswersAs ShapeRefused.Memory seen_document result (members_of bytes.now) }
 {
     if let Some(members) = read_tokens(alloc, bytes) {
         return Ok(members);

@@ -1,7 +1,7 @@
 // The members of a table.
 ghost use Rattle.std.specs.Prelude.{◌≡◌, map, string_bytes, option_map, Some};
 ghost use Rattle.serde_json.specs.View.{view};
-ghost use Rattle.rail_model.specs.Turns.{Answers};
+ghost use Rattle.rail_model.specs.Turns.{AnswersAs};
 ghost use Rattle.document_shapes.specs.Shape.{list_of, text, truth};
 ghost use Rattle.document_shapes.specs.Shape as shape;
 ghost use Rattle.document_shapes.specs.Parts as part;
@@ -31,7 +31,7 @@ pub struct TableMembers {
 }
 
 fn missions(alloc: Global, value: &Value, table: usize) -> Result<Vec<Vec<String>>, ShapeRefused>
-    ensures { Answers ShapeRefused.Memory (λ v. map names_seen v.items) result
+    ensures { AnswersAs ShapeRefused.Memory (λ v. map names_seen v.items) result
         (need (Some table) Member.Missions (list_of (list_of text)) (view value.now)) }
 {
     needed(alloc, value, Some(table), Member::Missions)
@@ -43,7 +43,7 @@ fn exits(
     table: usize,
     version: u32,
 ) -> Result<Option<Vec<bool>>, ShapeRefused>
-    ensures { Answers ShapeRefused.Memory (option_map (λ v. v.items)) result
+    ensures { AnswersAs ShapeRefused.Memory (option_map (λ v. v.items)) result
         (since 2 version (may table Member.Exits (list_of truth) (view value.now))) }
 {
     if version < 2 {
@@ -57,7 +57,7 @@ fn sections(
     value: &Value,
     table: usize,
 ) -> Result<Option<Vec<SectionMembers>>, ShapeRefused>
-    ensures { Answers ShapeRefused.Memory (option_map (λ v. map seen_section v.items)) result
+    ensures { AnswersAs ShapeRefused.Memory (option_map (λ v. map seen_section v.items)) result
         (may table Member.Sections (list_of part.section) (view value.now)) }
 {
     given(alloc, value, table, Member::Sections)
@@ -69,7 +69,7 @@ fn connections(
     table: usize,
     version: u32,
 ) -> Result<Option<Vec<Connection>>, ShapeRefused>
-    ensures { Answers ShapeRefused.Memory (option_map (λ v. v.items)) result
+    ensures { AnswersAs ShapeRefused.Memory (option_map (λ v. v.items)) result
         (since 3 version (may table Member.Connections (list_of part.connection) (view value.now))) }
 {
     if version < 3 {
@@ -83,7 +83,7 @@ fn certificate(
     value: &Value,
     table: usize,
 ) -> Result<Option<Vec<Node>>, ShapeRefused>
-    ensures { Answers ShapeRefused.Memory (option_map (λ v. v.items)) result
+    ensures { AnswersAs ShapeRefused.Memory (option_map (λ v. v.items)) result
         (may table Member.Certificate (list_of part.node) (view value.now)) }
 {
     given(alloc, value, table, Member::Certificate)
@@ -94,14 +94,14 @@ fn times(
     value: &Value,
     table: usize,
 ) -> Result<Option<Vec<TrainTimes>>, ShapeRefused>
-    ensures { Answers ShapeRefused.Memory (option_map (λ v. v.items)) result
+    ensures { AnswersAs ShapeRefused.Memory (option_map (λ v. v.items)) result
         (may table Member.Times (list_of (list_of shape.whole)) (view value.now)) }
 {
     given(alloc, value, table, Member::Times)
 }
 
 fn after(alloc: Global, value: &Value, table: usize) -> Result<Option<u32>, ShapeRefused>
-    ensures { Answers ShapeRefused.Memory (λ n. n) result (may table Member.After shape.whole (view value.now)) }
+    ensures { AnswersAs ShapeRefused.Memory (λ n. n) result (may table Member.After shape.whole (view value.now)) }
 {
     given(alloc, value, table, Member::After)
 }
@@ -113,7 +113,7 @@ fn read_table(
     table: usize,
     version: u32,
 ) -> Result<TableMembers, ShapeRefused>
-    ensures { Answers ShapeRefused.Memory seen_table result (table_members version table (view value.now)) }
+    ensures { AnswersAs ShapeRefused.Memory seen_table result (table_members version table (view value.now)) }
 {
     let missions = missions(alloc, value, table)?;
     let exits = exits(alloc, value, table, version)?;
@@ -139,7 +139,7 @@ pub(crate) fn read_tables(
     values: &[Value],
     version: u32,
 ) -> Result<Vec<TableMembers>, ShapeRefused>
-    ensures { Answers ShapeRefused.Memory (λ v. map seen_table v.items) result
+    ensures { AnswersAs ShapeRefused.Memory (λ v. map seen_table v.items) result
         (each_from (table_members version) 0 (map view values.now)) }
 {
     let mut found = Vec::new(alloc);

@@ -12,7 +12,7 @@ use Rattle.rail_model.specs.State.{Legal, StandsAt}
 use Rattle.rail_model.specs.Move.{IsFirst, IsOver}
 use Rattle.rail_model.specs.Turns.{first_below}
 use Rattle.rail_model.proofs.Firsts.{first_below-all, first_below-found, option_or-both, option_or-first, option_or-second}
-use Rattle.legal_state.specs.Causes.{IsOut, IsInRange, IsPair, HasPair}
+use Rattle.legal_state.specs.Causes.{IsOut, IsInRange, SharesPoint, HasPair}
 use Rattle.legal_state.specs.Illegal.{IsIllegal}
 use Rattle.legal_state.specs.declared.judges.Illegal.{Illegal}
 use Rattle.legal_state.specs.declared.judges.Illegal.TheVariants.{Length, Range, Clash, Over}
@@ -48,10 +48,10 @@ two_points i k (Some q) (Some r) h = elim (leb_tells (suc i) k) [
   ]
 ]
 
-apart : (T : Table) (p : List ℕ) (i k : ℕ) → k < trains T → (IsPair T p i k → ⊥) → meets T p i k ≡ None
+apart : (T : Table) (p : List ℕ) (i k : ℕ) → k < trains T → (SharesPoint T p i k → ⊥) → meets T p i k ≡ None
 apart T p i k lt h = two_points i k (point T i (place p i)) (point T k (place p k)) (λ less q a b. h (lt, less, (q, a, b)))
 
-pub together : (T : Table) (p : List ℕ) (i k q : ℕ) → IsPair T p i k → StandsAt T p i q → meets T p i k ≡ Some (Clash i k q)
+pub together : (T : Table) (p : List ℕ) (i k q : ℕ) → SharesPoint T p i k → StandsAt T p i q → meets T p i k ≡ Some (Clash i k q)
 together T p i k q h at =
     let same : h.2.0 ≡ q = cc (h.2.1, at) in
     let other : point T k (place p k) ≡ Some q = h.2.2 ∙ ap Some same in
@@ -112,7 +112,7 @@ module _ (T : Table) (p : List ℕ) where
         | inr in_range ↦ in_range
       ]
 
-  first_pair : (i k q : ℕ) → IsFirst (HasPair T p) i → IsFirst (IsPair T p i) k → StandsAt T p i q
+  first_pair : (i k q : ℕ) → IsFirst (HasPair T p) i → IsFirst (SharesPoint T p i) k → StandsAt T p i q
       → first_below (trains T) (first_meeting T p) ≡ Some (Clash i k q)
   first_pair i k q first second at =
       first_below-found (trains T) i (first_meeting T p) (Clash i k q) (omega (arith, second.0.0, second.0.1))

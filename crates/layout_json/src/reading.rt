@@ -2,7 +2,7 @@
 ghost use Rattle.std.specs.Prelude.{◌≡◌, ◌<◌, ℕ, List, All, IfOk, OnOk, length, map, string_bytes, Ok};
 ghost use Rattle.rail_model.specs.State.{Legal};
 ghost use Rattle.rail_model.specs.Table.{IsTable, trains};
-ghost use Rattle.rail_model.specs.Turns.{Answers, unless};
+ghost use Rattle.rail_model.specs.Turns.{AnswersAs, unless};
 ghost use Rattle.track_layout.specs.Making.{layout_from};
 ghost use Rattle.track_layout.specs.Seen.{points_seen, links_seen};
 ghost use Rattle.mission_table.specs.Roster.{trains_from};
@@ -27,7 +27,7 @@ use track_layout::{LayoutRefused, layout};
 
 // The members of the document that the bytes are.
 fn read_members(alloc: Global, bytes: &[u8]) -> Result<DocMembers, DocRefused>
-    ensures { Answers DocRefused.Memory seen_document result (refused_as DocRefused.Shape (members_of bytes.now)) }
+    ensures { AnswersAs DocRefused.Memory seen_document result (refused_as DocRefused.Shape (members_of bytes.now)) }
 {
     match read_document(alloc, bytes) {
         Ok(members) => Ok(members),
@@ -42,7 +42,7 @@ fn made_layout(
     links: Vec<(String, String)>,
     zones: u32,
 ) -> Result<Layout, DocRefused>
-    ensures { Answers DocRefused.Memory (λ l. l) result
+    ensures { AnswersAs DocRefused.Memory (λ l. l) result
         (refused_as DocRefused.Layout (layout_from (points_seen points.items) (links_seen links.items) zones)) }
 {
     match layout(alloc, points, &links, zones) {
@@ -53,7 +53,7 @@ fn made_layout(
 }
 
 fn made_trains(alloc: Global, names: Vec<String>) -> Result<Trains, DocRefused>
-    ensures { Answers DocRefused.Memory (λ t. t) result (refused_as DocRefused.Trains (trains_from (names_seen names.items))) }
+    ensures { AnswersAs DocRefused.Memory (λ t. t) result (refused_as DocRefused.Trains (trains_from (names_seen names.items))) }
 {
     match trains(alloc, names) {
         Ok(trains) => Ok(trains),
@@ -64,7 +64,7 @@ fn made_trains(alloc: Global, names: Vec<String>) -> Result<Trains, DocRefused>
 
 // So many tables as there may be.
 fn counted(tables: Vec<TableMembers>) -> Result<Vec<TableMembers>, DocRefused>
-    ensures { Answers DocRefused.Memory (λ v. map seen_table v.items) result
+    ensures { AnswersAs DocRefused.Memory (λ v. map seen_table v.items) result
         (unless (tables_refusal (length (map seen_table tables.items))) (map seen_table tables.items)) }
 {
     check_count(tables.len())?;
@@ -73,7 +73,7 @@ fn counted(tables: Vec<TableMembers>) -> Result<Vec<TableMembers>, DocRefused>
 
 // A start that is legal.
 fn legal_start(table: &Table, positions: Vec<u32>) -> Result<State, DocRefused>
-    ensures start { Answers DocRefused.Memory (λ s. s) result (unless (start_refusal table.now positions.items) positions.items) }
+    ensures start { AnswersAs DocRefused.Memory (λ s. s) result (unless (start_refusal table.now positions.items) positions.items) }
     ensures legal { IfOk result (Legal table.now) }
 {
     let start = State::from(positions);
@@ -84,7 +84,7 @@ fn legal_start(table: &Table, positions: Vec<u32>) -> Result<State, DocRefused>
 /// The document of these members.
 pub(crate) fn checked(alloc: Global, members: DocMembers) -> Result<Doc, DocRefused>
     requires { IsRead (seen_document members) }
-    ensures { Answers DocRefused.Memory (λ d. d) result (doc_from (seen_document members)) }
+    ensures { AnswersAs DocRefused.Memory (λ d. d) result (doc_from (seen_document members)) }
 {
     let DocMembers {
         version,
@@ -110,7 +110,7 @@ pub(crate) fn checked(alloc: Global, members: DocMembers) -> Result<Doc, DocRefu
 ///
 /// The first thing wrong with it, in the order of [`DocRefused`]; want of memory likewise.
 pub fn document(alloc: Global, bytes: &[u8]) -> Result<Doc, DocRefused>
-    ensures { Answers DocRefused.Memory (λ d. d) result (doc_of bytes.now) }
+    ensures { AnswersAs DocRefused.Memory (λ d. d) result (doc_of bytes.now) }
 {
     checked(alloc, read_members(alloc, bytes)?)
 }
@@ -122,7 +122,7 @@ pub fn document(alloc: Global, bytes: &[u8]) -> Result<Doc, DocRefused>
 /// As [`document`] has them for that text.
 pub fn document_from(alloc: Global, members: DocMembers) -> Result<Doc, DocRefused>
     requires { members_of (text_of (seen_document members)) ≡ Ok (seen_document members) }
-    ensures { Answers DocRefused.Memory (λ d. d) result (doc_of (text_of (seen_document members))) }
+    ensures { AnswersAs DocRefused.Memory (λ d. d) result (doc_of (text_of (seen_document members))) }
 {
     checked(alloc, members)
 }

@@ -1,7 +1,7 @@
 // The tables of a document, made of their members.
 ghost use Rattle.std.specs.Prelude.{◌≡◌, ◌<◌, ℕ, [], None, All, IfOk, OnOk, length, map, option_map, unwrap_or};
 ghost use Rattle.rail_model.specs.Table.{IsTable, trains};
-ghost use Rattle.rail_model.specs.Turns.{Answers, in_turn, unless};
+ghost use Rattle.rail_model.specs.Turns.{AnswersAs, in_turn, unless};
 ghost use Rattle.mission_table.specs.Seen.{ways_seen};
 ghost use Rattle.mission_table.specs.Ways.{missions_from};
 ghost use Rattle.section_marks.specs.Connecting.{connected};
@@ -41,7 +41,7 @@ fn made_missions(
     lists: Vec<Vec<String>>,
     exits: Option<Vec<bool>>,
 ) -> Result<Missions, DocRefused>
-    ensures { Answers DocRefused.Memory (λ m. m) result
+    ensures { AnswersAs DocRefused.Memory (λ m. m) result
         (refused_as (DocRefused.Missions number)
         (missions_from layout.now (length trains.now) (ways_seen lists.items)
         (exits_or_none (length trains.now) (option_map (λ e. e.items) exits)))) }
@@ -90,7 +90,7 @@ fn made_sections(
     missions: Missions,
     members: Option<Vec<SectionMembers>>,
 ) -> Result<Table, DocRefused>
-    ensures { Answers DocRefused.Memory (λ t. t) result
+    ensures { AnswersAs DocRefused.Memory (λ t. t) result
         (refused_as (DocRefused.Marks number)
         (table_from (marks_of version) missions (unwrap_or (option_map (λ v. map seen_section v.items) members) []))) }
 {
@@ -133,7 +133,7 @@ fn travel_times(
     table: &Table,
     times: Option<Vec<TrainTimes>>,
 ) -> Result<TableTimes, DocRefused>
-    ensures { Answers DocRefused.Memory (λ t. t) result
+    ensures { AnswersAs DocRefused.Memory (λ t. t) result
         (unless (times_refusal number table.now (times_or_one table.now (option_map (λ v. v.items) times)))
         (times_or_one table.now (option_map (λ v. v.items) times))) }
 {
@@ -152,7 +152,7 @@ fn made_connections(
     table: Table,
     list: Option<Vec<Connection>>,
 ) -> Result<Table, DocRefused>
-    ensures { Answers DocRefused.Memory (λ t. t) result
+    ensures { AnswersAs DocRefused.Memory (λ t. t) result
         (refused_as (DocRefused.Marks number) (connected table (unwrap_or (option_map (λ v. v.items) list) []))) }
 {
     match connections(table, list.unwrap_or(Vec::new(alloc))) {
@@ -173,7 +173,7 @@ fn made_table(
     trains: &Trains,
     members: TableMembers,
 ) -> Result<(Untimed, TableTimes), DocRefused>
-    ensures made { Answers DocRefused.Memory (λ p. with_times p.0 p.1) result
+    ensures made { AnswersAs DocRefused.Memory (λ p. with_times p.0 p.1) result
         (doc_table_of version layout.now (length trains.now) number (seen_table members)) }
     ensures formed { IfOk result (λ p. IsTable p.0.table) }
 {
@@ -205,7 +205,7 @@ pub(crate) fn made_tables(
     trains: &Trains,
     members: Vec<TableMembers>,
 ) -> Result<(Vec<Untimed>, Vec<TableTimes>), DocRefused>
-    ensures made { Answers DocRefused.Memory (λ p. timed p.0.items p.1.items) result
+    ensures made { AnswersAs DocRefused.Memory (λ p. timed p.0.items p.1.items) result
         (each_from (doc_table_of version layout.now (length trains.now)) 0 (map seen_table members.items)) }
     ensures each_timed { IfOk result (λ p. length p.0.items ≡ length p.1.items) }
     ensures formed { IfOk result (λ p. All (λ t. IsTable t.table) p.0.items) }

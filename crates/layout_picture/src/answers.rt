@@ -1,6 +1,6 @@
 // The picture of a document, or why there is none.
 ghost use Rattle.std.specs.Prelude.{◌≡◌, IfOk};
-ghost use Rattle.layout_picture.specs.Answer.{IsAnswer};
+ghost use Rattle.layout_picture.specs.Answer.{IsPictureOrWords};
 
 use crate::picture::drawing;
 use layout_json::{Doc, layout_of, names_of, start_of, table_of, tables_of};
@@ -110,7 +110,7 @@ pub fn layout_picture(
     table: u32,
     state: &State,
 ) -> Result<Drawn, AllocError>
-    ensures { IfOk result (λ drawn. IsAnswer doc.now table state.now drawn) }
+    ensures { IfOk result (λ drawn. IsPictureOrWords doc.now table state.now drawn) }
 {
     let tables = tables_of(doc);
     if tables <= table {

@@ -5,7 +5,7 @@ use Rattle.rail_model.specs.Table.{Table, trains, last}
 use Rattle.rail_model.specs.Checks.{ask}
 use Rattle.rail_model.specs.declared.types.Ask.TheVariants.{Yes, Arrived, Occupied, Full, Waits}
 use Rattle.legal_state.specs.declared.judges.Illegal.TheVariants.{Length, Range, Clash, Over}
-use Rattle.legal_state.specs.Causes.{IsOut, IsInRange, IsPair, HasPair}
+use Rattle.legal_state.specs.Causes.{IsOut, IsInRange, SharesPoint, HasPair}
 use Rattle.legal_state.specs.Illegal.{IsIllegal}
 
 -- the corridor A M N B against C N M D, with a section for one train
@@ -105,10 +105,10 @@ both_at_A = (refl, in_range, ((1, pair), λ j lt. absurd (omega (arith, lt))), (
     in_range : IsInRange together (0 ∷ 0 ∷ [])
     in_range = both_in_range together 0 0 refl (lit≤ tt) (lit≤ tt)
 
-    pair : IsPair together (0 ∷ 0 ∷ []) 0 1
+    pair : SharesPoint together (0 ∷ 0 ∷ []) 0 1
     pair = (lit< tt, lit< tt, (0, refl, refl))
 
-    first : (j : ℕ) → j < 1 → IsPair together (0 ∷ 0 ∷ []) 0 j → ⊥
+    first : (j : ℕ) → j < 1 → SharesPoint together (0 ∷ 0 ∷ []) 0 j → ⊥
     first j lt p = omega (arith, lt, p.1)
 
 -- the corridor with both trains inside: the section counts two, and its limit is 1

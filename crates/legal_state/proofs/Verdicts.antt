@@ -8,7 +8,7 @@ use Rattle.rail_model.proofs.Decide.{same_first}
 use Rattle.rail_model.proofs.Shares.{same_pos}
 use Rattle.legal_state.specs.declared.judges.Illegal.{Illegal}
 use Rattle.legal_state.specs.declared.judges.Illegal.TheVariants.{Length, Range, Clash, Over}
-use Rattle.legal_state.specs.Causes.{IsOut, IsInRange, IsPair, HasPair}
+use Rattle.legal_state.specs.Causes.{IsOut, IsInRange, SharesPoint, HasPair}
 use Rattle.legal_state.specs.Illegal.{IsIllegal}
 
 not_out : (T : Table) (p : List ℕ) (i : ℕ) → IsInRange T p → IsOut T p i → ⊥
@@ -35,7 +35,7 @@ one_cause T p (Clash i l q) (Length m) h k = absurd (k.1 h.0)
 one_cause T p (Clash i l q) (Range j) h k = absurd (not_out T p j h.1 k.1.0)
 one_cause T p (Clash i l q) (Clash j m r) h k =
     let first : i ≡ j = same_first (HasPair T p) i j h.2 k.2 in
-    let second : l ≡ m = same_first (IsPair T p j) l m (subst (λ (x : ℕ). IsFirst (IsPair T p x) l) first h.3) k.3 in
+    let second : l ≡ m = same_first (SharesPoint T p j) l m (subst (λ (x : ℕ). IsFirst (SharesPoint T p x) l) first h.3) k.3 in
     let here : StandsAt T p j q = subst (λ (x : ℕ). StandsAt T p x q) first h.4 in
     let there = k.4 in
     let point : q ≡ r = cc in

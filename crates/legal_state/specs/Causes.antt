@@ -12,9 +12,9 @@ abbrev pub IsInRange : Table → List ℕ → Type 0
 IsInRange T p = (i : ℕ) → i < trains T → place p i ≤ last T i
 
 -- A later train k has the point of train i.
-abbrev pub IsPair : Table → List ℕ → ℕ → ℕ → Type 0
-IsPair T p i k = (k < trains T) × (i < k) × ((q : ℕ) × StandsAt T p i q × StandsAt T p k q)
+abbrev pub SharesPoint : Table → List ℕ → ℕ → ℕ → Type 0
+SharesPoint T p i k = (k < trains T) × (i < k) × ((q : ℕ) × StandsAt T p i q × StandsAt T p k q)
 
 -- Some later train has the point of train i.
 abbrev pub HasPair : Table → List ℕ → ℕ → Type 0
-HasPair T p i = (k : ℕ) × IsPair T p i k
+HasPair T p i = (k : ℕ) × SharesPoint T p i k

@@ -3,7 +3,7 @@ ghost use Rattle.std.specs.Prelude.{◌≡◌, ℕ, ◌<◌, ◌≤◌, length, 
 ghost use Rattle.rail_model.specs.Table.{IsTable, trains, last, point, place};
 ghost use Rattle.rail_model.specs.State.{Legal, StandsAt};
 ghost use Rattle.rail_model.specs.Move.{IsOver, IsFirstOrNone};
-ghost use Rattle.legal_state.specs.Causes.{IsInRange, IsPair, HasPair};
+ghost use Rattle.legal_state.specs.Causes.{IsInRange, SharesPoint, HasPair};
 ghost use Rattle.legal_state.specs.Illegal.{IsIllegal};
 
 use crate::count_of;
@@ -61,7 +61,7 @@ pub(crate) fn stands_at(table: &Table, state: &State, train: u32, point: u32) ->
 fn partner(table: &Table, state: &State, train: u32, point: u32) -> Option<u32>
     requires size { length state.now ≡ trains table.now }
     requires there { StandsAt table.now state.now train point }
-    ensures { IsFirstOrNone (IsPair table.now state.now train) result }
+    ensures { IsFirstOrNone (SharesPoint table.now state.now train) result }
 {
     for other in 0..trains_of(table) {
         if train < other && stands_at(table, state, other, point) {

@@ -2,7 +2,7 @@
 ghost use Rattle.std.specs.Prelude.{◌≡◌, ◌<◌, ◌≤◌, [], ◌∷◌, length};
 ghost use Rattle.std.specs.Result.{result_err};
 ghost use Rattle.rail_model.specs.Layout.{point_names};
-ghost use Rattle.rail_model.specs.Turns.{Answers, first_of, unless};
+ghost use Rattle.rail_model.specs.Turns.{AnswersAs, first_of, unless};
 ghost use Rattle.mission_table.specs.Ways.{missions_from, other_lists, other_exits, bad_length, is_cut, step_refusal, way_refusal, mission_refusal, mission_value, ways_refusal, missions_value, way_value};
 ghost use Rattle.track_layout.specs.Making.{number_in};
 ghost use Rattle.mission_table.specs.Seen.{names_seen, ways_seen};
@@ -28,7 +28,7 @@ pub fn missions(
     lists: Vec<Vec<String>>,
     exits: Vec<bool>,
 ) -> Result<Missions, MissionRefused>
-    ensures { Answers MissionRefused.Memory (λ missions. missions) result (missions_from layout.now (length trains.now) (ways_seen lists.items) exits.items) }
+    ensures { AnswersAs MissionRefused.Memory (λ missions. missions) result (missions_from layout.now (length trains.now) (ways_seen lists.items) exits.items) }
 {
     check_counts(trains.len(), lists.len(), exits.len())?;
     let tracks = Tracks::new(alloc, layout)?;
@@ -57,7 +57,7 @@ fn each_mission(
 ) -> Result<Vec<Mission>, MissionRefused>
     requires few { length lists.now ≤ 32 }
     requires one_each { length exits.now ≡ length lists.now }
-    ensures { Answers MissionRefused.Memory (λ missions. missions.items) result (unless (ways_refusal tracks.now (length lists.now) (ways_seen lists.now) exits.now) (missions_value tracks.now (ways_seen lists.now) exits.now)) }
+    ensures { AnswersAs MissionRefused.Memory (λ missions. missions.items) result (unless (ways_refusal tracks.now (length lists.now) (ways_seen lists.now) exits.now) (missions_value tracks.now (ways_seen lists.now) exits.now)) }
 {
     let mut missions = Vec::new(alloc);
     for (train, names) in lists.iter().enumerate() {
@@ -74,7 +74,7 @@ fn mission(
     names: &[String],
     exits: bool,
 ) -> Result<Mission, MissionRefused>
-    ensures { Answers MissionRefused.Memory (λ mission. mission) result (unless (mission_refusal tracks.now train (names_seen names.now) exits) (mission_value tracks.now (names_seen names.now) exits)) }
+    ensures { AnswersAs MissionRefused.Memory (λ mission. mission) result (unless (mission_refusal tracks.now train (names_seen names.now) exits) (mission_value tracks.now (names_seen names.now) exits)) }
 {
     check_length(train, names.len(), exits)?;
     let points = way(alloc, tracks, train, names)?;
@@ -99,7 +99,7 @@ fn way(
     names: &[String],
 ) -> Result<Vec<u32>, MissionRefused>
     requires { length names.now ≤ 128 }
-    ensures { Answers MissionRefused.Memory (λ points. points.items) result (unless (way_refusal tracks.now train (names_seen names.now)) (way_value tracks.now (names_seen names.now))) }
+    ensures { AnswersAs MissionRefused.Memory (λ points. points.items) result (unless (way_refusal tracks.now train (names_seen names.now)) (way_value tracks.now (names_seen names.now))) }
 {
     let mut points = Vec::new(alloc);
     let mut before = None;

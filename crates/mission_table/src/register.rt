@@ -1,7 +1,7 @@
 // The maker of trains.
 ghost use Rattle.std.specs.Prelude.{◌≡◌, ◌≤◌, length, map, string_bytes};
 ghost use Rattle.std.specs.Result.{result_err};
-ghost use Rattle.rail_model.specs.Turns.{Answers};
+ghost use Rattle.rail_model.specs.Turns.{AnswersAs};
 ghost use Rattle.mission_table.specs.Roster.{too_many, bad_name, trains_from};
 ghost use Rattle.mission_table.specs.Seen.{names_seen};
 
@@ -19,7 +19,7 @@ const MOST_TRAINS: usize = 32;
 ///
 /// The first thing wrong with the names, in the order of `TrainRefused`; out of memory.
 pub fn trains(alloc: Global, names: Vec<String>) -> Result<Trains, TrainRefused>
-    ensures { Answers TrainRefused.Memory (λ trains. trains) result (trains_from (names_seen names.items)) }
+    ensures { AnswersAs TrainRefused.Memory (λ trains. trains) result (trains_from (names_seen names.items)) }
 {
     check_count(names.len())?;
     check_names(&names)?;

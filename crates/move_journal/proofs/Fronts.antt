@@ -7,7 +7,7 @@ use Rattle.rail_model.specs.Names.{Names}
 use Rattle.rail_model.specs.Journal.{Journal, words, end_text, lines_text, text}
 use Rattle.move_journal.specs.declared.faults.BadText.TheVariants.{NoEnd}
 use Rattle.move_journal.specs.Printable.{IsPrintable}
-use Rattle.move_journal.specs.Answers.{BeginsWithLine, Reads, HasFault, IsFrontOf}
+use Rattle.move_journal.specs.Answers.{BeginsWithLine, Reads, HasTextFault, IsFrontOf}
 use Rattle.move_journal.proofs.Begins.{line_cut}
 
 -- the text of lines and further lines
@@ -53,5 +53,5 @@ reads_more N bytes lines rest n l later r b e =
 pub line_shorter : (N : Names) (rest : List ℕ) (n : ℕ) (l : Line) (later : List ℕ) → BeginsWithLine N rest n l later → length later < length rest
 line_shorter N rest n l later b = omega (arith, ap length (line_cut N rest n l later b), length-append (decimal n ++ words N l) (10 ∷ later))
 
-pub no_end : (N : Names) (bytes : List ℕ) (K : Journal) → IsFrontOf N bytes K → HasFault N bytes NoEnd
+pub no_end : (N : Names) (bytes : List ℕ) (K : Journal) → IsFrontOf N bytes K → HasTextFault N bytes NoEnd
 no_end N bytes K f = (K.lines, [], record { printable = f.lines; text = f.text ∙ sym (append-nil (lines_text N 1 K.lines)) }, refl)

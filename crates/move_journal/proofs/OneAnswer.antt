@@ -9,7 +9,7 @@ use Rattle.move_journal.specs.declared.faults.BadText.{BadText}
 use Rattle.move_journal.specs.declared.faults.BadText.TheVariants.{Line as BadLine, Number, After, NoEnd, Memory}
 use Rattle.move_journal.specs.declared.lines.Part.{Part}
 use Rattle.move_journal.specs.declared.lines.Part.TheVariants.{Whole, Open}
-use Rattle.move_journal.specs.Answers.{Reads, HasFault, IsTextOf, IsFrontOf, IsPart, Answers, AnswersPrefix, Gives}
+use Rattle.move_journal.specs.Answers.{Reads, HasTextFault, IsTextOf, IsFrontOf, IsPart, ReadsJournal, AnswersPrefix, GivesValue}
 use Rattle.move_journal.proofs.Once.{Ending, bad, ended, Ends, same_front, same_ending}
 use Rattle.move_journal.proofs.Fronts.{no_end}
 
@@ -36,7 +36,7 @@ by_text N bytes K p = record {
   ends = record { few_moves = p.has.moves; few_tables = p.has.tables; text = sym (append-nil (end_text K.moves K.tables)) };
 }
 
-by_fault : (N : Names) (bytes : List ℕ) (e : BadText) (h : HasFault N bytes e) → Way N bytes h.0 (bad e)
+by_fault : (N : Names) (bytes : List ℕ) (e : BadText) (h : HasTextFault N bytes e) → Way N bytes h.0 (bad e)
 by_fault N bytes e h = record { rest = h.1; reads = h.2; ends = h.3 }
 
 by_front : (N : Names) (bytes : List ℕ) (K : Journal) → IsFrontOf N bytes K → Way N bytes K.lines (bad NoEnd)
@@ -55,13 +55,13 @@ one_journal N bytes K L names p q =
     let tables : K.tables ≡ L.tables = cc in
     (λ i. record { lines = lines i; moves = moves i; tables = tables i })
 
-pub one_fault : (N : Names) (bytes : List ℕ) (e f : BadText) → IsNames N → HasFault N bytes e → HasFault N bytes f → e ≡ f
+pub one_fault : (N : Names) (bytes : List ℕ) (e f : BadText) → IsNames N → HasTextFault N bytes e → HasTextFault N bytes f → e ≡ f
 one_fault N bytes e f names p q =
     let w = one_way N bytes p.0 q.0 (bad e) (bad f) names (by_fault N bytes e p) (by_fault N bytes f q) in
     let ends : bad e ≡ bad f = w.1 in
     cc
 
-pub text_or_fault : (N : Names) (bytes : List ℕ) (K : Journal) (e : BadText) → IsNames N → IsTextOf N bytes K → HasFault N bytes e → ⊥
+pub text_or_fault : (N : Names) (bytes : List ℕ) (K : Journal) (e : BadText) → IsNames N → IsTextOf N bytes K → HasTextFault N bytes e → ⊥
 text_or_fault N bytes K e names p q =
     let w = one_way N bytes K.lines q.0 (ended K.moves K.tables) (bad e) names (by_text N bytes K p) (by_fault N bytes e q) in
     let ends : ended K.moves K.tables ≡ bad e = w.1 in
@@ -76,27 +76,27 @@ one_front N bytes K L names p q =
     (λ i. record { lines = lines i; moves = moves i; tables = tables i })
 
 -- what an answer other than out of memory says
-fault_of : (N : Names) (bytes : List ℕ) (e : BadText) → (e ≡ Memory → ⊥) → Answers N bytes (Err e) → HasFault N bytes e
+fault_of : (N : Names) (bytes : List ℕ) (e : BadText) → (e ≡ Memory → ⊥) → ReadsJournal N bytes (Err e) → HasTextFault N bytes e
 fault_of N bytes (BadLine j) h a = a
 fault_of N bytes (Number j) h a = a
 fault_of N bytes After h a = a
 fault_of N bytes NoEnd h a = a
 fault_of N bytes Memory h a = absurd (h refl)
 
-pub one_answer : (N : Names) (bytes : List ℕ) (a b : Result Journal BadText) → IsNames N → (a ≡ Err Memory → ⊥) → (b ≡ Err Memory → ⊥) → Answers N bytes a → Answers N bytes b → a ≡ b
+pub one_answer : (N : Names) (bytes : List ℕ) (a b : Result Journal BadText) → IsNames N → (a ≡ Err Memory → ⊥) → (b ≡ Err Memory → ⊥) → ReadsJournal N bytes a → ReadsJournal N bytes b → a ≡ b
 one_answer N bytes (Ok K) (Ok L) names m n p q = ap Ok (one_journal N bytes K L names p q)
 one_answer N bytes (Ok K) (Err f) names m n p q = absurd (text_or_fault N bytes K f names p (fault_of N bytes f (λ e. n (ap Err e)) q))
 one_answer N bytes (Err e) (Ok L) names m n p q = absurd (text_or_fault N bytes L e names q (fault_of N bytes e (λ f. m (ap Err f)) p))
 one_answer N bytes (Err e) (Err f) names m n p q = ap Err (one_fault N bytes e f names (fault_of N bytes e (λ g. m (ap Err g)) p) (fault_of N bytes f (λ g. n (ap Err g)) q))
 
-prefix_fault : (N : Names) (bytes : List ℕ) (e : BadText) → (e ≡ Memory → ⊥) → AnswersPrefix N bytes (Err e) → HasFault N bytes e × (e ≡ NoEnd → ⊥)
+prefix_fault : (N : Names) (bytes : List ℕ) (e : BadText) → (e ≡ Memory → ⊥) → AnswersPrefix N bytes (Err e) → HasTextFault N bytes e × (e ≡ NoEnd → ⊥)
 prefix_fault N bytes (BadLine j) h a = (a, λ e. absurd cc)
 prefix_fault N bytes (Number j) h a = (a, λ e. absurd cc)
 prefix_fault N bytes After h a = (a, λ e. absurd cc)
 prefix_fault N bytes NoEnd h a = absurd a
 prefix_fault N bytes Memory h a = absurd (h refl)
 
-front_or_fault : (N : Names) (bytes : List ℕ) (K : Journal) (e : BadText) → IsNames N → IsFrontOf N bytes K → HasFault N bytes e → (e ≡ NoEnd → ⊥) → ⊥
+front_or_fault : (N : Names) (bytes : List ℕ) (K : Journal) (e : BadText) → IsNames N → IsFrontOf N bytes K → HasTextFault N bytes e → (e ≡ NoEnd → ⊥) → ⊥
 front_or_fault N bytes K e names p q ne = ne (sym (one_fault N bytes NoEnd e names (no_end N bytes K p) q))
 
 part_or_fault : (N : Names) (bytes : List ℕ) (part : Part) (e : BadText) → IsNames N → AnswersPrefix N bytes (Ok part) → (e ≡ Memory → ⊥) → AnswersPrefix N bytes (Err e) → ⊥
@@ -115,7 +115,7 @@ one_prefix N bytes (Ok a) (Err f) names m n p q = absurd (part_or_fault N bytes 
 one_prefix N bytes (Err e) (Ok b) names m n p q = absurd (part_or_fault N bytes b e names q (λ g. m (ap Err g)) p)
 one_prefix N bytes (Err e) (Err f) names m n p q = ap Err (one_fault N bytes e f names (prefix_fault N bytes e (λ g. m (ap Err g)) p).0 (prefix_fault N bytes f (λ g. n (ap Err g)) q).0)
 
-pub gives : (N : Names) (bytes : List ℕ) (K : Journal) (r : Result Journal BadText) → IsNames N → IsTextOf N bytes K → Answers N bytes r → Gives K r
+pub gives : (N : Names) (bytes : List ℕ) (K : Journal) (r : Result Journal BadText) → IsNames N → IsTextOf N bytes K → ReadsJournal N bytes r → GivesValue K r
 gives N bytes K (Ok L) names p q = one_journal N bytes L K names q p
 gives N bytes K (Err (BadLine j)) names p q = text_or_fault N bytes K (BadLine j) names p q
 gives N bytes K (Err (Number j)) names p q = text_or_fault N bytes K (Number j) names p q
@@ -123,7 +123,7 @@ gives N bytes K (Err After) names p q = text_or_fault N bytes K After names p q
 gives N bytes K (Err NoEnd) names p q = text_or_fault N bytes K NoEnd names p q
 gives N bytes K (Err Memory) names p q = tt
 
-pub gives_part : (N : Names) (bytes : List ℕ) (part : Part) (r : Result Part BadText) → IsNames N → IsPart N bytes part → AnswersPrefix N bytes r → Gives part r
+pub gives_part : (N : Names) (bytes : List ℕ) (part : Part) (r : Result Part BadText) → IsNames N → IsPart N bytes part → AnswersPrefix N bytes r → GivesValue part r
 gives_part N bytes part (Ok other) names p q = one_part N bytes other part names q p
 gives_part N bytes part (Err (BadLine j)) names p q = part_or_fault N bytes part (BadLine j) names p (λ e. absurd cc) q
 gives_part N bytes part (Err (Number j)) names p q = part_or_fault N bytes part (Number j) names p (λ e. absurd cc) q

@@ -13,11 +13,11 @@ use Rattle.table_exchange.specs.Tables.{AreTables, Stands}
 use Rattle.table_exchange.proofs.Standings.{stands_line}
 use Rattle.move_journal.specs.declared.faults.BadLine.{BadLine}
 use Rattle.move_journal.specs.declared.faults.BadLine.TheVariants as bad
-use Rattle.move_journal.specs.Replays.{IsRefused, IsMisplaced, IsWrongTable, IsBad, HasBadLine}
+use Rattle.move_journal.specs.Replays.{IsRefusedMove, IsMisplaced, IsWrongTable, IsBad, HasBadLine}
 
 -- one of three causes
 data Cause (tables : List Offer) (y : Yard) (k : ℕ) (l : Line) (e : BadLine) : Type 0 where
-  refused : (ask : Ask) → e ≡ bad.Move k ask → IsRefused tables y l ask → Cause tables y k l e
+  refused : (ask : Ask) → e ≡ bad.Move k ask → IsRefusedMove tables y l ask → Cause tables y k l e
   misplaced : e ≡ bad.Place k → IsMisplaced tables y l → Cause tables y k l e
   wrong : e ≡ bad.Table k → IsWrongTable tables y l → Cause tables y k l e
 
@@ -30,13 +30,13 @@ cause_of tables y k l (bad.Open j) h = absurd h
 cause_of tables y k l bad.Counts h = absurd h
 cause_of tables y k l bad.Memory h = absurd h
 
-refused_once : (tables : List Offer) (y : Yard) (l : Line) (a b : Ask) → Legal (in_force tables y) y.positions → IsRefused tables y l a → IsRefused tables y l b → a ≡ b
+refused_once : (tables : List Offer) (y : Yard) (l : Line) (a b : Ask) → Legal (in_force tables y) y.positions → IsRefusedMove tables y l a → IsRefusedMove tables y l b → a ≡ b
 refused_once tables y (Move i from to) a b legal p q = told_once (in_force tables y) y.positions i a b legal p.1 q.1
 refused_once tables y (TableLine t) a b legal p q = absurd p
 refused_once tables y (KeptDiffers t i k) a b legal p q = absurd p
 refused_once tables y (KeptOver t s n) a b legal p q = absurd p
 
-refused_not_misplaced : (tables : List Offer) (y : Yard) (l : Line) (a : Ask) → IsRefused tables y l a → IsMisplaced tables y l → ⊥
+refused_not_misplaced : (tables : List Offer) (y : Yard) (l : Line) (a : Ask) → IsRefusedMove tables y l a → IsMisplaced tables y l → ⊥
 refused_not_misplaced tables y (Move i from to) a p (inl none) = omega (arith, p.0, none)
 refused_not_misplaced tables y (Move i from to) a (within, answer, other_told, inl end) (inr other) = other.0 (subst (Answers (in_force tables y) y.positions i) end answer)
 refused_not_misplaced tables y (Move i from to) a (within, answer, other_told, inr step) (inr other) = other.1 step
@@ -45,7 +45,7 @@ refused_not_misplaced tables y (KeptDiffers t i k) a p q = p
 refused_not_misplaced tables y (KeptOver t s n) a p q = p
 
 -- a move and a table's line
-refused_not_wrong : (tables : List Offer) (y : Yard) (l : Line) (a : Ask) → IsRefused tables y l a → IsWrongTable tables y l → ⊥
+refused_not_wrong : (tables : List Offer) (y : Yard) (l : Line) (a : Ask) → IsRefusedMove tables y l a → IsWrongTable tables y l → ⊥
 refused_not_wrong tables y (Move i from to) a p q = q
 refused_not_wrong tables y (TableLine t) a p q = p
 refused_not_wrong tables y (KeptDiffers t i k) a p q = p

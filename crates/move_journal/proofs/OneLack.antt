@@ -10,15 +10,15 @@ use Rattle.table_exchange.specs.Tables.{AreTables, Stands}
 use Rattle.table_exchange.proofs.Arrivals.{none_unfinished}
 use Rattle.move_journal.specs.declared.faults.BadLine.{BadLine}
 use Rattle.move_journal.specs.declared.faults.BadLine.TheVariants as bad
-use Rattle.move_journal.specs.Counted.{AreTrue}
-use Rattle.move_journal.specs.Replays.{Lacks, IsNotWhole}
+use Rattle.move_journal.specs.Counted.{CountsAreTrue}
+use Rattle.move_journal.specs.Replays.{Lacks, IsBrokenJournal}
 use Rattle.move_journal.proofs.OneBadLine.{right_or_bad, one_bad}
 
 -- one of three things that are lacking
 data Lack (tables : List Offer) (y : Yard) (K : Journal) (e : BadLine) : Type 0 where
   arrival : (i : ℕ) → e ≡ bad.Unfinished i → IsFirst (IsUnfinished (in_force tables y) y.positions) i → Lack tables y K e
   answer : e ≡ bad.Open (y.tried + 1) → Arrived (in_force tables y) y.positions → IsOpen tables y → Lack tables y K e
-  counts : e ≡ bad.Counts → IsDone tables y → (AreTrue K → ⊥) → Lack tables y K e
+  counts : e ≡ bad.Counts → IsDone tables y → (CountsAreTrue K → ⊥) → Lack tables y K e
 
 lack_of : (tables : List Offer) (y : Yard) (K : Journal) (e : BadLine) → Lacks tables y K e → Lack tables y K e
 lack_of tables y K (bad.Unfinished i) h = arrival i (λ j. bad.Unfinished i) h
@@ -29,7 +29,7 @@ lack_of tables y K (bad.Place j) h = absurd h
 lack_of tables y K (bad.Table j) h = absurd h
 lack_of tables y K bad.Memory h = absurd h
 
-nothing_lacks : (tables : List Offer) (y : Yard) (K : Journal) (e : BadLine) → IsDone tables y → AreTrue K → Lack tables y K e → ⊥
+nothing_lacks : (tables : List Offer) (y : Yard) (K : Journal) (e : BadLine) → IsDone tables y → CountsAreTrue K → Lack tables y K e → ⊥
 nothing_lacks tables y K e done true_counts (arrival i is first) = none_unfinished (in_force tables y) y.positions i done.0 first.0
 nothing_lacks tables y K e done true_counts (answer is arrived open_table) = done.1 open_table
 nothing_lacks tables y K e done true_counts (counts is also wrong) = wrong true_counts
@@ -45,12 +45,12 @@ one_lack tables y K e f (counts is done p) (arrival j also q) = absurd (none_unf
 one_lack tables y K e f (counts is done p) (answer also arrived q) = absurd (done.1 q)
 one_lack tables y K e f (counts is done p) (counts also too q) = is ∙ sym also
 
-pub whole_or_not : (tables : List Offer) (y : Yard) (K : Journal) (e : BadLine) → IsWhole tables y K → IsNotWhole tables y K e → ⊥
+pub whole_or_not : (tables : List Offer) (y : Yard) (K : Journal) (e : BadLine) → IsWhole tables y K → IsBrokenJournal tables y K e → ⊥
 whole_or_not tables y K e whole (inl h) = right_or_bad tables y K.lines e whole.right h
 whole_or_not tables y K e whole (inr h) =
     nothing_lacks tables (after_lines y K.lines) K e whole.done (whole.moves, whole.exchanges) (lack_of tables (after_lines y K.lines) K e h.1)
 
-pub one_cause_not_whole : (tables : List Offer) (y : Yard) (K : Journal) (e f : BadLine) → AreTables tables → Stands tables y → IsNotWhole tables y K e → IsNotWhole tables y K f → e ≡ f
+pub one_cause_not_whole : (tables : List Offer) (y : Yard) (K : Journal) (e f : BadLine) → AreTables tables → Stands tables y → IsBrokenJournal tables y K e → IsBrokenJournal tables y K f → e ≡ f
 one_cause_not_whole tables y K e f are s (inl h) (inl g) = one_bad tables y K.lines e f are s h g
 one_cause_not_whole tables y K e f are s (inl h) (inr g) = absurd (right_or_bad tables y K.lines e g.0 h)
 one_cause_not_whole tables y K e f are s (inr h) (inl g) = absurd (right_or_bad tables y K.lines f h.0 g)

@@ -13,7 +13,7 @@ use Rattle.rail_model.specs.Yard.{Offer, offer, opening}
 use Rattle.rail_model.specs.Journal.{IsRight, IsDone, IsWhole, after_lines, with_counts}
 use Rattle.move_journal.specs.declared.faults.BadLine.TheVariants as bad
 use Rattle.move_journal.specs.Printable.{AreEnough}
-use Rattle.move_journal.specs.Replays.{IsBad, HasBadLine, Replays, Lacks, IsNotWhole, Verifies}
+use Rattle.move_journal.specs.Replays.{IsBad, HasBadLine, Replays, Lacks, IsBrokenJournal, Verifies}
 use Rattle.move_journal.proofs.Samples.{names, path}
 
 abbrev alone : List Offer
@@ -90,7 +90,7 @@ twice = (
 refused : Replays alone (opening (0 ∷ [])) (with_counts (Move 0 0 (Some 1) ∷ Move 0 0 (Some 1) ∷ [])) (Err (bad.Place 2))
 refused = twice
 
-not_whole : IsNotWhole alone (opening (0 ∷ [])) (with_counts (Move 0 0 (Some 1) ∷ Move 0 0 (Some 1) ∷ [])) (bad.Place 2)
+not_whole : IsBrokenJournal alone (opening (0 ∷ [])) (with_counts (Move 0 0 (Some 1) ∷ Move 0 0 (Some 1) ∷ [])) (bad.Place 2)
 not_whole = inl twice
 
 goes_on : IsBad alone (after_lines (opening (0 ∷ [])) lines) 3 (Move 0 2 None) (bad.Move 3 AtEnd)

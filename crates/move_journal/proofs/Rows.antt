@@ -13,7 +13,7 @@ use Rattle.move_journal.specs.declared.faults.BadText.TheVariants.{Line as BadLi
 use Rattle.move_journal.specs.declared.lines.Part.TheVariants.{Whole, Open}
 use Rattle.move_journal.specs.declared.reading.Head.TheVariants.{Other}
 use Rattle.move_journal.specs.Printable.{IsNamed, IsPrintable, ArePrintable}
-use Rattle.move_journal.specs.Answers.{IsTextOf, IsFrontOf, Reads, HasFault, Answers, AnswersPrefix}
+use Rattle.move_journal.specs.Answers.{IsTextOf, IsFrontOf, Reads, HasTextFault, ReadsJournal, AnswersPrefix}
 use Rattle.move_journal.specs.Words.{word_list, called, target_of, move_of, table_of, differs_of, over_of, kept_of, line_of, numbered_of, field_of, end_of}
 use Rattle.move_journal.proofs.Again.{IsOneLine}
 use Rattle.move_journal.proofs.Begins.{begins_with, begins_none}
@@ -91,7 +91,7 @@ front = record {
   counts = (refl, refl);
 }
 
-read_whole : Answers names (codes "1 move T0 A B\n2 move T0 B C\nend moves=2 tables=0\n") (Ok (with_counts lines))
+read_whole : ReadsJournal names (codes "1 move T0 A B\n2 move T0 B C\nend moves=2 tables=0\n") (Ok (with_counts lines))
 read_whole = whole
 
 prefix_whole : AnswersPrefix names (codes "1 move T0 A B\n2 move T0 B C\nend moves=2 tables=0\n") (Ok (Whole (with_counts lines)))
@@ -116,7 +116,7 @@ one_line (b ∷ w) e =
 
 -- a text whose first line has no form
 no_form : (content later : List ℕ) → list_all (λ b. not (b == 10)) content ≡ true
-    → numbered_of names (word_list content) ≡ None → end_of (word_list content) ≡ None → HasFault names (content ++ 10 ∷ later) (BadLine 1)
+    → numbered_of names (word_list content) ≡ None → end_of (word_list content) ≡ None → HasTextFault names (content ++ 10 ∷ later) (BadLine 1)
 no_form content later one no_line no_end = (
   [],
   content ++ 10 ∷ later,
@@ -132,10 +132,10 @@ no_end_line : end_of (word_list (codes "01 move T0 A B")) ≡ None
 unfolding end_of word_list
 no_end_line = refl
 
-first_line_has_zero : HasFault names (codes "01 move T0 A B\n2 move T0 B C\nend moves=2 tables=0\n") (BadLine 1)
+first_line_has_zero : HasTextFault names (codes "01 move T0 A B\n2 move T0 B C\nend moves=2 tables=0\n") (BadLine 1)
 first_line_has_zero = no_form (codes "01 move T0 A B") (codes "2 move T0 B C\nend moves=2 tables=0\n") refl leading_zero no_end_line
 
-first_number_is_two : HasFault names (codes "2 move T0 A B\n") (Number 1)
+first_number_is_two : HasTextFault names (codes "2 move T0 A B\n") (Number 1)
 first_number_is_two = (
   [],
   codes "2 move T0 A B\n",
@@ -143,7 +143,7 @@ first_number_is_two = (
   (refl, (2, Move 0 0 (Some 1), [], record { number = lit< tt; line = (lit< tt, lit< tt, lit< tt); text = sym (rw (decimal_digit 2 (lit< tt)) refl) }, λ e. absurd (omega arith))),
 )
 
-bytes_after : HasFault names (codes "end moves=0 tables=0\n\n") After
+bytes_after : HasTextFault names (codes "end moves=0 tables=0\n\n") After
 bytes_after = (
   [],
   codes "end moves=0 tables=0\n\n",
@@ -151,10 +151,10 @@ bytes_after = (
   (0, 0, codes "\n", record { few_moves = lit< tt; few_tables = lit< tt; text = sym (rw (decimal_digit 0 (lit< tt)) refl) }, lit< tt),
 )
 
-no_end : HasFault names [] NoEnd
+no_end : HasTextFault names [] NoEnd
 no_end = ([], [], nothing [], refl)
 
-end_without_newline : Answers names (codes "end moves=0 tables=0") (Err (BadLine 1))
+end_without_newline : ReadsJournal names (codes "end moves=0 tables=0") (Err (BadLine 1))
 end_without_newline = (
   [],
   codes "end moves=0 tables=0",

@@ -13,7 +13,7 @@ use Rattle.move_journal.specs.declared.lines.Part.TheVariants.{Whole, Open}
 use Rattle.move_journal.specs.declared.reading.Head.{Head}
 use Rattle.move_journal.specs.declared.reading.Head.TheVariants.{Numbered, End, Other}
 use Rattle.move_journal.specs.Printable.{IsPrintable}
-use Rattle.move_journal.specs.Answers.{IsTextOf, IsFrontOf, BeginsWithEnd, Reads, Stops, Answers, AnswersPrefix}
+use Rattle.move_journal.specs.Answers.{IsTextOf, IsFrontOf, BeginsWithEnd, Reads, Stops, ReadsJournal, AnswersPrefix}
 use Rattle.move_journal.specs.Heads.{IsHead, IsContent}
 use Rattle.move_journal.specs.Words.{word_list, numbered_of, end_of}
 use Rattle.move_journal.proofs.Again.{IsOneLine}
@@ -103,7 +103,7 @@ front_of_way N bytes lines w = record {
     no_bytes [] e = refl
     no_bytes (b ∷ rest) e = absurd (omega (arith, e))
 
-answer_of_way : (N : Names) (bytes : List ℕ) (lines : List Line) (e : Ending) → Way N bytes lines e → (a : Result Journal BadText) × (a ≡ Err Memory → ⊥) × Answers N bytes a
+answer_of_way : (N : Names) (bytes : List ℕ) (lines : List Line) (e : Ending) → Way N bytes lines e → (a : Result Journal BadText) × (a ≡ Err Memory → ⊥) × ReadsJournal N bytes a
 answer_of_way N bytes lines (ended m t) w = (Ok (record { lines = lines; moves = m; tables = t }), (λ e. absurd cc), text_of_way N bytes lines m t w)
 answer_of_way N bytes lines (bad (BadLine j)) w = (Err (BadLine j), (λ e. absurd cc), (lines, w.rest, w.reads, w.ends))
 answer_of_way N bytes lines (bad (Number j)) w = (Err (Number j), (λ e. absurd cc), (lines, w.rest, w.reads, w.ends))
@@ -119,7 +119,7 @@ prefix_of_way N bytes lines (bad After) w = (Err After, (λ e. absurd cc), (line
 prefix_of_way N bytes lines (bad NoEnd) w = (Ok (Open (with_counts lines)), (λ e. absurd cc), front_of_way N bytes lines w)
 prefix_of_way N bytes lines (bad Memory) w = absurd w.ends
 
-pub some_answer : (N : Names) (bytes : List ℕ) → IsNames N → (a : Result Journal BadText) × (a ≡ Err Memory → ⊥) × Answers N bytes a
+pub some_answer : (N : Names) (bytes : List ℕ) → IsNames N → (a : Result Journal BadText) × (a ≡ Err Memory → ⊥) × ReadsJournal N bytes a
 some_answer N bytes names = let way = readable N bytes names in answer_of_way N bytes way.0 way.1 way.2
 
 pub some_prefix : (N : Names) (bytes : List ℕ) → IsNames N → (a : Result Part BadText) × (a ≡ Err Memory → ⊥) × AnswersPrefix N bytes a

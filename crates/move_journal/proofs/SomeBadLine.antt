@@ -18,7 +18,7 @@ use Rattle.table_exchange.specs.Tables.{AreTables, Stands}
 use Rattle.table_exchange.proofs.Standings.{stands_line}
 use Rattle.move_journal.specs.declared.faults.BadLine.{BadLine}
 use Rattle.move_journal.specs.declared.faults.BadLine.TheVariants as bad
-use Rattle.move_journal.specs.Replays.{IsStep, IsBad, HasBadLine}
+use Rattle.move_journal.specs.Replays.{IsStepBetween, IsBad, HasBadLine}
 
 -- what is offered are tables
 abbrev pub AreSound : List Offer → Type 0
@@ -28,12 +28,12 @@ AreSound tables = (t : ℕ) → t < length tables → IsTable (offer tables t).t
 abbrev Judged : List Offer → Yard → ℕ → Line → Type 0
 Judged tables y k l = IsLine tables y l ⊎ ((e : BadLine) × IsBad tables y k l e)
 
-decide_step : (T : Table) (p : List ℕ) (i from : ℕ) (to : Option ℕ) → Dec (IsStep T p i from to)
+decide_step : (T : Table) (p : List ℕ) (i from : ℕ) (to : Option ℕ) → Dec (IsStepBetween T p i from to)
 decide_step T p i from to = decide_× _ _ (decide_same (point T i (place p i)) (Some from)) (decide_same (point T i (place p i + 1)) to)
 
 -- a move between the right points, by what its train is told
 judged_told : (tables : List Offer) (y : Yard) (k i from : ℕ) (to : Option ℕ) (a : Ask) → i < trains (in_force tables y)
-    → IsStep (in_force tables y) y.positions i from to → Answers (in_force tables y) y.positions i a → Judged tables y k (Move i from to)
+    → IsStepBetween (in_force tables y) y.positions i from to → Answers (in_force tables y) y.positions i a → Judged tables y k (Move i from to)
 judged_told tables y k i from to Yes within at answer = inl (answer, at.0, at.1)
 judged_told tables y k i from to AtEnd within at answer = inr (bad.Move k AtEnd, (refl, (within, answer, (λ e. absurd cc), inl refl)))
 judged_told tables y k i from to (Occupied by) within at answer = inr (bad.Move k (Occupied by), (refl, (within, answer, (λ e. absurd cc), inr at)))

@@ -11,15 +11,15 @@ use Rattle.table_exchange.specs.Tables.{AreTables, Stands}
 use Rattle.table_exchange.proofs.Arrivals.{arrived_unless}
 use Rattle.move_journal.specs.declared.faults.BadLine.{BadLine}
 use Rattle.move_journal.specs.declared.faults.BadLine.TheVariants as bad
-use Rattle.move_journal.specs.Counted.{AreTrue}
-use Rattle.move_journal.specs.Replays.{Lacks, IsNotWhole}
+use Rattle.move_journal.specs.Counted.{CountsAreTrue}
+use Rattle.move_journal.specs.Replays.{Lacks, IsBrokenJournal}
 use Rattle.move_journal.proofs.SomeBadLine.{AreSound, right_or_some_bad}
 
 decide_unfinished : (tables : List Offer) (y : Yard) (i : ℕ) → Dec (IsUnfinished (in_force tables y) y.positions i)
 decide_unfinished tables y i = decide_× _ _ (decide_< i (trains (in_force tables y))) (decide_¬ _ (cases_eq (place y.positions i) (last (in_force tables y) i)))
 
 -- nothing lacks where lines end, or something does
-done_or_lack : (tables : List Offer) (y : Yard) (K : Journal) → (IsDone tables y × AreTrue K) ⊎ ((e : BadLine) × Lacks tables y K e)
+done_or_lack : (tables : List Offer) (y : Yard) (K : Journal) → (IsDone tables y × CountsAreTrue K) ⊎ ((e : BadLine) × Lacks tables y K e)
 done_or_lack tables y K = elim (first_or_none (trains (in_force tables y)) (IsUnfinished (in_force tables y) y.positions) (decide_unfinished tables y) (λ i unfinished. unfinished.0)) [
   | inl found ↦ inr (bad.Unfinished found.0, found.1)
   | inr none ↦
@@ -34,7 +34,7 @@ done_or_lack tables y K = elim (first_or_none (trains (in_force tables y)) (IsUn
 ]
 
 pub whole_or_some_cause : (tables : List Offer) (y : Yard) (K : Journal) → AreTables tables → Stands tables y → AreSound tables
-    → IsWhole tables y K ⊎ ((e : BadLine) × IsNotWhole tables y K e)
+    → IsWhole tables y K ⊎ ((e : BadLine) × IsBrokenJournal tables y K e)
 whole_or_some_cause tables y K are s sound = elim (right_or_some_bad tables y K.lines are s sound) [
   | inr h ↦ inr (h.0, inl h.1)
   | inl right ↦ elim (done_or_lack tables (after_lines y K.lines) K) [

@@ -8,7 +8,7 @@ use Rattle.move_journal.specs.declared.faults.BadText.TheVariants.{Line as BadLi
 use Rattle.move_journal.specs.declared.lines.Part.{Part}
 use Rattle.move_journal.specs.declared.lines.Part.TheVariants.{Whole, Open}
 use Rattle.move_journal.specs.Printable.{IsPrintable, ArePrintable, HasText}
-use Rattle.move_journal.specs.Counted.{AreTrue}
+use Rattle.move_journal.specs.Counted.{CountsAreTrue}
 
 -- The bytes are the journal's text.
 pub record IsTextOf (N : Names) (bytes : List ℕ) (J : Journal) : Type 0 where
@@ -19,7 +19,7 @@ pub record IsTextOf (N : Names) (bytes : List ℕ) (J : Journal) : Type 0 where
 pub record IsFrontOf (N : Names) (bytes : List ℕ) (J : Journal) : Type 0 where
   pub lines : ArePrintable N J.lines
   pub text : bytes ≡ lines_text N 1 J.lines
-  pub counts : AreTrue J
+  pub counts : CountsAreTrue J
 
 -- The bytes begin with a line and its number.
 pub record BeginsWithLine (N : Names) (bytes : List ℕ) (n : ℕ) (l : Line) (later : List ℕ) : Type 0 where
@@ -52,14 +52,14 @@ Stops N k rest NoEnd = length rest ≡ 0
 Stops N k rest Memory = ⊥
 
 -- The fault that comes first: all lines before it are there with their numbers.
-abbrev pub HasFault : Names → List ℕ → BadText → Type 0
-HasFault N bytes e = (lines : List Line) × (rest : List ℕ) × Reads N bytes lines rest × Stops N (length lines + 1) rest e
+abbrev pub HasTextFault : Names → List ℕ → BadText → Type 0
+HasTextFault N bytes e = (lines : List Line) × (rest : List ℕ) × Reads N bytes lines rest × Stops N (length lines + 1) rest e
 
 -- What `read` answers: the journal of the text, or the first fault.
-abbrev pub Answers : Names → List ℕ → Result Journal BadText → Type 0
-Answers N bytes (Ok J) = IsTextOf N bytes J
-Answers N bytes (Err Memory) = Unit {0}
-Answers N bytes (Err e) = HasFault N bytes e
+abbrev pub ReadsJournal : Names → List ℕ → Result Journal BadText → Type 0
+ReadsJournal N bytes (Ok J) = IsTextOf N bytes J
+ReadsJournal N bytes (Err Memory) = Unit {0}
+ReadsJournal N bytes (Err e) = HasTextFault N bytes e
 
 -- The bytes are a text with its end line, or without it.
 abbrev pub IsPart : Names → List ℕ → Part → Type 0
@@ -71,10 +71,10 @@ abbrev pub AnswersPrefix : Names → List ℕ → Result Part BadText → Type 0
 AnswersPrefix N bytes (Ok part) = IsPart N bytes part
 AnswersPrefix N bytes (Err Memory) = Unit {0}
 AnswersPrefix N bytes (Err NoEnd) = ⊥
-AnswersPrefix N bytes (Err e) = HasFault N bytes e
+AnswersPrefix N bytes (Err e) = HasTextFault N bytes e
 
 -- The value is answered, unless memory runs out.
-abbrev pub Gives : {A : Type 0} → A → Result A BadText → Type 0
-Gives a (Ok b) = b ≡ a
-Gives a (Err Memory) = Unit {0}
-Gives a (Err e) = ⊥
+abbrev pub GivesValue : {A : Type 0} → A → Result A BadText → Type 0
+GivesValue a (Ok b) = b ≡ a
+GivesValue a (Err Memory) = Unit {0}
+GivesValue a (Err e) = ⊥

@@ -10,9 +10,9 @@ ghost use Rattle.move_journal.specs.declared.faults.BadText.TheVariants.{Memory}
 ghost use Rattle.move_journal.specs.declared.faults.BadLine.{BadLine as BadLineValue};
 ghost use Rattle.move_journal.specs.declared.lines.Part.{Part as PartValue};
 ghost use Rattle.table_exchange.specs.Tables.{AreTables, Stands};
-ghost use Rattle.move_journal.specs.Replays.{HasBadLine, IsNotWhole};
+ghost use Rattle.move_journal.specs.Replays.{HasBadLine, IsBrokenJournal};
 ghost use Rattle.move_journal.specs.Printable.{HasText};
-ghost use Rattle.move_journal.specs.Answers.{Answers, AnswersPrefix, IsFrontOf};
+ghost use Rattle.move_journal.specs.Answers.{ReadsJournal, AnswersPrefix, IsFrontOf};
 
 /// Two journals never have one text.
 pub fn one_journal_per_text()
@@ -22,11 +22,11 @@ pub fn one_journal_per_text()
 /// For each text a reader has exactly one answer other than being out of memory.
 pub fn one_answer_per_text()
     ensures some_whole { (N : Names) (bytes : List ℕ) → IsNames N
-        → (a : Result Journal BadTextValue) × (a ≡ Err Memory → ⊥) × Answers N bytes a }
+        → (a : Result Journal BadTextValue) × (a ≡ Err Memory → ⊥) × ReadsJournal N bytes a }
     ensures some_front { (N : Names) (bytes : List ℕ) → IsNames N
         → (a : Result PartValue BadTextValue) × (a ≡ Err Memory → ⊥) × AnswersPrefix N bytes a }
     ensures whole { (N : Names) (bytes : List ℕ) (a b : Result Journal BadTextValue) → IsNames N
-        → (a ≡ Err Memory → ⊥) → (b ≡ Err Memory → ⊥) → Answers N bytes a → Answers N bytes b → a ≡ b }
+        → (a ≡ Err Memory → ⊥) → (b ≡ Err Memory → ⊥) → ReadsJournal N bytes a → ReadsJournal N bytes b → a ≡ b }
     ensures front { (N : Names) (bytes : List ℕ) (a b : Result PartValue BadTextValue) → IsNames N
         → (a ≡ Err Memory → ⊥) → (b ≡ Err Memory → ⊥) → AnswersPrefix N bytes a → AnswersPrefix N bytes b → a ≡ b }
 {}
@@ -51,8 +51,8 @@ pub fn right_or_one_bad_line()
 pub fn whole_or_one_cause()
     ensures some { (tables : List Offer) (y : Yard) (J : Journal) → AreTables tables → Stands tables y
         → ((t : ℕ) → t < length tables → IsTable (offer tables t).table)
-        → IsWhole tables y J ⊎ ((e : BadLineValue) × IsNotWhole tables y J e) }
-    ensures not_both { (tables : List Offer) (y : Yard) (J : Journal) (e : BadLineValue) → IsWhole tables y J → IsNotWhole tables y J e → ⊥ }
+        → IsWhole tables y J ⊎ ((e : BadLineValue) × IsBrokenJournal tables y J e) }
+    ensures not_both { (tables : List Offer) (y : Yard) (J : Journal) (e : BadLineValue) → IsWhole tables y J → IsBrokenJournal tables y J e → ⊥ }
     ensures one { (tables : List Offer) (y : Yard) (J : Journal) (e f : BadLineValue) → AreTables tables → Stands tables y
-        → IsNotWhole tables y J e → IsNotWhole tables y J f → e ≡ f }
+        → IsBrokenJournal tables y J e → IsBrokenJournal tables y J f → e ≡ f }
 {}

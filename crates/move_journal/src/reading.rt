@@ -3,7 +3,7 @@ ghost use Rattle.std.specs.Prelude.{◌≡◌, ℕ, List};
 ghost use Rattle.rail_model.specs.Journal.{Journal as JournalValue};
 ghost use Rattle.rail_model.specs.Names.{Names as NamesValue, IsNames};
 ghost use Rattle.move_journal.specs.declared.lines.Part.{Part as PartValue};
-ghost use Rattle.move_journal.specs.Answers.{Answers, AnswersPrefix, Gives, IsPart, IsTextOf};
+ghost use Rattle.move_journal.specs.Answers.{ReadsJournal, AnswersPrefix, GivesValue, IsPart, IsTextOf};
 ghost use Rattle.move_journal.specs.Heads.{IsHead, IsContent};
 
 use crate::words::{end_of, numbered_of, split_once};
@@ -19,9 +19,9 @@ use std::alloc::Global;
 /// after the end line, or no end line. `Memory` where memory runs out, whatever the bytes are.
 pub fn read(alloc: Global, names: &Names, bytes: &[u8]) -> Result<Journal, BadText>
     // The text of a journal, or its first fault.
-    ensures exact { Answers names.now bytes.now result }
+    ensures exact { ReadsJournal names.now bytes.now result }
     // What was written is read again, unless memory runs out.
-    ensures again { (J : JournalValue) → IsTextOf names.now bytes.now J → Gives J result }
+    ensures again { (J : JournalValue) → IsTextOf names.now bytes.now J → GivesValue J result }
 {
     whole(read_prefix(alloc, names, bytes))
 }
@@ -35,7 +35,7 @@ pub fn read_prefix(alloc: Global, names: &Names, bytes: &[u8]) -> Result<Part, B
     // A text or its front, or the first fault.
     ensures exact { AnswersPrefix names.now bytes.now result }
     // What was written is read again, unless memory runs out.
-    ensures again { (part : PartValue) → IsPart names.now bytes.now part → Gives part result }
+    ensures again { (part : PartValue) → IsPart names.now bytes.now part → GivesValue part result }
     ensures formed { IsNames names.now }
 {
     // Read for the proof: the names are well formed.
@@ -45,7 +45,7 @@ pub fn read_prefix(alloc: Global, names: &Names, bytes: &[u8]) -> Result<Part, B
 
 // A text that lacks its end line is no text.
 fn whole(part: Result<Part, BadText>) -> Result<Journal, BadText>
-    ensures { (N : NamesValue) (bytes : List ℕ) → AnswersPrefix N bytes part → Answers N bytes result }
+    ensures { (N : NamesValue) (bytes : List ℕ) → AnswersPrefix N bytes part → ReadsJournal N bytes result }
 {
     match part {
         Ok(Part::Whole(journal)) => Ok(journal),

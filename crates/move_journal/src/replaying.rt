@@ -8,7 +8,7 @@ ghost use Rattle.rail_model.specs.declared.types.Tried.TheVariants.{Early, NoMor
 ghost use Rattle.rail_model.specs.declared.types.Line.TheVariants.{Move as MoveLine};
 ghost use Rattle.table_exchange.specs.Steps.{after_tried};
 ghost use Rattle.table_exchange.specs.Tables.{AreTables, Stands};
-ghost use Rattle.move_journal.specs.Replays.{IsStep, IsBad, Replays};
+ghost use Rattle.move_journal.specs.Replays.{IsStepBetween, IsBad, Replays};
 
 use crate::{BadLine, Journal};
 use rail_model::{
@@ -118,7 +118,7 @@ fn is_step(table: &Table, state: &State, train: u32, from: u32, to: Option<u32>)
     requires size { length state.now ≡ trains table.now }
     requires train { train < trains table.now }
     requires unfinished { place state.now train < last table.now train }
-    ensures { IsTrue result ↔ IsStep table.now state.now train from to }
+    ensures { IsTrue result ↔ IsStepBetween table.now state.now train from to }
 {
     // Read for the proof: a train's places are few.
     let _last = last_of(table, train);

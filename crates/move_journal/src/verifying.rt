@@ -4,7 +4,7 @@ ghost use Rattle.rail_model.specs.State.{Legal};
 ghost use Rattle.rail_model.specs.Yard.{offer, opening};
 ghost use Rattle.rail_model.specs.Journal.{IsDone};
 ghost use Rattle.table_exchange.specs.Tables.{AreTables, Stands};
-ghost use Rattle.move_journal.specs.Counted.{AreTrue};
+ghost use Rattle.move_journal.specs.Counted.{CountsAreTrue};
 ghost use Rattle.move_journal.specs.Replays.{Lacks, Verifies};
 
 use crate::lines::{moves_of, tables_of};
@@ -38,7 +38,7 @@ fn check_end<A: HasTable>(tables: &[A], yard: &Standing, journal: &Journal) -> R
     requires tables { AreTables (map A.offer tables.now) }
     requires stands { Stands (map A.offer tables.now) yard.now }
     ensures done { OnOk result (IsDone (map A.offer tables.now) yard.now) }
-    ensures counted { OnOk result (AreTrue journal.now) }
+    ensures counted { OnOk result (CountsAreTrue journal.now) }
     ensures lacks { IfErr result (Lacks (map A.offer tables.now) yard.now journal.now) }
 {
     if let Some(train) = first_unfinished(in_force(tables, yard), yard.positions()) {

@@ -54,6 +54,6 @@ IsReading text (PlanRead.Plan plan) = Agrees text plan
 IsReading text (PlanRead.Faults faults) = 0 < vec_len faults
 
 -- a text is read right: as a plan only if it is UTF-8 and TOML, and the plan agrees with it; with one fault at least otherwise
-abbrev pub IsRead : List ℕ → PlanRead → Type 0
-IsRead text (PlanRead.Plan plan) = IsUtf8 text × IsSomeAnd (parse_document text) (λ document. Agrees document plan)
-IsRead text (PlanRead.Faults faults) = 0 < vec_len faults
+abbrev pub IsPlanRead : List ℕ → PlanRead → Type 0
+IsPlanRead text (PlanRead.Plan plan) = IsUtf8 text × IsSomeAnd (parse_document text) (λ document. Agrees document plan)
+IsPlanRead text (PlanRead.Faults faults) = 0 < vec_len faults

@@ -1,7 +1,7 @@
 // A plan from its text.
 ghost use Rattle.std.specs.Prelude.{◌<◌, IfOk, vec_len};
 ghost use Rattle.toml.specs.View.{table_view};
-ghost use Rattle.plan_reading.specs.Said.{IsRead, IsReading};
+ghost use Rattle.plan_reading.specs.Said.{IsPlanRead, IsReading};
 
 use crate::agreement::agrees;
 use crate::tables::plan_of;
@@ -38,7 +38,7 @@ fn one_fault(
     what: &str,
     why: &str,
 ) -> Result<PlanRead, AllocError>
-    ensures { IfOk result (λ read. IsRead text.now read) }
+    ensures { IfOk result (λ read. IsPlanRead text.now read) }
 {
     let mut words = String::from_str(alloc, what)?;
     words.push_str(why)?;
@@ -50,7 +50,7 @@ fn one_fault(
 
 // What a text that isn't TOML is as a plan.
 fn not_toml(alloc: Global, text: &[u8], error: &Error) -> Result<PlanRead, AllocError>
-    ensures { IfOk result (λ read. IsRead text.now read) }
+    ensures { IfOk result (λ read. IsPlanRead text.now read) }
 {
     match error.span() {
         Some(span) => one_fault(alloc, text, span.start, "no TOML: ", error.message()),
@@ -105,7 +105,7 @@ fn read_table(alloc: Global, text: &str, table: &Table) -> Result<PlanRead, Allo
 ///   the first table: `route`, `exit`, `times`. Its `section` and `connection`, if there are any, replace those of the first
 ///   table, which else hold by the names of their points.
 pub fn read_plan(alloc: Global, text: &[u8]) -> Result<PlanRead, AllocError>
-    ensures { IfOk result (IsRead text.now) }
+    ensures { IfOk result (IsPlanRead text.now) }
 {
     let words = match std::str::from_utf8(text) {
         Ok(words) => words,

@@ -8,7 +8,7 @@ use Rattle.layout_json.specs.Reading.{doc_of}
 use Rattle.layout_json.specs.Doc.{Doc, table_at}
 use Rattle.plan_document.specs.Written.{document_of}
 use Rattle.plan_document.specs.declared.plan.Plan.{Plan}
-use Rattle.plan_reading.specs.Said.{IsRead}
+use Rattle.plan_reading.specs.Said.{IsPlanRead}
 use Rattle.plan_reading.specs.declared.reading.PlanRead.TheVariants.{Plan as AsPlan}
 use Rattle.refusal_sentences.specs.Explains.{ExplainsState}
 use Rattle.refusal_sentences.specs.ExplainedLines.{ExplainsLine}
@@ -28,24 +28,24 @@ use Rattle.planner_run.specs.declared.top.Status.{Status}
 use Rattle.planner_run.specs.declared.top.Status.TheVariants.{Done, Faulty, Failed}
 
 -- The text reads as a document.
-abbrev pub IsDocument : List ℕ → Type 0
-IsDocument text = (document : Doc) × (doc_of text ≡ Ok document)
+abbrev pub ReadsAsDocument : List ℕ → Type 0
+ReadsAsDocument text = (document : Doc) × (doc_of text ≡ Ok document)
 
 -- The input is a plan, whose document the text is, and it reads as one.
 pub record IsPlanned (input text : List ℕ) : Type 0 where
   pub plan : Plan
-  pub is_plan : IsRead input (AsPlan plan)
+  pub is_plan : IsPlanRead input (AsPlan plan)
   pub is_text : text ≡ text_of (document_of plan)
-  pub is_document : IsDocument text
+  pub is_document : ReadsAsDocument text
 
 -- the text of what explains something
-abbrev pub Tells : Explained → List ℕ → Type 0
-Tells (State words) text = text ≡ string_bytes words
-Tells (Refusal words) text = text ≡ string_bytes words
-Tells (NotLegal cause words) text = text ≡ string_bytes words
-Tells (NoTable tables words) text = ⊥
-Tells (NoDocument refused words) text = ⊥
-Tells (NoLine words) text = ⊥
+abbrev pub ExplainsAs : Explained → List ℕ → Type 0
+ExplainsAs (State words) text = text ≡ string_bytes words
+ExplainsAs (Refusal words) text = text ≡ string_bytes words
+ExplainsAs (NotLegal cause words) text = text ≡ string_bytes words
+ExplainsAs (NoTable tables words) text = ⊥
+ExplainsAs (NoDocument refused words) text = ⊥
+ExplainsAs (NoLine words) text = ⊥
 
 -- The text explains the positions that the words name, under the table that they name.
 pub record ExplainsPlaces (input table_words place_words text : List ℕ) : Type 0 where
@@ -55,13 +55,13 @@ pub record ExplainsPlaces (input table_words place_words text : List ℕ) : Type
   pub is_table : number_of table_words ≡ Some table
   pub are_places : place_words ≡ places_words places
   pub explains : ExplainsState input table places told
-  pub tells : Tells told text
+  pub tells : ExplainsAs told text
 
 -- The text explains a line of ats.
 pub record ExplainsWords (input line text : List ℕ) : Type 0 where
   pub told : Explained
   pub explains : ExplainsLine input line told
-  pub tells : Tells told text
+  pub tells : ExplainsAs told text
 
 -- The text is the graph of a timed run of a document: a picture with one mark for each step.
 pub record IsGraphText (text : List ℕ) : Type 0 where

@@ -1,6 +1,6 @@
 // Explanations of states and of lines.
 ghost use Rattle.std.specs.Prelude.{◌≡◌, IfOk};
-ghost use Rattle.planner_run.specs.Answered.{IfText, Tells, ExplainsPlaces, ExplainsWords};
+ghost use Rattle.planner_run.specs.Answered.{IfText, ExplainsAs, ExplainsPlaces, ExplainsWords};
 
 use crate::Answer;
 use decimal_number::number_of;
@@ -45,7 +45,7 @@ pub(crate) fn line(alloc: Global, input: &[u8], line: &str) -> Result<Answer, Al
 
 // An explanation as an answer: what explains nothing says what is wrong.
 fn answer_of(explained: Explained) -> Answer
-    ensures { IfText (Tells explained) result }
+    ensures { IfText (ExplainsAs explained) result }
 {
     match explained {
         Explained::State(text) | Explained::Refusal(text) | Explained::NotLegal { text, .. } =>

@@ -1,8 +1,8 @@
 // The document of a plan.
 ghost use Rattle.std.specs.Prelude.{◌≡◌, IfOk, IfNone};
-ghost use Rattle.plan_reading.specs.Said.{IsRead};
+ghost use Rattle.plan_reading.specs.Said.{IsPlanRead};
 ghost use Rattle.plan_reading.specs.declared.reading.PlanRead.TheVariants.{Plan as AsPlan};
-ghost use Rattle.planner_run.specs.Answered.{IfText, IsDocument, IsPlanned};
+ghost use Rattle.planner_run.specs.Answered.{IfText, ReadsAsDocument, IsPlanned};
 
 use crate::Answer;
 use layout_json::{DocRefused, document};
@@ -34,7 +34,7 @@ fn lines_of(alloc: Global, faults: &[Fault]) -> Result<String, AllocError> {
 
 // The document of a plan that was read of a text, if it reads as one.
 fn planned(alloc: Global, text: &[u8], plan: Plan) -> Result<Answer, AllocError>
-    requires { IsRead text.now (AsPlan plan) }
+    requires { IsPlanRead text.now (AsPlan plan) }
     ensures { IfOk result (IfText (IsPlanned text.now)) }
 {
     let document = written(alloc, plan)?;
@@ -46,7 +46,7 @@ fn planned(alloc: Global, text: &[u8], plan: Plan) -> Result<Answer, AllocError>
 
 // Why a text is no document, if it isn't one.
 fn refusal_of(alloc: Global, text: &[u8]) -> Result<Option<String>, AllocError>
-    ensures { IfOk result (λ line. IfNone line (IsDocument text.now)) }
+    ensures { IfOk result (λ line. IfNone line (ReadsAsDocument text.now)) }
 {
     match document(alloc, text) {
         Ok(_) => Ok(None),

@@ -4,7 +4,7 @@ use Rattle.std.specs.Bool.{then_some}
 use Rattle.std.specs.Option.{option_or}
 use Rattle.std.specs.Result.{result_err}
 use Rattle.std.proofs.lemmas.Bool.Decides.{eqb_tells}
-use Rattle.rail_model.specs.Turns.{first_of, first_below, unless, Answers}
+use Rattle.rail_model.specs.Turns.{first_of, first_below, unless, AnswersAs}
 
 -- after rows that refuse nothing, the first refusal is that of the rows after them
 pub first_of-after : {E : Type 0} (rs ss : List (Option E)) → first_of rs ≡ None → first_of (rs ++ ss) ≡ first_of ss
@@ -122,7 +122,7 @@ unless-err (Some x) a e h = let s : x ≡ e = cc in ap Some s
 
 -- an error that is passed up answers what its call answers
 pub Answers-err : {A B E : Type 0} (memory : E) (see : A → B) (result : Result A E) (wanted : Result B E) (e : E) → IsErrAnd result (λ y. y ≡ e)
-    → (e ≡ memory) ⊎ (wanted ≡ Err e) → Answers memory see result wanted
+    → (e ≡ memory) ⊎ (wanted ≡ Err e) → AnswersAs memory see result wanted
 Answers-err memory see (Ok a) wanted e is h = absurd is
 Answers-err memory see (Err y) wanted e is h = subst (λ x. (x ≡ memory) ⊎ (wanted ≡ Err x)) (sym is) h
 

@@ -23,5 +23,5 @@ in_turn (Ok a) next = next a
 in_turn (Err e) next = Err e
 
 -- The call answers what is wanted, as `see` shows it, or out of memory.
-abbrev pub Answers : {A B E : Type 0} → E → (A → B) → Result A E → Result B E → Type 0
-Answers memory see result wanted = MatchResult result (λ a. wanted ≡ Ok (see a)) (λ e. (e ≡ memory) ⊎ (wanted ≡ Err e))
+abbrev pub AnswersAs : {A B E : Type 0} → E → (A → B) → Result A E → Result B E → Type 0
+AnswersAs memory see result wanted = MatchResult result (λ a. wanted ≡ Ok (see a)) (λ e. (e ≡ memory) ⊎ (wanted ≡ Err e))

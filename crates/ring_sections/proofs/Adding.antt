@@ -9,7 +9,7 @@ use Rattle.ring_sections.specs.declared.refused.Rings.{Rings}
 use Rattle.ring_sections.specs.declared.refused.Rings.TheVariants.{Many, Memory}
 use Rattle.ring_sections.specs.Ring.{Pair, pairs}
 use Rattle.ring_sections.specs.Search.{own_ring, rings_from}
-use Rattle.ring_sections.specs.Answer.{Adds}
+use Rattle.ring_sections.specs.Answer.{AddsRings}
 use Rattle.ring_sections.proofs.Pruned.{rings_from-zero, rings_from-next}
 
 -- nothing is to be added
@@ -28,11 +28,11 @@ more-fail e some rest fails = elim fails [
 
 -- an error came while a first part was added
 pub adds_err : {U : Type 0} (before after first rest whole : List (List Pair)) (r : Result U Rings) (e : Rings) → IsErrAnd r (λ y. y ≡ e) → whole ≡ first ++ rest →
-    Fails (before ++ first) e → Adds before after whole r
+    Fails (before ++ first) e → AddsRings before after whole r
 adds_err before after first rest whole r e at split fails =
     let all : Fails (before ++ whole) e =
     subst (λ v. Fails v e) (append_assoc before first rest ∙ ap (λ v. before ++ v) (sym split)) (more-fail e (before ++ first) rest fails) in
-    subst (Adds before after whole) (sym (Err-is r e at)) all
+    subst (AddsRings before after whole) (sym (Err-is r e at)) all
 
 -- the pairs' own circular wait comes first
 pub own_first : (M : List Mission) (r : List Pair) (n : ℕ) → (rest : List (List Pair)) × (rings_from M r n ≡ own_ring M r ++ rest)
@@ -65,7 +65,7 @@ module _ {X : Type 0} (f : X → List (List Pair)) (xs : List X) (k : ℕ) (x : 
   added_more after added pushed value = pushed ∙ ap (λ v. before ++ v) value ∙ with-part ∙ ap (λ v. base ++ (own ++ v)) (sym (flat-more f xs k x l at))
 
   -- an error came while a part was added
-  pub failed_part : {U : Type 0} (after whole : List (List Pair)) (r : Result U Rings) (e : Rings) → whole ≡ own ++ flat_map f xs → IsErrAnd r (λ y. y ≡ e) → Fails (before ++ f x) e → Adds base after whole r
+  pub failed_part : {U : Type 0} (after whole : List (List Pair)) (r : Result U Rings) (e : Rings) → whole ≡ own ++ flat_map f xs → IsErrAnd r (λ y. y ≡ e) → Fails (before ++ f x) e → AddsRings base after whole r
   failed_part after whole r e split err fails =
       let rest : List (List Pair) = flat_map f (drop (k + 1) xs) in
       adds_err base after (own ++ (flat_map f (take k xs) ++ f x)) rest whole r e err

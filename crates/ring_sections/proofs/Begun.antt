@@ -7,7 +7,7 @@ use Rattle.std.proofs.lemmas.Bool.Decides.{Decides-and, Decides-ltb, Decides-eqb
 use Rattle.std.proofs.Math.Nat.{mod_self, mod-eq_of_lt}
 use Rattle.rail_model.specs.Table.{Mission}
 use Rattle.ring_sections.specs.Ring.{Pair, IsRing, pair_at, point_at, next_point}
-use Rattle.ring_sections.specs.Search.{IsPair, WaitsFor, IsTaken, fits}
+use Rattle.ring_sections.specs.Search.{IsPair, WantsPointOf, IsPointTaken, fits}
 use Rattle.ring_sections.proofs.RingTests.{Decides-any_index}
 
 pub at_old : (r later : List Pair) (k : ℕ) → k < length r → pair_at (r ++ later) k ≡ pair_at r k
@@ -23,25 +23,25 @@ pub Decides-fits : (r : List Pair) (w : Pair) → Decides (fits r w) (((pair_at 
 Decides-fits r w = Decides-and _ _ (Decides-ltb _ _) (Decides-any_index (λ v. v.0 == w.0) (λ v. v.0 ≡ w.0) (λ v. Decides-eqb v.0 w.0) (0, 0) r)
 
 -- the last pair waits for the first
-pub waits_for_first : (M : List Mission) (r : List Pair) → 0 < length r → IsRing M r → WaitsFor M (pair_at r (length r - 1)) (pair_at r 0)
+pub waits_for_first : (M : List Mission) (r : List Pair) → 0 < length r → IsRing M r → WantsPointOf M (pair_at r (length r - 1)) (pair_at r 0)
 waits_for_first M r some ring =
     let k : ℕ = length r - 1 in
     let e : k + 1 ≡ length r = omega arith in
     let m : (k + 1) % length r ≡ 0 = ap (λ j. j % length r) e ∙ mod_self (length r) in
-    subst (λ v. WaitsFor M (pair_at r k) v) (ap (pair_at r) m) (ring.waits k (omega arith))
+    subst (λ v. WantsPointOf M (pair_at r k) v) (ap (pair_at r) m) (ring.waits k (omega arith))
 
 module _ (M : List Mission) (r : List Pair) (w : Pair) (later : List Pair) (some : 0 < length r) (ring : IsRing M (r ++ w ∷ later)) where
   longer : length r < length (r ++ w ∷ later)
   longer = omega (arith, length-append r (w ∷ later))
 
   -- the last pair waits for the one that follows
-  waits_for_next : WaitsFor M (pair_at r (length r - 1)) w
+  waits_for_next : WantsPointOf M (pair_at r (length r - 1)) w
   waits_for_next =
       let x : List Pair = r ++ w ∷ later in
       let k : ℕ = length r - 1 in
       let m : (k + 1) % length x ≡ length r = ap (λ j. j % length x) (let e : k + 1 ≡ length r = omega arith in e) ∙ mod-eq_of_lt longer in
-      subst (λ v. WaitsFor M v w) (at_old r (w ∷ later) k (omega arith))
-      (subst (λ v. WaitsFor M (pair_at x k) v) (ap (pair_at x) m ∙ at_new r w later) (ring.waits k (omega (arith, longer))))
+      subst (λ v. WantsPointOf M v w) (at_old r (w ∷ later) k (omega arith))
+      (subst (λ v. WantsPointOf M (pair_at x k) v) (ap (pair_at x) m ∙ at_new r w later) (ring.waits k (omega (arith, longer))))
 
   -- what comes next is a pair, at the point that is wanted
   pub next_valid : IsPair M w
@@ -51,7 +51,7 @@ module _ (M : List Mission) (r : List Pair) (w : Pair) (later : List Pair) (some
   next_stands q wanted = waits_for_next.2 ∙ ap Some (same_Some waits_for_next.0 q (sym waits_for_next.1 ∙ wanted))
 
   -- nothing follows where the wanted point is taken
-  pub none_behind : (q : ℕ) → next_point M (pair_at r (length r - 1)) ≡ Some q → IsTaken M r q → ⊥
+  pub none_behind : (q : ℕ) → next_point M (pair_at r (length r - 1)) ≡ Some q → IsPointTaken M r q → ⊥
   none_behind q wanted taken = ring.apart taken.0 (length r) q taken.1 longer
       (subst (λ v. point_at M v ≡ Some q) (sym (at_old r (w ∷ later) taken.0 taken.1)) taken.2)
       (subst (λ v. point_at M v ≡ Some q) (sym (at_new r w later)) (next_stands q wanted))

@@ -9,7 +9,7 @@ use Rattle.rail_model.proofs.Found.{Among}
 use Rattle.ring_sections.specs.declared.leading.Reach.{Reach}
 use Rattle.ring_sections.specs.declared.train_set.TrainSet.{TrainSet}
 use Rattle.ring_sections.specs.Ring.{Pair, IsRing, pair_at, point_at, next_point}
-use Rattle.ring_sections.specs.Search.{IsTaken, standing_at, rings_from}
+use Rattle.ring_sections.specs.Search.{IsPointTaken, standing_at, rings_from}
 use Rattle.ring_sections.specs.Levels.{AreLevels}
 use Rattle.ring_sections.specs.Leading.{HasTrain, MayStand, LeadsBack, IsLost, IsLostBy, IsBehind, IsCovered}
 use Rattle.ring_sections.proofs.RingLists.{among-index}
@@ -67,7 +67,7 @@ module _ (M : List Mission) (way : List Pair) (shut : ℕ) where
       pub lost_shut : from.point ≡ shut → IsLost M way shut from
       lost_shut is = lost_each (λ w later short leads avoid. leads.0.open_point is)
 
-      pub lost_taken : IsTaken M way from.point → IsLost M way shut from
+      pub lost_taken : IsPointTaken M way from.point → IsLost M way shut from
       lost_taken taken = lost_each (λ w later short leads avoid. leads.0.free taken)
 
       -- where nothing leads back by any of the pairs there
@@ -81,7 +81,7 @@ module _ (M : List Mission) (way : List Pair) (shut : ℕ) where
 
   -- The later pairs of a circular wait lead back. Its first pairs begin with a way, and take the point that is shut.
   ring_leads : 0 < length way → (later r : List Pair) (q : ℕ) → 0 < length r → ((k : ℕ) → k < length way → (k < length r) × (pair_at r k ≡ pair_at way k)) →
-      IsTaken M r shut → IsRing M (r ++ later) → next_point M (pair_at r (length r - 1)) ≡ Some q → LeadsBack M way shut q later
+      IsPointTaken M r shut → IsRing M (r ++ later) → next_point M (pair_at r (length r - 1)) ≡ Some q → LeadsBack M way shut q later
   ring_leads begun [] r q some begins closed ring wanted =
       let u = waits_for_first M r some (subst (IsRing M) (append-nil r) ring) in
       let same : u.0 ≡ q = same_Some u.0 q (sym u.1 ∙ wanted) in

@@ -6,7 +6,7 @@ use Rattle.forbidden_states.specs.Forbid.{unmarked}
 use Rattle.ring_sections.specs.declared.levels.Step.{Step}
 use Rattle.ring_sections.specs.Ring.{Pair, point_at, next_point}
 use Rattle.ring_sections.specs.Search.{standing_at, standing}
-use Rattle.ring_sections.specs.Levels.{IsStep, IsMade, Makes, AreSteps, IsStepBelow, IsSettled, AreLevels, IsChart}
+use Rattle.ring_sections.specs.Levels.{IsStep, IsStepMade, MakesStep, AreSteps, IsStepBelow, IsSettled, AreLevels, IsChart}
 use Rattle.ring_sections.proofs.PointBounds.{low_points}
 use Rattle.ring_sections.proofs.RingRows.{uneven}
 
@@ -24,15 +24,15 @@ not_step ((suc i, k), from, to) = cc
 abbrev some_steps : List Step
 some_steps = record { train = 3; from = 5; to = 2 } ∷ []
 
-is_made : IsMade some_steps (record { train = 1; from = 5; to = 2 })
+is_made : IsStepMade some_steps (record { train = 1; from = 5; to = 2 })
 is_made = (record { train = 3; from = 5; to = 2 }, (0, lit< tt, refl), refl, refl, lit≤ tt)
 
-not_made : IsMade some_steps (record { train = 4; from = 5; to = 2 }) → ⊥
+not_made : IsStepMade some_steps (record { train = 4; from = 5; to = 2 }) → ⊥
 not_made (t, (zero, lt, same), from, to, later) = let last : 4 ≤ 3 = subst (λ (s : Step). 4 ≤ s.train) (sym same) later in omega arith
 not_made (t, (suc k, lt, same), from, to, later) = absurd (omega (arith, lt))
 
-makes : Makes uneven some_steps 5 (1, 1)
-makes b next = let same : 2 ≡ b = cc in subst (λ x. IsMade some_steps (record { train = 1; from = 5; to = x })) same is_made
+makes : MakesStep uneven some_steps 5 (1, 1)
+makes b next = let same : 2 ≡ b = cc in subst (λ x. IsStepMade some_steps (record { train = 1; from = 5; to = x })) same is_made
 
 -- one train from point 0 to point 1, and its step
 abbrev one : List Mission
@@ -45,7 +45,7 @@ are_steps = record { are_steps = own; all = all }
     own zero d lt = ((0, 0), refl, refl)
     own (suc k) d lt = absurd (omega (arith, lt))
 
-    all : (q : ℕ) → q < 2 → All (Makes one (record { train = 0; from = 0; to = 1 } ∷ []) q) (standing_at one q)
+    all : (q : ℕ) → q < 2 → All (MakesStep one (record { train = 0; from = 0; to = 1 } ∷ []) q) (standing_at one q)
     all zero less zero d lt b next = let same : 1 ≡ b = cc in (record { train = 0; from = 0; to = 1 }, (0, lit< tt, refl), refl, same, lit≤ tt)
     all zero less (suc k) d lt b next = absurd (omega (arith, lt))
     all (suc zero) less k d lt b next = absurd (omega (arith, lt))

@@ -9,7 +9,7 @@ use Rattle.rail_model.proofs.Found.{Among}
 use Rattle.rail_model.proofs.Agree.{Decides-same_point}
 use Rattle.forbidden_states.proofs.Members.{map-among}
 use Rattle.ring_sections.specs.Ring.{Pair, IsRing, pair_at, point_at, next_point, is_ring, pairs, lists_of, rings}
-use Rattle.ring_sections.specs.Search.{IsTaken, stands_at, standing_at, fits, own_ring, rings_from}
+use Rattle.ring_sections.specs.Search.{IsPointTaken, stands_at, standing_at, fits, own_ring, rings_from}
 use Rattle.ring_sections.proofs.RingTests.{Decides-ring}
 use Rattle.ring_sections.proofs.RingLists.{lists-short}
 use Rattle.ring_sections.proofs.Begun.{next_stands, next_fits, none_behind, wants_some, regrouped}
@@ -75,7 +75,7 @@ module _ (M : List Mission) (r : List Pair) (some : 0 < length r) where
   none_unfit w n unfit = none_from M (r ++ w ∷ []) n (λ later _ ring. both_ways _ unfit (next_fits M r w later some (regrouped M r w later ring)))
 
   -- the wanted point is taken
-  pub none_behind_taken : (n q : ℕ) → next_point M (pair_at r (length r - 1)) ≡ Some q → IsTaken M r q → rings_from M r n ≡ own_ring M r
+  pub none_behind_taken : (n q : ℕ) → next_point M (pair_at r (length r - 1)) ≡ Some q → IsPointTaken M r q → rings_from M r n ≡ own_ring M r
   none_behind_taken zero q wanted taken = rings_from-zero M r
   none_behind_taken (suc n) q wanted taken =
       rings_from-next M r n

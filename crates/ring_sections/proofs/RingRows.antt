@@ -4,7 +4,7 @@ use Rattle.std.specs.Prelude.{replicate, ◌+ℤ◌}
 use Rattle.std.proofs.lemmas.Int.{ints}
 use Rattle.rail_model.specs.Table.{Mission, place, share, count}
 use Rattle.ring_sections.specs.declared.refused.Rings.TheVariants.{Many, Memory}
-use Rattle.ring_sections.specs.Answer.{too_many, Adds}
+use Rattle.ring_sections.specs.Answer.{too_many, AddsRings}
 use Rattle.ring_sections.specs.Marking.{ring_table, HasRing, Excludes}
 use Rattle.ring_sections.specs.Ring.{Pair, IsRing}
 use Rattle.ring_sections.proofs.RingTests.{Decides-ring}
@@ -48,16 +48,16 @@ excludes p r legal (zero, lt, same) has = let two : 2 ≤ 1 = at_most_one (subst
         grind (arith, ints)
 excludes p r legal (suc k, lt, same) has = omega (arith, lt)
 
-added : Adds {U = Unit {0}} (ring ∷ []) (ring ∷ ((0, 0) ∷ []) ∷ []) (((0, 0) ∷ []) ∷ []) (Ok tt)
+added : AddsRings {U = Unit {0}} (ring ∷ []) (ring ∷ ((0, 0) ∷ []) ∷ []) (((0, 0) ∷ []) ∷ []) (Ok tt)
 added = (refl, lit≤ tt)
 
-full : Adds {U = Unit {0}} (replicate 64 ring) [] (ring ∷ []) (Err (Many 65))
+full : AddsRings {U = Unit {0}} (replicate 64 ring) [] (ring ∷ []) (Err (Many 65))
 full = inr (refl, lit< tt)
 
-no_memory : Adds {U = Unit {0}} (ring ∷ []) [] (ring ∷ []) (Err Memory)
+no_memory : AddsRings {U = Unit {0}} (ring ∷ []) [] (ring ∷ []) (Err Memory)
 no_memory = inl refl
 
-not_full : Adds {U = Unit {0}} (replicate 63 ring) [] (ring ∷ []) (Err (Many 65)) → ⊥
+not_full : AddsRings {U = Unit {0}} (replicate 63 ring) [] (ring ∷ []) (Err (Many 65)) → ⊥
 not_full (inl e) = cc
 not_full (inr many) = let more : 64 < 64 = many.1 in omega arith
 

@@ -2,7 +2,7 @@
 use Rattle.std.proofs.Common.{◌≡◌, ℕ, zero, suc, ◌<◌, List, [], ◌∷◌, false, true, refl, lit<, arith}
 use Rattle.rail_model.specs.Table.{Mission}
 use Rattle.ring_sections.specs.Ring.{pair_at}
-use Rattle.ring_sections.specs.Search.{IsPair, WaitsFor, AreApart, IsPlaced, stands_at, standing_at, standing, ArePointsBelow, IsTaken, fits, own_ring, rings_from}
+use Rattle.ring_sections.specs.Search.{IsPair, WantsPointOf, AreApart, IsPlaced, stands_at, standing_at, standing, ArePointsBelow, IsPointTaken, fits, own_ring, rings_from}
 use Rattle.ring_sections.proofs.PointBounds.{low_points}
 use Rattle.ring_sections.proofs.RingRows.{uneven, ring}
 
@@ -13,11 +13,11 @@ is_pair = (lit< tt, lit< tt)
 last_is_none : IsPair uneven (1, 4) → ⊥
 last_is_none pair = omega (arith, pair.1)
 
-waits_for : WaitsFor uneven (0, 1) (1, 2)
+waits_for : WantsPointOf uneven (0, 1) (1, 2)
 waits_for = (2, refl, refl)
 
 -- a place earlier T1 has another point
-waits_not : WaitsFor uneven (0, 1) (1, 1) → ⊥
+waits_not : WantsPointOf uneven (0, 1) (1, 1) → ⊥
 waits_not w = let wants = w.1 in let stands = w.2 in cc
 
 are_apart : AreApart uneven (0, 1) (1, 2)
@@ -60,7 +60,7 @@ points_below_6 (suc (suc i)) k q e = absurd cc
 not_below_5 : ArePointsBelow short 5 → ⊥
 not_below_5 low = let less : 5 < 5 = low 0 1 5 refl in omega arith
 
-is_taken : IsTaken uneven ring 2
+is_taken : IsPointTaken uneven ring 2
 is_taken = (1, lit< tt, refl)
 
 -- a greater train than the first, and none of these

@@ -14,7 +14,7 @@ use Rattle.forbidden_states.proofs.Members.{map-among, among-filter, flat-among,
 use Rattle.ring_sections.specs.declared.levels.Step.{Step}
 use Rattle.ring_sections.specs.Ring.{Pair, point_at, next_point, train_pairs, pairs}
 use Rattle.ring_sections.specs.Search.{IsPair, ArePointsBelow, stands_at, standing_at, standing}
-use Rattle.ring_sections.specs.Levels.{IsStep, IsMade, Makes, AreSteps, IsStepBelow, IsSettled, AreLevels}
+use Rattle.ring_sections.specs.Levels.{IsStep, IsStepMade, MakesStep, AreSteps, IsStepBelow, IsSettled, AreLevels}
 use Rattle.ring_sections.proofs.RingLists.{among-index, pairs-all}
 
 pub among-All : {X : Type 0} (P : X → Type 0) (xs : List X) → ((x : X) → Among xs x → P x) → All P xs
@@ -48,12 +48,12 @@ steps-below M n steps points are k d l = let s = are k d l in (points s.0.0 s.0.
 
 -- a pair with two points is among those at the first, and its step is made
 step-made : (M : List Mission) (n : ℕ) (steps : List Step) (w : Pair) (a b : ℕ) → ArePointsBelow M n → AreSteps M n steps → w.0 < length M → point_at M w ≡ Some a → next_point M w ≡ Some b →
-    IsMade steps (record { train = w.0; from = a; to = b })
+    IsStepMade steps (record { train = w.0; from = a; to = b })
 step-made M n steps w a b points are l at next =
     let short : w.1 + 1 < length (mission (unmarked M) w.0).points = slice_get_within (mission (unmarked M) w.0).points (w.1 + 1) b next in
     let pair : IsPair M w = (l, below_last (mission (unmarked M) w.0) w.1 short) in
     let k = among-index (standing_at M a) w (0, 0) (stands-among M a w pair at) in
-    subst (Makes M steps a) k.2 (are.all a (points w.0 w.1 a at) k.0 (0, 0) k.1) b next
+    subst (MakesStep M steps a) k.2 (are.all a (points w.0 w.1 a at) k.0 (0, 0) k.1) b next
 
 -- Settled levels, with 0 at the point of the first pair, are levels.
 pub settled-levels : (M : List Mission) (n : ℕ) (steps : List Step) (first : Pair) (levels : List ℕ) → ArePointsBelow M n → AreSteps M n steps →
@@ -77,8 +77,8 @@ all_there M q here is k d l =
     let same = (Decides-same_point (point_at M (slice_index_or here k d)) (Some q)).0 (stands k d l) in
     same.1 ∙ sym same.2
 
-pub made_more : (M : List Mission) (before after : List Step) (n : ℕ) (here : List Pair) → ((s : Step) → IsMade before s → IsMade after s) →
-    ((q : ℕ) → q < n → All (Makes M before q) (standing_at M q)) → here ≡ standing_at M n → All (Makes M after n) here →
-    (q : ℕ) → q < n + 1 → All (Makes M after q) (standing_at M q)
+pub made_more : (M : List Mission) (before after : List Step) (n : ℕ) (here : List Pair) → ((s : Step) → IsStepMade before s → IsStepMade after s) →
+    ((q : ℕ) → q < n → All (MakesStep M before q) (standing_at M q)) → here ≡ standing_at M n → All (MakesStep M after n) here →
+    (q : ℕ) → q < n + 1 → All (MakesStep M after q) (standing_at M q)
 made_more M before after n here kept so_far is now =
-    below_more (λ q. All (Makes M after q) (standing_at M q)) n (λ q l k d m b next. kept _ (so_far q l k d m b next)) (subst (All (Makes M after n)) is now)
+    below_more (λ q. All (MakesStep M after q) (standing_at M q)) n (λ q l k d m b next. kept _ (so_far q l k d m b next)) (subst (All (MakesStep M after n)) is now)

@@ -16,8 +16,8 @@ abbrev pub all_rings : List Mission → ℕ → Result (List (List Pair)) Rings
 all_rings M most = unless (too_many (length (rings M most))) (rings M most)
 
 -- The rings have been added to those before, at most 64 in all; or there were more, or memory was wanting.
-abbrev pub Adds : {U : Type 0} → List (List Pair) → List (List Pair) → List (List Pair) → Result U Rings → Type 0
-Adds before after added result =
+abbrev pub AddsRings : {U : Type 0} → List (List Pair) → List (List Pair) → List (List Pair) → Result U Rings → Type 0
+AddsRings before after added result =
     MatchResult result
     (λ _. (after ≡ before ++ added) × (length after ≤ 64))
     (λ e. (e ≡ Memory) ⊎ ((e ≡ Many 65) × (64 < length (before ++ added))))

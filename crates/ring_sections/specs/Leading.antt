@@ -5,7 +5,7 @@ use Rattle.rail_model.specs.Table.{Mission}
 use Rattle.ring_sections.specs.declared.train_set.TrainSet.{TrainSet}
 use Rattle.ring_sections.specs.declared.leading.Reach.{Reach}
 use Rattle.ring_sections.specs.Ring.{Pair, pair_at, point_at, next_point}
-use Rattle.ring_sections.specs.Search.{IsPair, IsTaken, fits}
+use Rattle.ring_sections.specs.Search.{IsPair, IsPointTaken, fits}
 
 -- The train is in the set.
 abbrev pub HasTrain : TrainSet → ℕ → Type 0
@@ -25,7 +25,7 @@ pub record MayStand (M : List Mission) (way : List Pair) (shut q : ℕ) (w : Pai
   pub pair : IsPair M w
   pub stands : point_at M w ≡ Some q
   pub fits : fits way w ≡ true
-  pub free : IsTaken M way q → ⊥
+  pub free : IsPointTaken M way q → ⊥
   pub open_point : q ≢ shut
 
 -- The later pairs, of different trains, lead from a point to that of the first pair: each wants the point of the next.

@@ -10,17 +10,17 @@ abbrev pub IsStep : List Mission → Step → Type 0
 IsStep M s = (w : Pair) × (point_at M w ≡ Some s.from) × (next_point M w ≡ Some s.to)
 
 -- One of the steps is between the same points, by the same train or a later one.
-abbrev pub IsMade : List Step → Step → Type 0
-IsMade steps s = (t : Step) × Contains steps t × (t.from ≡ s.from) × (t.to ≡ s.to) × (s.train ≤ t.train)
+abbrev pub IsStepMade : List Step → Step → Type 0
+IsStepMade steps s = (t : Step) × Contains steps t × (t.from ≡ s.from) × (t.to ≡ s.to) × (s.train ≤ t.train)
 
 -- So it is with the step of a pair from a point, if the pair wants a point.
-abbrev pub Makes : List Mission → List Step → ℕ → Pair → Type 0
-Makes M steps q w = (b : ℕ) → next_point M w ≡ Some b → IsMade steps (record { train = w.0; from = q; to = b })
+abbrev pub MakesStep : List Mission → List Step → ℕ → Pair → Type 0
+MakesStep M steps q w = (b : ℕ) → next_point M w ≡ Some b → IsStepMade steps (record { train = w.0; from = q; to = b })
 
 -- The steps between all points below n, not each of them by every train.
 pub record AreSteps (M : List Mission) (n : ℕ) (steps : List Step) : Type 0 where
   pub are_steps : All (IsStep M) steps
-  pub all : (q : ℕ) → q < n → All (Makes M steps q) (standing_at M q)
+  pub all : (q : ℕ) → q < n → All (MakesStep M steps q) (standing_at M q)
 
 -- The step's points are below n.
 abbrev pub IsStepBelow : ℕ → Step → Type 0

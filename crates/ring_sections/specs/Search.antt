@@ -11,8 +11,8 @@ abbrev pub IsPair : List Mission → Pair → Type 0
 IsPair M w = (w.0 < length M) × (w.1 < last (unmarked M) w.0)
 
 -- The pair wants the point of the other.
-abbrev pub WaitsFor : List Mission → Pair → Pair → Type 0
-WaitsFor M v w = (q : ℕ) × (next_point M v ≡ Some q) × (point_at M w ≡ Some q)
+abbrev pub WantsPointOf : List Mission → Pair → Pair → Type 0
+WantsPointOf M v w = (q : ℕ) × (next_point M v ≡ Some q) × (point_at M w ≡ Some q)
 
 -- The pairs are of two trains, at two points.
 abbrev pub AreApart : List Mission → Pair → Pair → Type 0
@@ -20,7 +20,7 @@ AreApart M v w = (v.0 ≢ w.0) × ((q : ℕ) → point_at M v ≡ Some q → poi
 
 -- The pair at index k is as in a circular wait.
 pub record IsPlaced (M : List Mission) (r : List Pair) (k : ℕ) : Type 0 where
-  pub waits : WaitsFor M (pair_at r k) (pair_at r ((k + 1) % length r))
+  pub waits : WantsPointOf M (pair_at r k) (pair_at r ((k + 1) % length r))
   pub least_first : 0 < k → (pair_at r 0).0 < (pair_at r k).0
   pub apart : (j : ℕ) → j < k → AreApart M (pair_at r j) (pair_at r k)
 
@@ -41,8 +41,8 @@ abbrev pub ArePointsBelow : List Mission → ℕ → Type 0
 ArePointsBelow M n = (i k q : ℕ) → point (unmarked M) i k ≡ Some q → q < n
 
 -- One of the pairs is at the point.
-abbrev pub IsTaken : List Mission → List Pair → ℕ → Type 0
-IsTaken M r q = (j : ℕ) × (j < length r) × (point_at M (pair_at r j) ≡ Some q)
+abbrev pub IsPointTaken : List Mission → List Pair → ℕ → Type 0
+IsPointTaken M r q = (j : ℕ) × (j < length r) × (point_at M (pair_at r j) ≡ Some q)
 
 -- whether the pair's train is above the first and none of these
 abbrev pub fits : List Pair → Pair → Bool

@@ -3,7 +3,7 @@ ghost use Rattle.std.specs.Prelude.{◌≡◌, ℕ, ◌<◌, ◌≤◌, All, IfO
 ghost use Rattle.ring_sections.specs.declared.levels.Step.{Step as StepValue};
 ghost use Rattle.ring_sections.specs.Ring.{point_at};
 ghost use Rattle.ring_sections.specs.Search.{IsPair, ArePointsBelow, standing as standing_at_all};
-ghost use Rattle.ring_sections.specs.Levels.{IsStep, IsMade, Makes, AreSteps, IsStepBelow, IsSettled, AreLevels};
+ghost use Rattle.ring_sections.specs.Levels.{IsStep, IsStepMade, MakesStep, AreSteps, IsStepBelow, IsSettled, AreLevels};
 
 use crate::placed::{next_point_of, point_of};
 use crate::standing::Standing;
@@ -20,7 +20,7 @@ pub(crate) struct Step {
 
 // Whether a step is there between the same points, by the same train or a later one; those from a point are together.
 fn is_made(steps: &[Step], step: Step) -> bool
-    ensures { result ≡ true → IsMade steps.now step }
+    ensures { result ≡ true → IsStepMade steps.now step }
 {
     for &other in steps.iter().rev() {
         if other.from != step.from {
@@ -44,8 +44,8 @@ fn add_step(
     requires stands { point_at missions.now pair ≡ Some from }
     requires steps { All (IsStep missions.now) steps.old.items }
     ensures steps { OnOk result (All (IsStep missions.now) steps.new.items) }
-    ensures kept { OnOk result ((s : StepValue) → IsMade steps.old.items s → IsMade steps.new.items s) }
-    ensures made { OnOk result (Makes missions.now steps.new.items from pair) }
+    ensures kept { OnOk result ((s : StepValue) → IsStepMade steps.old.items s → IsStepMade steps.new.items s) }
+    ensures made { OnOk result (MakesStep missions.now steps.new.items from pair) }
 {
     let Some(to) = next_point_of(missions, pair) else {
         return Ok(());
@@ -69,8 +69,8 @@ fn add_steps(
     requires stand { All (λ w. point_at missions.now w ≡ Some from) pairs.now }
     requires steps { All (IsStep missions.now) steps.old.items }
     ensures steps { OnOk result (All (IsStep missions.now) steps.new.items) }
-    ensures kept { OnOk result ((s : StepValue) → IsMade steps.old.items s → IsMade steps.new.items s) }
-    ensures made { OnOk result (All (Makes missions.now steps.new.items from) pairs.now) }
+    ensures kept { OnOk result ((s : StepValue) → IsStepMade steps.old.items s → IsStepMade steps.new.items s) }
+    ensures made { OnOk result (All (MakesStep missions.now steps.new.items from) pairs.now) }
 {
     for index in (0..pairs.len()).rev() {
         add_step(missions, pairs[index], from, steps)?;

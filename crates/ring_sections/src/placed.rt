@@ -2,7 +2,7 @@
 ghost use Rattle.std.specs.Prelude.{◌≡◌, ℕ, ◌+◌, ◌<◌, ◌≤◌, ◌==◌, ◌↔◌, ◌%◌, All, IsTrue, length, Some};
 ghost use Rattle.std.specs.List.{list_any};
 ghost use Rattle.ring_sections.specs.Ring.{point_at, next_point, pair_at, IsRing};
-ghost use Rattle.ring_sections.specs.Search.{IsPair, WaitsFor, AreApart, IsPlaced, IsTaken, fits as fits_after};
+ghost use Rattle.ring_sections.specs.Search.{IsPair, WantsPointOf, AreApart, IsPlaced, IsPointTaken, fits as fits_after};
 
 use rail_model::Missions;
 
@@ -28,7 +28,7 @@ pub(crate) fn next_point_of(missions: &Missions, pair: (u32, u32)) -> Option<u32
 fn waits_for(missions: &Missions, pair: (u32, u32), other: (u32, u32)) -> bool
     requires pair { IsPair missions.now pair }
     requires other { IsPair missions.now other }
-    ensures { IsTrue result ↔ WaitsFor missions.now pair other }
+    ensures { IsTrue result ↔ WantsPointOf missions.now pair other }
 {
     match next_point_of(missions, pair) {
         Some(wanted) => point_of(missions, other) == Some(wanted),
@@ -94,7 +94,7 @@ pub(crate) fn fits(way: &[(u32, u32)], next: (u32, u32)) -> bool
 // Whether one of the pairs is at a point.
 pub(crate) fn is_taken(missions: &Missions, way: &[(u32, u32)], point: u32) -> bool
     requires { All (IsPair missions.now) way.now }
-    ensures { IsTrue result ↔ IsTaken missions.now way.now point }
+    ensures { IsTrue result ↔ IsPointTaken missions.now way.now point }
 {
     for &pair in way {
         if point_of(missions, pair) == Some(point) {

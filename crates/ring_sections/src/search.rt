@@ -1,11 +1,11 @@
 // The search for circular waits: each from its least train on, pair by pair, in the order in which they are listed.
 ghost use Rattle.std.specs.Prelude.{◌≡◌, ◌<◌, ◌≤◌, ◌-◌, ◌++◌, ◌∷◌, [], nat_lt, All, IfOk, length};
 ghost use Rattle.std.specs.List.{list_any};
-ghost use Rattle.rail_model.specs.Turns.{Answers};
+ghost use Rattle.rail_model.specs.Turns.{AnswersAs};
 ghost use Rattle.ring_sections.specs.Ring.{pair_at, IsRing};
 ghost use Rattle.ring_sections.specs.Search.{IsPair, ArePointsBelow, standing as standing_at_all, own_ring, rings_from};
 ghost use Rattle.ring_sections.specs.Levels.{AreSteps, IsChart};
-ghost use Rattle.ring_sections.specs.Answer.{Adds, all_rings};
+ghost use Rattle.ring_sections.specs.Answer.{AddsRings, all_rings};
 
 use crate::chart::Chart;
 use crate::leading::may_follow;
@@ -28,7 +28,7 @@ fn keep_ring(
 ) -> Result<(), Rings>
     requires way { All (IsPair missions.now) way.now }
     requires few { length found.old.items ≤ 64 }
-    ensures { Adds found.old.items found.new.items (own_ring missions.now way.now) result }
+    ensures { AddsRings found.old.items found.new.items (own_ring missions.now way.now) result }
 {
     if !is_ring(missions, way) {
         return Ok(());
@@ -68,7 +68,7 @@ fn extend(
     requires some { 0 < length way.now }
     requires way { All (IsPair chart.now.missions.now) way.now }
     requires few { length found.old.items ≤ 64 }
-    ensures { Adds found.old.items found.new.items (rings_from chart.now.missions.now way.now left) result }
+    ensures { AddsRings found.old.items found.new.items (rings_from chart.now.missions.now way.now left) result }
 {
     let Some(wanted) = next_point_of(chart.missions, way[way.len() - 1]) else {
         return Ok(());
@@ -113,7 +113,7 @@ fn add_from(
     requires first { IsPair missions.now first }
     requires few { length found.old.items ≤ 64 }
     requires most { 0 < most }
-    ensures { Adds found.old.items found.new.items (rings_from missions.now (first ∷ []) (most - 1)) result }
+    ensures { AddsRings found.old.items found.new.items (rings_from missions.now (first ∷ []) (most - 1)) result }
 {
     let Some(wanted) = next_point_of(missions, first) else {
         return Ok(());
@@ -144,7 +144,7 @@ fn add_from(
 pub fn rings(alloc: Global, missions: &Missions, most: u32) -> Result<Vec<Ring>, Rings>
     requires least { 2 ≤ most }
     requires greatest { most ≤ 8 }
-    ensures rings { Answers Rings.Memory (λ rings. rings.items) result (all_rings missions.now most) }
+    ensures rings { AnswersAs Rings.Memory (λ rings. rings.items) result (all_rings missions.now most) }
 
     ensures each { IfOk result (λ rings. All (IsRing missions.now) rings.items) }
     ensures few { IfOk result (λ rings. length rings.items ≤ 64) }

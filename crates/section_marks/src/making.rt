@@ -1,7 +1,7 @@
 // The maker of sections.
 ghost use Rattle.std.specs.Prelude.{◌≡◌, ◌≤◌, ◌<◌, [], ◌∷◌, IfOk, None, length};
 ghost use Rattle.std.specs.Result.{result_err};
-ghost use Rattle.rail_model.specs.Turns.{Answers, first_of};
+ghost use Rattle.rail_model.specs.Turns.{AnswersAs, first_of};
 ghost use Rattle.section_marks.specs.Marking.{too_many, bad_limit, bad_count, list_too_many, places, changes_of, length_refusal, count_refusal, share_refusal, section_refusal, each_refusal, sections_refusal, table_from};
 ghost use Rattle.section_marks.specs.Seen.{changes_seen, section_seen, sections_seen};
 
@@ -25,7 +25,7 @@ pub fn sections(
     lists: Vec<(u32, Vec<Vec<i32>>)>,
     marks: Marks,
 ) -> Result<Table, MarkRefused>
-    ensures { Answers MarkRefused.Memory (λ table. table) result (table_from marks missions (sections_seen lists.items)) }
+    ensures { AnswersAs MarkRefused.Memory (λ table. table) result (table_from marks missions (sections_seen lists.items)) }
 {
     check_sections(&missions, marks, &lists)?;
     let sections = listed(alloc, lists)?;

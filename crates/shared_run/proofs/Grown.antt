@@ -17,7 +17,7 @@ use Rattle.zone_yard.specs.Entering.{Enters}
 use Rattle.zone_yard.specs.Replies.{Replies, BlockReplies, Turns, IsGranted, steps_after}
 use Rattle.dispatch_workers.specs.declared.rounds.Round.{Round}
 use Rattle.dispatch_workers.specs.declared.rounds.Round.TheVariants.{One, Block, Halved}
-use Rattle.dispatch_workers.specs.Rounds.{GoesRound, Makes, Tries}
+use Rattle.dispatch_workers.specs.Rounds.{GoesRound, MakesRounds, MakesTurns}
 
 -- It is the same pass, with at most this many entries more.
 pub record Grew (most : ℕ) (old new : Pass) : Type 0 where
@@ -95,7 +95,7 @@ round_grew steps old new (Block reply) le h = block_grew steps old new reply le 
 round_grew steps old new (Halved t k a reply) le h =
     grew_more 2 4 old new (omega arith) (grew_then 1 1 old h.1.0 new (enters_grew t 1 _ old h.1.0 h.1.1.1.0 (omega arith)) (one_grew h.1.0 new reply h.1.2))
 
-pub rounds_grew : (steps : ℕ) (old new : Pass) (told : List Round) → steps ≤ 4 → Makes steps told old new → Grew (4 * length told) old new
+pub rounds_grew : (steps : ℕ) (old new : Pass) (told : List Round) → steps ≤ 4 → MakesRounds steps told old new → Grew (4 * length told) old new
 rounds_grew steps old new [] le made = kept_grew _ old new made
 rounds_grew steps old new (round ∷ earlier) le made =
     grew_more (4 * length earlier + 4) _ old new (omega arith)
@@ -109,7 +109,7 @@ turn_grew old new (turn.Early t m) h = enters_grew t 1 _ old new h.2 (omega arit
 turn_grew old new turn.NoMore h = kept_grew 1 old new h.2.0
 turn_grew old new turn.Spent h = kept_grew 1 old new h.1.0
 
-pub turns_grew : (old new : Pass) (turns : List Turn) → Tries turns old new → Grew (length turns) old new
+pub turns_grew : (old new : Pass) (turns : List Turn) → MakesTurns turns old new → Grew (length turns) old new
 turns_grew old new [] made = kept_grew _ old new made
 turns_grew old new (answer ∷ earlier) made =
     grew_more (length earlier + 1) _ old new (omega arith)

@@ -22,8 +22,8 @@ abbrev pub HasNext : List Row → List ℕ → ℕ → Type 0
 HasNext own heads p = (p < length own) × ((d : Row) → slice_index heads p < length (slice_index_or own p d).items)
 
 -- Its ticket is this.
-abbrev pub IsNext : List Row → List ℕ → ℕ → ℕ → Type 0
-IsNext own heads p ticket = (d : Row) (t : TicketLine) → (slice_index_or (slice_index_or own p d).items (slice_index heads p) t).ticket ≡ ticket
+abbrev pub HasTicket : List Row → List ℕ → ℕ → ℕ → Type 0
+HasTicket own heads p ticket = (d : Row) (t : TicketLine) → (slice_index_or (slice_index_or own p d).items (slice_index heads p) t).ticket ≡ ticket
 
 -- Pass p has the line with the least ticket of those that aren't merged yet.
 abbrev pub IsLeast : List Row → List ℕ → ℕ → Type 0

@@ -2,7 +2,7 @@
 ghost use Rattle.std.specs.Prelude.{◌≡◌, IfOk, map, length};
 ghost use Rattle.move_journal.specs.Printable.{ArePrintable};
 ghost use Rattle.layout_json.specs.Doc.{names_of as doc_names};
-ghost use Rattle.timed_reading.specs.Reads.{IsTimed};
+ghost use Rattle.timed_reading.specs.Reads.{IsTimedRun};
 ghost use Rattle.timed_reading.specs.Runs.{IsRunOf, line_of};
 
 use crate::faults::{Fault, no_journal, refused, told};
@@ -29,7 +29,7 @@ pub enum Timed {
 /// way, a table that isn't the next one, a tick that falls. Whether a move may be made isn't tested, as `ats verify`
 /// does.
 pub fn timed_run(alloc: Global, input: &[u8]) -> Result<Timed, AllocError>
-    ensures { IfOk result IsTimed }
+    ensures { IfOk result IsTimedRun }
 {
     let Some((given, journal)) = cut(input) else {
         return Ok(Timed::Fault(no_journal(alloc)?));
@@ -43,7 +43,7 @@ pub fn timed_run(alloc: Global, input: &[u8]) -> Result<Timed, AllocError>
 
 // A document, and the run that a journal gives.
 fn timed_document(alloc: Global, doc: Doc, journal: &[u8]) -> Result<Timed, AllocError>
-    ensures { IfOk result IsTimed }
+    ensures { IfOk result IsTimedRun }
 {
     match run_of(alloc, &doc, journal) {
         Ok(run) => Ok(Timed::Run { doc, run }),

@@ -3,7 +3,7 @@ ghost use Rattle.std.specs.Prelude.{◌≡◌, ◌≤◌, not, nat_eq, nat_le, f
 ghost use Rattle.std.specs.Bool.{then_some};
 ghost use Rattle.std.specs.List.{list_any, range_with_len};
 ghost use Rattle.std.specs.Result.{result_err};
-ghost use Rattle.rail_model.specs.Turns.{Answers, first_of, unless};
+ghost use Rattle.rail_model.specs.Turns.{AnswersAs, first_of, unless};
 ghost use Rattle.track_layout.specs.Making.{too_many, no_zone, bad_name, zone_range, zone_empty, unknown_point, self_link, names_of, zones_of, is_known, link_value, layout_from};
 ghost use Rattle.track_layout.specs.Seen.{points_seen, links_seen, link_seen};
 
@@ -29,7 +29,7 @@ pub fn layout(
     links: &[(String, String)],
     zones: u32,
 ) -> Result<Layout, LayoutRefused>
-    ensures { Answers LayoutRefused.Memory (λ made. made) result (layout_from (points_seen points.items) (links_seen links.now) zones) }
+    ensures { AnswersAs LayoutRefused.Memory (λ made. made) result (layout_from (points_seen points.items) (links_seen links.now) zones) }
 {
     check_counts(points.len(), links.len(), zones)?;
     let (names, in_zones) = parted(alloc, points)?;
@@ -133,7 +133,7 @@ fn joined(
     links: &[(String, String)],
 ) -> Result<Vec<Link>, LayoutRefused>
     requires { length links.now ≤ 2048 }
-    ensures { Answers LayoutRefused.Memory (λ joined. joined.items) result (unless (unknown_point numbers.now (links_seen links.now)) (map (link_value numbers.now) (links_seen links.now))) }
+    ensures { AnswersAs LayoutRefused.Memory (λ joined. joined.items) result (unless (unknown_point numbers.now (links_seen links.now)) (map (link_value numbers.now) (links_seen links.now))) }
 {
     let mut joined = Vec::new(alloc);
     for (index, link) in links.iter().enumerate() {

@@ -1,6 +1,6 @@
 // Names, each with its number.
 ghost use Rattle.std.specs.Prelude.{◌≡◌, ◌≤◌, IfOk, map, vec_len, string_bytes, position, bytes_eq};
-ghost use Rattle.rail_model.specs.Turns.{Answers};
+ghost use Rattle.rail_model.specs.Turns.{AnswersAs};
 ghost use Rattle.track_layout.specs.Numbering.{numbered};
 
 use indexmap::IndexSet;
@@ -50,7 +50,7 @@ impl Numbers {
     /// `Double` exactly where a name comes twice; out of memory.
     pub fn new(alloc: Global, names: Vec<String>) -> Result<Self, NotNumbered>
         requires { vec_len names ≤ 512 }
-        ensures { Answers NotNumbered.Memory (λ numbers. numbers) result (numbered (map string_bytes names.items)) }
+        ensures { AnswersAs NotNumbered.Memory (λ numbers. numbers) result (numbered (map string_bytes names.items)) }
     {
         let mut set = IndexSet::new(alloc);
         for name in names {

@@ -22,18 +22,18 @@ abbrev pub points_of : List Depth → List ℕ
 points_of depths = map (λ d. d.point) depths
 
 -- It is known how deep a point lies.
-abbrev pub IsKnown : List Depth → ℕ → Type 0
-IsKnown depths p = Contains (points_of depths) p
+abbrev pub IsDepthKnown : List Depth → ℕ → Type 0
+IsDepthKnown depths p = Contains (points_of depths) p
 
 -- What was known stays known.
 abbrev pub Keeps : List Depth → List Depth → Type 0
-Keeps before after = (p : ℕ) → IsKnown before p → IsKnown after p
+Keeps before after = (p : ℕ) → IsDepthKnown before p → IsDepthKnown after p
 
 -- All points of a way are known.
 abbrev pub KnowsWay : List Depth → List ℕ → Type 0
-KnowsWay depths way = (p : ℕ) → Contains way p → IsKnown depths p
+KnowsWay depths way = (p : ℕ) → Contains way p → IsDepthKnown depths p
 
 -- Of the first n points of a way, all after one that was known are known.
 abbrev pub KnowsBehind : List Depth → List Depth → List ℕ → ℕ → Type 0
 KnowsBehind before after way n =
-    (j k : ℕ) → j ≤ k → k < n → IsKnown before (slice_index way j) → IsKnown after (slice_index way k)
+    (j k : ℕ) → j ≤ k → k < n → IsDepthKnown before (slice_index way j) → IsDepthKnown after (slice_index way k)

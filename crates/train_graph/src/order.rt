@@ -2,7 +2,7 @@
 ghost use Rattle.std.specs.Prelude.{◌≡◌, ◌<◌, ◌≤◌, ◌↔◌, ℕ, false, IfOk, OnOk, IsSome, length, slice_index, vec_len};
 ghost use Rattle.std.specs.Bool.{OnTrue};
 ghost use Rattle.run_timetable.specs.Timetable.{trains_of};
-ghost use Rattle.train_graph.specs.Rows.{HasRows, IsKnown, Keeps, KnowsBehind, KnowsWay, way_in};
+ghost use Rattle.train_graph.specs.Rows.{HasRows, IsDepthKnown, Keeps, KnowsBehind, KnowsWay, way_in};
 
 use run_timetable::Run;
 use std::alloc::{AllocError, Global};
@@ -118,7 +118,7 @@ fn way_of(alloc: Global, run: &Run, train: u32) -> Result<Vec<u32>, AllocError>
 
 // How deep a point lies, if that is known.
 fn depth_of(depths: &[Depth], point: u32) -> Option<u64>
-    ensures { IsSome result ↔ IsKnown depths.now point }
+    ensures { IsSome result ↔ IsDepthKnown depths.now point }
 {
     for known in depths {
         if known.point == point {
@@ -130,7 +130,7 @@ fn depth_of(depths: &[Depth], point: u32) -> Option<u64>
 
 // Whether it is known how deep some point of a way lies.
 fn has_known(depths: &[Depth], way: &[u32]) -> bool
-    ensures { OnTrue result ((k : ℕ) × (k < length way.now) × IsKnown depths.now (slice_index way.now k)) }
+    ensures { OnTrue result ((k : ℕ) × (k < length way.now) × IsDepthKnown depths.now (slice_index way.now k)) }
 {
     for point in way {
         if depth_of(depths, *point).is_some() {
@@ -166,7 +166,7 @@ fn next_depth(depths: &[Depth]) -> u64 {
 // Adds the points of a way without known ones below all others, up to the first that comes again.
 fn push_fresh(depths: &mut Vec<Depth>, way: &[u32]) -> Result<(), AllocError>
     ensures kept { OnOk result (Keeps depths.old.items depths.new.items) }
-    ensures first { OnOk result (0 < length way.now → IsKnown depths.new.items (slice_index way.now 0)) }
+    ensures first { OnOk result (0 < length way.now → IsDepthKnown depths.new.items (slice_index way.now 0)) }
 {
     let mut depth = next_depth(depths);
     for point in way {

@@ -16,7 +16,7 @@ use Rattle.zone_yard.specs.Blocks.{needs, replies_of, granted_steps, CanAnswer, 
 use Rattle.zone_yard.specs.Views.{new_entries, pass_of}
 use Rattle.zone_yard.specs.Aboard.{IsIdle}
 use Rattle.zone_yard.specs.Tells.{Sat, Appends}
-use Rattle.zone_yard.specs.Holding.{Holds, Learns, Pays, Frees}
+use Rattle.zone_yard.specs.Holding.{Holds, Learns, StillOwes, Frees}
 use Rattle.zone_yard.specs.Attempts.{IsBack, IsToldBlock}
 
 module _ (S : Setup) (id : TableId) (w : Wanted) (f : Footprint) (answer : BlockAsk) (ticket : ℕ) (held : List ℕ) (m0 m1 m2 m3 m4 m5 : Sat)
@@ -25,7 +25,7 @@ module _ (S : Setup) (id : TableId) (w : Wanted) (f : Footprint) (answer : Block
     (holds : Holds m0 m1 held) (learns : Learns m1 m2) (known : number_of TableCell m2.0.actor.known ≡ Some w.table)
     (appends : Appends w.steps m2 ticket m3) (tells : new_entries w.steps m2.0 ≡ told w.train (replies_of f.claim.steps answer))
     (stands : m3.0.actor.position ≡ m2.0.actor.position + granted_steps f.claim.steps answer) (stage : m3.0.actor.stage ≡ m2.0.actor.stage)
-    (can : CanAnswer f.claim.steps answer) (pays : Pays m3 [] m4) (frees : Frees m4 m5) where
+    (can : CanAnswer f.claim.steps answer) (pays : StillOwes m3 [] m4) (frees : Frees m4 m5) where
   abbrev replies : List Reply
   replies = replies_of f.claim.steps answer
 

@@ -8,7 +8,7 @@ use Rattle.zone_machine.proofs.OwnSteps.{same_self, cells, number_of-put_same, n
 use Rattle.zone_machine.proofs.Places.{same_some}
 use Rattle.zone_yard.specs.Views.{read, paid}
 use Rattle.zone_yard.specs.Tells.{Sat}
-use Rattle.zone_yard.specs.Holding.{AreAllSmall, Knows, Pays, AreCells}
+use Rattle.zone_yard.specs.Holding.{AreAllSmall, Knows, StillOwes, AreCells}
 
 pub put-length : (c : Cell) (n : ℕ) (xs : List (Cell × ℕ)) → length (put c n xs) ≤ suc (length xs)
 put-length c n [] = omega arith
@@ -64,8 +64,8 @@ paid_first [] k d distinct lt = absurd (omega arith)
 paid_first (x ∷ xs) zero d distinct lt = rw (same_self x.0) (without_absent x.0 xs distinct.0)
 paid_first (x ∷ xs) (suc k) d distinct lt = paid_first xs k d distinct.1 (omega arith)
 
-pub pays_next : (owed : List (Cell × ℕ)) (k : ℕ) (d : Cell × ℕ) (old l new : Sat) → AreDistinct owed → k < length owed → Pays old (drop k owed) l → new ≡ (paid (get_or owed k d).0 l.0, l.1)
-    → Pays old (drop (k + 1) owed) new
+pub pays_next : (owed : List (Cell × ℕ)) (k : ℕ) (d : Cell × ℕ) (old l new : Sat) → AreDistinct owed → k < length owed → StillOwes old (drop k owed) l → new ≡ (paid (get_or owed k d).0 l.0, l.1)
+    → StillOwes old (drop (k + 1) owed) new
 pays_next owed k d old l new distinct lt p is =
     is ∙ (ap (λ (m : Sat). (paid (get_or owed k d).0 m.0, m.1)) p
     ∙ ap (λ (o : List (Cell × ℕ)). (record old.0 { actor = record old.0.actor { owed = o } }, old.1)) (paid_first owed k d distinct lt ∙ ap (λ n. drop n owed) (let e : suc k ≡ k + 1 = omega arith in e)))

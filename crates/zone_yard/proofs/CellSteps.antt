@@ -21,7 +21,7 @@ use Rattle.zone_machine.proofs.Words.{word_apart, cell_word}
 use Rattle.zone_yard.specs.Setup.{Setup, core}
 use Rattle.zone_yard.specs.Views.{View, glanced, read, read_table, paid}
 use Rattle.zone_yard.specs.Kept.{Kept}
-use Rattle.zone_yard.specs.Tells.{Sat, Glances, Reads, ReadsTable, Pays}
+use Rattle.zone_yard.specs.Tells.{Sat, Glances, ReadsCell, ReadsTable, PaysCell}
 use Rattle.zone_yard.proofs.Apart.{found_apart}
 use Rattle.zone_yard.proofs.Keeps.{St, own_keeps, Stays}
 
@@ -106,7 +106,7 @@ read_table_allows S slots id i me is aboard still guard s k _ at _ =
 
 -- a cell is read under its guard
 pub read_allows : (S : Setup) → (slots id i : ℕ) (c : Cell) (me : Sat) → i ≡ 8 * word_of (core S) c → me.0.aboard ≡ true → me.0.actor.closing ≡ false
-    → is_cell (core S) c ≡ true → may_read (core S) me.0.actor.held c ≡ true → Allows (Kept S) slots id me i (λ n. n) (Reads c me)
+    → is_cell (core S) c ≡ true → may_read (core S) me.0.actor.held c ≡ true → Allows (Kept S) slots id me i (λ n. n) (ReadsCell c me)
 read_allows S slots id i c me is aboard still cell guard s k _ at _ =
     let v : View = me.0 in
     let w : World = k.world in
@@ -156,7 +156,7 @@ table_rises S w p n c a a' ok sound is low due =
 
 -- an owed cell is written
 pub pay_allows : (S : Setup) → (slots id i n : ℕ) (c : Cell) (me : Sat) → i ≡ 8 * word_of (core S) c → me.0.aboard ≡ true
-    → number_of c me.0.actor.owed ≡ Some n → Allows (Kept S) slots id me i (λ _. n) (λ _. Pays c me)
+    → number_of c me.0.actor.owed ≡ Some n → Allows (Kept S) slots id me i (λ _. n) (λ _. PaysCell c me)
 pay_allows S slots id i n c me is aboard due s k _ at _ =
     let v : View = me.0 in
     let w : World = k.world in

@@ -17,7 +17,7 @@ use Rattle.zone_yard.specs.declared.requests.Attempt.TheVariants.{Told, Busy}
 use Rattle.zone_yard.specs.Setup.{Setup, SharedYard, IsLegalHistory}
 use Rattle.zone_yard.specs.Passes.{told, receipts_from}
 use Rattle.zone_yard.specs.Blocks.{replies_of, granted_steps}
-use Rattle.zone_yard.specs.Asked.{Asked}
+use Rattle.zone_yard.specs.Asked.{Attempted}
 use Rattle.zone_yard.specs.Views.{pass_of}
 use Rattle.zone_yard.specs.Tells.{Sat}
 use Rattle.zone_yard.specs.Aboard.{IsDriver, IsPass, IsIdle}
@@ -62,7 +62,7 @@ module _ (id : TableId) (train position entries : ℕ) (old new : Sat) (driver :
 
   -- what contracts see of it
   pub asks_asked : (asked : ℕ) (attempt : Attempt) → 1 ≤ asked → length old.0.mine + asked ≤ old.0.setup.calls → Asks id asked old attempt new
-      → Asked asked (pass_of id old.0) attempt (pass_of id new.0)
+      → Attempted asked (pass_of id old.0) attempt (pass_of id new.0)
   asks_asked asked (Told answer steps ticket) some room h = h.0
   asks_asked asked (Busy zone holder) some room t =
       let T : Table = (offer old.0.setup.tables t.table).table in

@@ -34,7 +34,7 @@ use Rattle.zone_yard.specs.Core.{MayEnter}
 use Rattle.zone_yard.specs.Setup.{Setup, core, most_passes, state_after, IsLegalHistory}
 use Rattle.zone_yard.specs.Passes.{StartsWith, entries_from, entries_of, receipts_from, standing}
 use Rattle.zone_yard.specs.Views.{View, new_entries, actor_after, entered}
-use Rattle.zone_yard.specs.Kept.{Kept, Fits, IsActor}
+use Rattle.zone_yard.specs.Kept.{Kept, Fits, IsPassNumber}
 use Rattle.zone_yard.specs.Tells.{Sat, Appends}
 use Rattle.zone_yard.proofs.Apart.{found_apart, spread-set}
 use Rattle.zone_yard.proofs.Lists.{by_set, set_here, starts_itself, starts_on, same_of}
@@ -85,7 +85,7 @@ longer : (H seen es : List Entry) → StartsWith H seen → StartsWith (H ++ es)
 longer H seen es p = starts_on (H ++ es) H seen (es, refl) p
 
 -- a sound core has each pass where the history leads it
-pub placed : (S : Setup) (w : World) (p : ℕ) (a : Actor) → Sound (core S) w → IsActor S p → slice_get w.actors p ≡ Some a → a.position ≡ standing (state_after S w.history) p
+pub placed : (S : Setup) (w : World) (p : ℕ) (a : Actor) → Sound (core S) w → IsPassNumber S p → slice_get w.actors p ≡ Some a → a.position ≡ standing (state_after S w.history) p
 placed S w p a sound is at = dite (ℕ_discrete p control)
     (λ (e : p ≡ control). rw (eq-eqb p control e) (sound.answered a (ap (slice_get w.actors) (sym e) ∙ at)))
     (λ (ne : p ≢ control). rw (ne_eqb p control ne) (sound.places p a at (⊎_elim (λ (lt : p < trains_of (core S)). lt) (λ (e : p ≡ control). absurd (ne e)) is)))

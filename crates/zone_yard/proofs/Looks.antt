@@ -12,7 +12,7 @@ use Rattle.zone_machine.specs.World.{World, Actor, gone, actor}
 use Rattle.zone_yard.specs.Setup.{Setup, core, most_passes, IsLegalHistory}
 use Rattle.zone_yard.specs.Passes.{StartsWith, IsAshore, entries_of, done_of}
 use Rattle.zone_yard.specs.Views.{View, looked}
-use Rattle.zone_yard.specs.Kept.{Kept, Fits, IsActor, Rests, Sits}
+use Rattle.zone_yard.specs.Kept.{Kept, Fits, IsPassNumber, Rests, Sits}
 use Rattle.zone_yard.specs.Tells.{Sat, Looks}
 use Rattle.zone_yard.proofs.Apart.{found_apart}
 use Rattle.zone_yard.proofs.Lists.{by_set, set_here, starts_itself}
@@ -35,7 +35,7 @@ stays S s k v at p actor_p off =
     ∙ ap (λ (a : Actor). a.position) ((root_is S s k v at).away p actor_p off).actor
 
 -- a pass that has never boarded has no entry
-unheard : (S : Setup) (s : St) (k : Kept S s) (v : View) → get_elem? s.views 0 ≡ some v → (p : ℕ) → IsActor S p → has p v.boarded ≡ false → entries_of p k.world.history ≡ []
+unheard : (S : Setup) (s : St) (k : Kept S s) (v : View) → get_elem? s.views 0 ≡ some v → (p : ℕ) → IsPassNumber S p → has p v.boarded ≡ false → entries_of p k.world.history ≡ []
 unheard S s k v at p actor ashore =
     let r = root_is S s k v at in
     ⊎_elim
@@ -96,7 +96,7 @@ looks S slots me s k _ at _ =
         joined = mine.joined;
         left = r.left;
         ashore = subst (λ (T : Setup). IsAshore T v.boarded w.history) (sym made) (stays S s k v at);
-        away = λ p actor b. unheard S s k v at p (subst (λ (T : Setup). IsActor T p) made actor) b;
+        away = λ p actor b. unheard S s k v at p (subst (λ (T : Setup). IsPassNumber T p) made actor) b;
         whole = seen_whole S s k v at;
         passes = settled S s k v at;
       },

@@ -19,7 +19,7 @@ use Rattle.zone_locks.specs.Zones.{has}
 use Rattle.move_claim.specs.declared.claims.Claim.{Claim}
 use Rattle.zone_yard.specs.declared.requests.Attempt.{Attempt}
 use Rattle.zone_yard.specs.declared.requests.Attempt.TheVariants.{Told, Busy}
-use Rattle.zone_yard.specs.Asked.{Asked, IsAnswer, reply_of, block_reply_of}
+use Rattle.zone_yard.specs.Asked.{Attempted, FoundNoZoneHeld, reply_of, block_reply_of}
 
 pub replies_to : (old new : Pass) (ticket : ℕ) (answer : Ask) → IsTold old ticket answer new → Replies old (reply_to ticket answer) new
 replies_to old new ticket ask.Yes h = h
@@ -90,11 +90,11 @@ answered_since asked steps ticket answer old m new same tries a =
       can = a.can;
     }
 
-pub asked_reply : (attempt : Attempt) (old new : Pass) → HasRoom old → Asked 1 old attempt new → Replies old (reply_of attempt) new
+pub asked_reply : (attempt : Attempt) (old new : Pass) → HasRoom old → Attempted 1 old attempt new → Replies old (reply_of attempt) new
 asked_reply (Told answer steps ticket) old new room h = answers_one old new steps ticket answer room h
 asked_reply (Busy zone holder) old new room h = (room, h)
 
-pub asked_block : (want asked : ℕ) (attempt : Attempt) (old new : Pass) → HasRoom old → asked ≡ min want (old.yard.setup.calls - length old.mine) → Asked asked old attempt new
+pub asked_block : (want asked : ℕ) (attempt : Attempt) (old new : Pass) → HasRoom old → asked ≡ min want (old.yard.setup.calls - length old.mine) → Attempted asked old attempt new
     → BlockReplies want old (block_reply_of attempt) new
 asked_block want asked (Told answer steps ticket) old new room is h = answers_block old want asked room is new steps ticket answer h
 asked_block want asked (Busy zone holder) old new room is b =
@@ -118,10 +118,10 @@ pub record IsTriedOn (old new : Pass) : Type 0 where
   pub rest : new ≡ record old { tries = new.tries }
 
 -- the answer to the last request is one to the first
-pub asked_again : (n : ℕ) (attempt : Attempt) (old m new : Pass) → IsTriedOn old m → IsAnswer attempt → Asked n m attempt new → Asked n old attempt new
+pub asked_again : (n : ℕ) (attempt : Attempt) (old m new : Pass) → IsTriedOn old m → FoundNoZoneHeld attempt → Attempted n m attempt new → Attempted n old attempt new
 asked_again n (Told answer steps ticket) old m new t answered h = answered_since n steps ticket answer old m new t.rest t.tries h
 asked_again n (Busy zone holder) old m new t answered h = absurd answered
 
-pub is_answer : (attempt : Attempt) → ((zone holder : ℕ) → attempt ≡ Busy zone holder → ⊥) → IsAnswer attempt
+pub is_answer : (attempt : Attempt) → ((zone holder : ℕ) → attempt ≡ Busy zone holder → ⊥) → FoundNoZoneHeld attempt
 is_answer (Told answer steps ticket) other = tt
 is_answer (Busy zone holder) other = other zone holder refl

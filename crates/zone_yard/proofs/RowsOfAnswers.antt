@@ -9,7 +9,7 @@ use Rattle.zone_yard.specs.declared.replies.BlockReply.TheVariants as block
 use Rattle.zone_yard.specs.declared.replies.Turn.TheVariants as turn
 use Rattle.zone_yard.specs.declared.requests.Attempt.TheVariants.{Told, Busy}
 use Rattle.zone_yard.specs.Blocks.{needs, replies_of, CanAnswer, steps_left}
-use Rattle.zone_yard.specs.Asked.{reply_of, block_reply_of, IsAnswer}
+use Rattle.zone_yard.specs.Asked.{reply_of, block_reply_of, FoundNoZoneHeld}
 use Rattle.zone_yard.specs.Replies.{turn_to}
 use Rattle.zone_yard.proofs.Samples.{boarded, first_path, two_tables}
 
@@ -64,7 +64,7 @@ block_stopped = refl
 block_waits : block_reply_of (Told (First (Waits 0)) 3 7) ≡ block.Waits 7 0
 block_waits = refl
 
-not_answered : IsAnswer (Busy 2 5) → ⊥
+not_answered : FoundNoZoneHeld (Busy 2 5) → ⊥
 not_answered h = h
 
 -- the answers to the control

@@ -12,14 +12,14 @@ use Rattle.zone_yard.specs.Blocks.{IsAnswered, CanAnswer}
 use Rattle.zone_yard.specs.Replies.{IsBusy, reply_to, block_reply_to}
 
 -- It was answered, or a zone that it needs was held.
-abbrev pub Asked : ℕ → Pass → Attempt → Pass → Type 0
-Asked n old (Told answer steps ticket) new = IsAnswered n answer steps ticket old new
-Asked n old (Busy zone holder) new = IsBusy n zone holder old new
+abbrev pub Attempted : ℕ → Pass → Attempt → Pass → Type 0
+Attempted n old (Told answer steps ticket) new = IsAnswered n answer steps ticket old new
+Attempted n old (Busy zone holder) new = IsBusy n zone holder old new
 
 -- No zone was held.
-abbrev pub IsAnswer : Attempt → Type 0
-IsAnswer (Busy zone holder) = ⊥
-IsAnswer (Told answer steps ticket) = Unit {0}
+abbrev pub FoundNoZoneHeld : Attempt → Type 0
+FoundNoZoneHeld (Busy zone holder) = ⊥
+FoundNoZoneHeld (Told answer steps ticket) = Unit {0}
 
 -- what a request for one step is answered by it
 abbrev pub reply_of : Attempt → Reply

@@ -30,8 +30,8 @@ abbrev pub IsSpent : Pass → Type 0
 IsSpent pass = length pass.mine ≡ pass.yard.setup.calls
 
 -- Nothing was changed, and nothing is held.
-abbrev pub IsKept : Pass → Pass → Type 0
-IsKept old new = (new ≡ old) × IsFree new
+abbrev pub ChangesNothing : Pass → Pass → Type 0
+ChangesNothing old new = (new ≡ old) × IsFree new
 
 -- It is the same pass of the same yard.
 abbrev pub IsSamePass : Pass → Pass → Type 0

@@ -69,8 +69,8 @@ abbrev pub AreCells : CoreSetup → List (Cell × ℕ) → Type 0
 AreCells S owed = (k : ℕ) (x : Cell × ℕ) → slice_get owed k ≡ Some x → is_cell S x.0 ≡ true
 
 -- The pass owes this yet, and nothing else was changed.
-abbrev pub Pays : Sat → List (Cell × ℕ) → Sat → Type 0
-Pays old owed new = new ≡ (record old.0 { actor = record old.0.actor { owed = owed } }, old.1)
+abbrev pub StillOwes : Sat → List (Cell × ℕ) → Sat → Type 0
+StillOwes old owed new = new ≡ (record old.0 { actor = record old.0.actor { owed = owed } }, old.1)
 
 -- The pass knows more, and has noted no earlier table. Nothing else was changed.
 pub record Learns (old new : Sat) : Type 0 where

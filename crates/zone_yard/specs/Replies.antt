@@ -20,7 +20,7 @@ use Rattle.zone_locks.specs.Zones.{has}
 use Rattle.move_claim.specs.Claims.{claim_of, zones_of}
 use Rattle.zone_yard.specs.Setup.{state_after}
 use Rattle.zone_yard.specs.Passes.{Pass, Try, IsFree}
-use Rattle.zone_yard.specs.Entering.{Enters, HasRoom, IsSpent, IsKept}
+use Rattle.zone_yard.specs.Entering.{Enters, HasRoom, IsSpent, ChangesNothing}
 
 -- how many steps a request for this many asks for under a table: no more than remain, one where none remains, and no more than the pass
 -- has entries left
@@ -72,12 +72,12 @@ Replies old (one.Full ticket s n) new = IsTold old ticket (ask.Full s n) new
 Replies old (one.Waits ticket c) new = IsTold old ticket (ask.Waits c) new
 Replies old (one.Arrived ticket) new = IsTold old ticket ask.Arrived new
 Replies old (one.Busy zone holder) new = HasRoom old × IsBusy 1 zone holder old new
-Replies old one.Spent new = IsSpent old × IsKept old new
+Replies old one.Spent new = IsSpent old × ChangesNothing old new
 
 -- The request was answered without finding a zone held.
-abbrev pub IsServed : Reply → Type 0
-IsServed (one.Busy zone holder) = ⊥
-IsServed reply = Unit {0}
+abbrev pub IsUnhindered : Reply → Type 0
+IsUnhindered (one.Busy zone holder) = ⊥
+IsUnhindered reply = Unit {0}
 
 -- What the answer to a request for a block of steps says.
 abbrev pub BlockReplies : ℕ → Pass → BlockReply → Pass → Type 0
@@ -88,7 +88,7 @@ BlockReplies want old (block.Full ticket s n) new = IsTold old ticket (ask.Full 
 BlockReplies want old (block.Waits ticket c) new = IsTold old ticket (ask.Waits c) new
 BlockReplies want old (block.Arrived ticket) new = IsTold old ticket ask.Arrived new
 BlockReplies want old (block.Busy zone holder) new = HasRoom old × IsBusy want zone holder old new
-BlockReplies want old block.Spent new = IsSpent old × IsKept old new
+BlockReplies want old block.Spent new = IsSpent old × ChangesNothing old new
 
 -- The block was answered without finding a zone held.
 abbrev pub IsBlockServed : BlockReply → Type 0
@@ -109,8 +109,8 @@ Turns old (turn.Exchanged ticket) new = IsTurned old ticket tried.Exchanged new
 Turns old (turn.Differs ticket i k) new = IsTurned old ticket (tried.Differs i k) new
 Turns old (turn.Over ticket s n) new = IsTurned old ticket (tried.Over s n) new
 Turns old (turn.Early ticket m) new = IsTurned old ticket (tried.Early m) new
-Turns old turn.NoMore new = HasRoom old × (SeesOpen old → ⊥) × IsKept old new
-Turns old turn.Spent new = IsSpent old × IsKept old new
+Turns old turn.NoMore new = HasRoom old × (SeesOpen old → ⊥) × ChangesNothing old new
+Turns old turn.Spent new = IsSpent old × ChangesNothing old new
 
 -- the turn of the control that is answered so
 abbrev pub turn_to : ℕ → Tried → Turn

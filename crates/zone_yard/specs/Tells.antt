@@ -44,12 +44,12 @@ abbrev pub ReadsTable : Step (Unit {0}) → Sat → ℕ → Sat → Type 0
 ReadsTable st m found after = (m.0.noted ≤ found) × (found < length m.0.setup.tables) × (after ≡ (read_table found m.0, m.1))
 
 -- A cell is read under its guard. Its number is small.
-abbrev pub Reads : Cell → Sat → ℕ → Sat → Type 0
-Reads c m found after = (found < 2 ^ 31) × (after ≡ (read c found m.0, m.1))
+abbrev pub ReadsCell : Cell → Sat → ℕ → Sat → Type 0
+ReadsCell c m found after = (found < 2 ^ 31) × (after ≡ (read c found m.0, m.1))
 
 -- An owed cell is written.
-abbrev pub Pays : Cell → Sat → Sat → Type 0
-Pays c m after = after ≡ (paid c m.0, m.1)
+abbrev pub PaysCell : Cell → Sat → Sat → Type 0
+PaysCell c m after = after ≡ (paid c m.0, m.1)
 
 -- The answer's entries are added to the history as it is: of a driver to a request of this many steps, of the control to the next table,
 -- where the positions that the control knows are legal.

@@ -4,7 +4,7 @@ ghost use Rattle.rail_model.specs.Table.{trains};
 ghost use Rattle.rail_model.specs.Yard.{offer};
 ghost use Rattle.zone_machine.specs.Sound.{IsSetup};
 ghost use Rattle.zone_yard.specs.Aboard.{IsIdle};
-ghost use Rattle.zone_yard.specs.Asked.{Asked, IsAnswer};
+ghost use Rattle.zone_yard.specs.Asked.{Attempted, FoundNoZoneHeld};
 ghost use Rattle.zone_yard.specs.Attempts.{Asks};
 ghost use Rattle.zone_yard.specs.Blocks.{granted_steps};
 ghost use Rattle.zone_yard.specs.Entering.{IsSamePass};
@@ -105,7 +105,7 @@ pub(crate) fn ask_steps<G: Gate>(
     requires ours { driver.old.yard ≡ yard.now }
     requires steps { (1 ≤ steps) × (steps ≤ 4) }
     requires room { length driver.old.mine + steps ≤ yard.now.setup.calls }
-    ensures asked { Asked steps driver.old result driver.new }
+    ensures asked { Attempted steps driver.old result driver.new }
     ensures same { IsSamePass driver.old driver.new }
 {
     let attempt = ask_on(
@@ -137,8 +137,8 @@ pub(crate) fn ask_until<R: Wait, G: Gate>(
     requires ours { driver.old.yard ≡ yard.now }
     requires steps { (1 ≤ steps) × (steps ≤ 4) }
     requires room { length driver.old.mine + steps ≤ yard.now.setup.calls }
-    ensures asked { Asked steps driver.old result driver.new }
-    ensures answered { IsAnswer result }
+    ensures asked { Attempted steps driver.old result driver.new }
+    ensures answered { FoundNoZoneHeld result }
     ensures same { IsSamePass driver.old driver.new }
 {
     for _ in rt.forever() {

@@ -5,7 +5,7 @@ ghost use Rattle.move_claim.specs.Cells.{number_of, first_unknown, AreDistinct};
 ghost use Rattle.zone_machine.specs.World.{is_cell, may_read};
 ghost use Rattle.zone_yard.specs.Setup.{core};
 ghost use Rattle.zone_yard.specs.Tells.{IsOurs};
-ghost use Rattle.zone_yard.specs.Holding.{AreAllSmall, Knows, AreReadable, AreCells, Pays as PaysAll};
+ghost use Rattle.zone_yard.specs.Holding.{AreAllSmall, Knows, AreReadable, AreCells, StillOwes as PaysAll};
 
 use crate::steps::{pay, read, word_of};
 use crate::views::Place;

@@ -52,7 +52,7 @@ fn reply_of(attempt: Attempt) -> Reply
 impl<'a> Yard<'a> {
     ghost use Rattle.std.specs.Prelude.{◌≡◌};
     ghost use Rattle.zone_yard.specs.Entering.{IsSamePass};
-    ghost use Rattle.zone_yard.specs.Replies.{Replies, IsServed};
+    ghost use Rattle.zone_yard.specs.Replies.{Replies, IsUnhindered};
 
     /// Asks for one step, and waits for nobody: where a zone is held it answers `Busy`, and holds nothing.
     pub fn try_request<G: Gate>(&self, driver: &mut Driver, gate: &G) -> Reply
@@ -71,7 +71,7 @@ impl<'a> Yard<'a> {
     pub fn request<R: Wait, G: Gate>(&self, rt: &R, driver: &mut Driver, gate: &G) -> Reply
         requires { driver.old.yard ≡ self.now }
         ensures reply { Replies driver.old result driver.new }
-        ensures served { IsServed result }
+        ensures served { IsUnhindered result }
         ensures same { IsSamePass driver.old driver.new }
     {
         let left = entries_left(self, driver);

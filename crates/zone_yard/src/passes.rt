@@ -3,7 +3,7 @@ ghost use Rattle.std.specs.Prelude.{◌≡◌, ◌<◌, ◌≤◌, [], true};
 ghost use Rattle.zone_yard.specs.Aboard.{IsPass};
 ghost use Rattle.zone_yard.specs.Boarding.{boarded_pass, with_pass, TakesBack};
 ghost use Rattle.zone_yard.specs.Lines.{AreLines, Lines, most_lines};
-ghost use Rattle.zone_yard.specs.Kept.{IsActor};
+ghost use Rattle.zone_yard.specs.Kept.{IsPassNumber};
 ghost use Rattle.zone_yard.specs.Passes.{HasBoarded, standing};
 ghost use Rattle.zone_yard.specs.Setup.{most_passes, state_after};
 ghost use Rattle.zone_yard.specs.Tells.{IsOurs};
@@ -30,7 +30,7 @@ pub(crate) fn take_back(
     requires root { root.old.yard ≡ yard.now }
     requires seat { IsOurs yard.now seat.table_id seat.me.0 × (seat.me.1 ≡ []) }
     requires free { (seat.me.0.aboard ≡ true) × (seat.me.0.actor.held ≡ []) }
-    requires number { (seat.me.0.number ≡ number) × IsActor yard.now.setup number }
+    requires number { (seat.me.0.number ≡ number) × IsPassNumber yard.now.setup number }
     requires lines { AreLines seat.me.0 receipts }
     ensures { TakesBack root.old (pass_of seat.table_id seat.me.0) root.new }
 {
@@ -43,7 +43,7 @@ pub(crate) fn take_back(
 // The seat of a pass that boards.
 fn seat_of(yard: &Yard<'_>, root: &mut Root, number: u32) -> Place
     requires ours { root.old.yard ≡ yard.now }
-    requires pass { IsActor yard.now.setup number × (number < most_passes) }
+    requires pass { IsPassNumber yard.now.setup number × (number < most_passes) }
     requires ashore { HasBoarded root.old number → ⊥ }
     ensures root { root.new ≡ with_pass root.old number }
     ensures pass { pass_of result.table_id result.me.0 ≡ boarded_pass root.old number }

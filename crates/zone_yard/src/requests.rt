@@ -9,7 +9,7 @@ ghost use Rattle.zone_yard.specs.Passes.{told};
 ghost use Rattle.zone_yard.specs.Blocks.{needs, replies_of, granted_steps, CanAnswer};
 ghost use Rattle.zone_yard.specs.Lines.{AreLines};
 ghost use Rattle.zone_yard.specs.Views.{new_entries};
-ghost use Rattle.zone_yard.specs.Holding.{span, Learns, Pays, AreCells, owing};
+ghost use Rattle.zone_yard.specs.Holding.{span, Learns, StillOwes, AreCells, owing};
 ghost use Rattle.zone_yard.specs.Aboard.{IsIdle};
 ghost use Rattle.zone_yard.specs.Attempts.{Attempts};
 ghost use Rattle.zone_yard.specs.Setup.{core, most_passes};
@@ -154,7 +154,7 @@ pub(crate) fn pay_due(
     requires once { AreDistinct seat.old.me.0.actor.owed }
     requires cells { AreCells (core yard.now.setup) seat.old.me.0.actor.owed }
     ensures same { (seat.new.table_id ≡ seat.old.table_id) × (seat.new.id ≡ seat.old.id) }
-    ensures pays { Pays seat.old.me [] seat.new.me }
+    ensures pays { StillOwes seat.old.me [] seat.new.me }
 {
     if let BlockAsk::Yes = answer {
         footprint.effects(known, owed);

@@ -10,7 +10,7 @@ ghost use Rattle.zone_machine.specs.Sound.{IsSetup};
 ghost use Rattle.zone_yard.specs.Core.{MayEnter};
 ghost use Rattle.zone_yard.specs.Setup.{core, most_passes};
 ghost use Rattle.zone_yard.specs.Views.{took, tried_at, gave, glanced, read, read_table, paid, boarding, pass_view, leaving, new_entries, actor_after};
-ghost use Rattle.zone_yard.specs.Kept.{IsActor};
+ghost use Rattle.zone_yard.specs.Kept.{IsPassNumber};
 ghost use Rattle.zone_yard.specs.Tells.{Appends, Looks, IsOurs};
 
 use crate::views::{
@@ -53,7 +53,7 @@ pub(crate) fn release(yard: &Yard<'_>, seat: &mut Place, zone: u32)
 pub(crate) fn board_seat<J: Which>(yard: &Yard<'_>, root: &mut Place, number: u32) -> Place
     requires which { number ≡ J.number }
     requires root { IsOurs yard.now root.old.table_id root.old.me.0 × (root.old.id ≡ 0) }
-    requires pass { IsActor yard.now.setup number × (has number root.old.me.0.boarded ≡ false) }
+    requires pass { IsPassNumber yard.now.setup number × (has number root.old.me.0.boarded ≡ false) }
     ensures root { (root.new.table_id ≡ root.old.table_id) × (root.new.id ≡ root.old.id) × (root.new.me ≡ (boarding number root.old.me.0, root.old.me.1)) }
     ensures seat { (result.table_id ≡ root.old.table_id) × (result.me ≡ (pass_view number root.old.me.0, [])) }
 {

@@ -117,9 +117,9 @@ pub struct Reading<J: WhichCell> {
 }
 
 impl<J: WhichCell> Play<(), View> for Reading<J> {
-    ghost use Rattle.zone_yard.specs.Tells.{Reads};
+    ghost use Rattle.zone_yard.specs.Tells.{ReadsCell};
 
-    ghost then = { λ step. Reads J.cell };
+    ghost then = { λ step. ReadsCell J.cell };
 }
 
 /// The table in force is read under a zone.
@@ -137,9 +137,9 @@ pub struct Paying<J: WhichCell> {
 }
 
 impl<J: WhichCell> Play<(), View> for Paying<J> {
-    ghost use Rattle.zone_yard.specs.Tells.{Pays};
+    ghost use Rattle.zone_yard.specs.Tells.{PaysCell};
 
-    ghost then = { λ step m stored. Pays J.cell m };
+    ghost then = { λ step m stored. PaysCell J.cell m };
 }
 
 /// How many steps a driver asks for; of the control one. Each call picks its own.

@@ -1,5 +1,5 @@
 use Rattle.std.proofs.Common.{◌≡◌, ◌⊎◌, sym, ap, subst, inl, inr, Result, Err}
-use Rattle.rail_model.specs.Turns.{in_turn, Answers}
+use Rattle.rail_model.specs.Turns.{in_turn, AnswersAs}
 use Rattle.rail_model.proofs.Firsts.{Answers-err}
 use Rattle.document_shapes.specs.Raw.{members_of}
 use Rattle.document_shapes.specs.Seen.{seen_document}
@@ -31,4 +31,4 @@ checked-requires c =
 pub returns : goal.returns
 unfolding doc_of
 returns c =
-    subst (λ (r : Result Doc DocRefused). Answers Memory (λ d. d) c.checked.result r) (sym (ap (λ r. in_turn r doc_from) c.in_ok-read_members.ensures)) c.checked.ensures
+    subst (λ (r : Result Doc DocRefused). AnswersAs Memory (λ d. d) c.checked.result r) (sym (ap (λ r. in_turn r doc_from) c.in_ok-read_members.ensures)) c.checked.ensures

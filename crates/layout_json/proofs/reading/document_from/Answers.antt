@@ -1,5 +1,5 @@
 use Rattle.std.proofs.Common.{sym, ap, subst, Result}
-use Rattle.rail_model.specs.Turns.{in_turn, Answers}
+use Rattle.rail_model.specs.Turns.{in_turn, AnswersAs}
 use Rattle.document_shapes.specs.Seen.{seen_document}
 use Rattle.document_shapes.specs.Written.{text_of}
 use Rattle.document_shapes.proofs.Versions.{read-version}
@@ -16,4 +16,4 @@ checked-requires c = let m = seen_document c.args.members in read-version (text_
 pub returns : goal.returns
 unfolding doc_of
 returns c =
-    subst (λ (r : Result Doc DocRefused). Answers Memory (λ d. d) c.checked.result r) (sym (ap (λ r. in_turn (refused_as Shape r) doc_from) c.requires)) c.checked.ensures
+    subst (λ (r : Result Doc DocRefused). AnswersAs Memory (λ d. d) c.checked.result r) (sym (ap (λ r. in_turn (refused_as Shape r) doc_from) c.requires)) c.checked.ensures

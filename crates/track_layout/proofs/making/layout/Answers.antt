@@ -1,6 +1,6 @@
 use Rattle.std.proofs.Common.{◌≡◌, ◌∙◌, ◌⊎◌, ℕ, List, String, Global, Result, IsErrAnd, Some, None, Ok, Err, ap, subst, sym, inl, inr, arith, length, map, string_bytes, refl}
 use Rattle.rail_model.specs.Layout.{Layout, IsLayout}
-use Rattle.rail_model.specs.Turns.{Answers, first_of}
+use Rattle.rail_model.specs.Turns.{AnswersAs, first_of}
 use Rattle.rail_model.proofs.Firsts.{Answers-err}
 use Rattle.track_layout.specs.Making.{bad_name, double_name, unknown_point, names_of, zones_of, link_value, layout_value, layout_refusal, layout_from}
 use Rattle.track_layout.specs.Doubling.{point_refusal}
@@ -64,7 +64,7 @@ made c numbers links =
 told : (points : List (String Global × ℕ)) (links : List (String Global × String Global)) (zones : ℕ) (result : Result Layout LayoutRefused)
     (e : LayoutRefused) → IsErrAnd result (λ y. y ≡ e)
     → (e ≡ Memory) ⊎ (layout_refusal (points_seen points) (links_seen links) zones ≡ Some e)
-    → Answers Memory (λ made. made) result (layout_from (points_seen points) (links_seen links) zones)
+    → AnswersAs Memory (λ made. made) result (layout_from (points_seen points) (links_seen links) zones)
 told points links zones result e is why =
     let answer = elim why as (λ _. (e ≡ Memory) ⊎ (layout_from (points_seen points) (links_seen links) zones ≡ Err e)) [
       | inl m ↦ inl m

@@ -1,7 +1,7 @@
 use Rattle.std.proofs.Common.{◌≡◌, ℕ, ◌<◌, List, length, get_or, true, sym, subst, arith, rules, Vec, Global}
 use Rattle.std.specs.Prelude.{Contains}
 use Rattle.train_graph.specs.declared.order.Depth.{Depth}
-use Rattle.train_graph.specs.Rows.{IsKnown, Keeps, KnowsBehind}
+use Rattle.train_graph.specs.Rows.{IsDepthKnown, Keeps, KnowsBehind}
 use Rattle.train_graph.proofs.Known.{found_known, known_both_ways}
 use Rattle.train_graph.proofs.order.push_way.Goals as goal
 use Rattle.train_graph.proofs.order.push_way.Goals.{then-not-has_known+in_ok-push_fresh, else-not-has_known}
@@ -18,17 +18,17 @@ returns-clause-kept c =
 pub returns-clause-all : goal.returns-clause-all
 returns-clause-all c =
     let way = c.args.way.now in
-    let start : (p : ℕ) → Contains way p → (m : ℕ) × (m < length way) × IsKnown c.if-not-has_known.depths.items (get_or way m 0) = λ p on. elim c.if-not-has_known.branch [
+    let start : (p : ℕ) → Contains way p → (m : ℕ) × (m < length way) × IsDepthKnown c.if-not-has_known.depths.items (get_or way m 0) = λ p on. elim c.if-not-has_known.branch [
       | then-not-has_known+in_ok-push_fresh w ↦
           let some : 0 < length way = omega (arith, on.1) in
-          (0, some, subst (λ (v : Vec Depth Global). IsKnown v.items (get_or way 0 0)) (sym w.depths-is) (w.in_ok-push_fresh.ensures.first some))
+          (0, some, subst (λ (v : Vec Depth Global). IsDepthKnown v.items (get_or way 0 0)) (sym w.depths-is) (w.in_ok-push_fresh.ensures.first some))
       | else-not-has_known w ↦
           let held : c.has_known.result ≡ true = search rules in
           let found = found_known c.has_known.result c.deref.result.now way c.has_known.ensures held in (
             found.0,
             found.1,
-            subst (λ (v : Vec Depth Global). IsKnown v.items (get_or way found.0 0)) (sym w.depths-is)
-                (subst (λ (depths : List Depth). IsKnown depths (get_or way found.0 0)) c.deref.ensures.value found.2),
+            subst (λ (v : Vec Depth Global). IsDepthKnown v.items (get_or way found.0 0)) (sym w.depths-is)
+                (subst (λ (depths : List Depth). IsDepthKnown depths (get_or way found.0 0)) c.deref.ensures.value found.2),
           )
     ] in
     λ p on.

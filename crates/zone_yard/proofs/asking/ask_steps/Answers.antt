@@ -1,7 +1,7 @@
 use Rattle.std.proofs.Common.{◌≡◌, ◌+◌, ◌≤◌, ℕ, length, sym, ap, ◌∙◌, subst, arith}
 use Rattle.zone_yard.specs.Setup.{SharedYard}
 use Rattle.zone_yard.specs.Passes.{Pass}
-use Rattle.zone_yard.specs.Asked.{Asked}
+use Rattle.zone_yard.specs.Asked.{Attempted}
 use Rattle.zone_yard.specs.Views.{pass_of}
 use Rattle.zone_yard.specs.Tells.{Sat}
 use Rattle.zone_yard.specs.Aboard.{IsDriver}
@@ -44,7 +44,7 @@ invariant_of-driver g c =
 
 pub returns-in_default-clause-asked : goal.returns-in_default-clause-asked
 returns-in_default-clause-asked g c =
-    subst (λ (x : Pass × Pass). Asked c.args.steps x.0 c.ask_on-attempt.result x.1)
+    subst (λ (x : Pass × Pass). Attempted c.args.steps x.0 c.ask_on-attempt.result x.1)
     (λ i. (c.driver.view_is i, pass_of (sym c.ask_on-attempt.ensures.same.0 i) c.ask_on-attempt.new.seat.me.0))
     (asks_asked c.driver.inside.seat.table_id c.driver.inside.train c.driver.inside.position c.driver.inside.entries c.driver.inside.seat.me c.ask_on-attempt.new.seat.me c.driver.invariant.0
     c.args.steps c.ask_on-attempt.result c.requires.steps.0 (room g (goal.at.returns-in_default-clause-asked g c).After-ask_on-attempt) c.ask_on-attempt.ensures.asks)

@@ -7,7 +7,7 @@ use Rattle.zone_yard.specs.Tells.{Sat}
 use Rattle.zone_yard.specs.Passes.{Root as RootValue, entries_of, standing}
 use Rattle.zone_yard.specs.Aboard.{IsPass}
 use Rattle.zone_yard.specs.Lines.{AreLeft, AreLines}
-use Rattle.zone_yard.specs.Kept.{IsActor}
+use Rattle.zone_yard.specs.Kept.{IsPassNumber}
 use Rattle.zone_yard.specs.Views.{View, boarding, pass_view}
 use Rattle.zone_yard.proofs.LinesKept.{left_stay, lines_begin}
 use Rattle.zone_yard.proofs.Keeps.{has_less}
@@ -56,11 +56,11 @@ invariant_of-root c =
         counted = long ∙ (ap suc counted ∙ sym many');
         out_is = omega arith;
         few = omega arith;
-        away = subst (λ (x : View). (p : ℕ) → IsActor x.setup p → has p x.boarded ≡ false → entries_of p x.seen ≡ []) (sym me)
+        away = subst (λ (x : View). (p : ℕ) → IsPassNumber x.setup p → has p x.boarded ≡ false → entries_of p x.seen ≡ []) (sym me)
             (λ p actor h. r.away p actor (has_less p t v.boarded h));
         legal = subst (λ (x : View). IsLegalHistory x.setup x.seen) (sym me) r.legal;
         few_calls = subst (λ (x : View). x.setup.calls < 2 ^ 32) (sym me) r.few_calls;
-        ashore = λ p is e. subst (λ (x : View). standing (state_after x.setup x.seen) p ≡ standing x.setup.opening.yard p) (sym me) (r.ashore p (subst (λ (x : View). IsActor x.setup p) me is) (has_less p t v.boarded (sym (ap (has p) boarded) ∙ e)));
+        ashore = λ p is e. subst (λ (x : View). standing (state_after x.setup x.seen) p ≡ standing x.setup.opening.yard p) (sym me) (r.ashore p (subst (λ (x : View). IsPassNumber x.setup p) me is) (has_less p t v.boarded (sym (ap (has p) boarded) ∙ e)));
       },
       subst (λ (x : View). AreLeft x c.root.inside.lines.items) (sym me) (left_stay v (boarding t v) c.root.inside.lines.items refl refl refl c.root.invariant.1),
     )
@@ -76,6 +76,6 @@ returns-clause-lines c = λ l none room.
     let v : View = c.root.inside.seat.me.0 in
     let me : c.board_seat-seat.result.me.0 ≡ pass_view c.args.number v = ap (λ m. m.0) c.board_seat-seat.ensures.seat.1 in
     let made : v.setup ≡ c.args.yard.now.setup = ap (λ (x : RootValue). x.yard.setup) c.root.view_is ∙ ap (λ (y : SharedYard). y.setup) c.requires.ours in
-    let actor = subst (λ (S : Setup). IsActor S c.args.number) (sym made) c.requires.pass.0 in
+    let actor = subst (λ (S : Setup). IsPassNumber S c.args.number) (sym made) c.requires.pass.0 in
     let none_yet = ashore v.boarded c.args.root.now.boarded c.args.number (ap (λ (x : RootValue). x.boarded) c.root.view_is) c.requires.ashore in
     subst (λ (x : View). AreLines x l) (sym me) (lines_begin v c.args.number l none room (c.root.invariant.0.away c.args.number actor none_yet))
