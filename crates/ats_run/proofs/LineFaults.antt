@@ -1,4 +1,4 @@
--- What is told of a journal that isn't whole.
+-- What a journal that isn't whole is answered by.
 use Rattle.std.proofs.Common.{◌≡◌, ◌⊎◌, List, refl, inl, inr, sym, subst}
 use Rattle.std.specs.Prelude.{Err}
 use Rattle.rail_model.specs.Yard.{Offer, Yard}

@@ -83,7 +83,7 @@ is_over s n (Over r m) = elim (decide_× _ _ (cases_eq r s) (cases_eq m n)) [
 is_over s n (Early m) = inr (λ e. cc)
 is_over s n NoMore = inr (λ e. cc)
 
--- whether a line has the number of the next table and what the control is told of it
+-- whether a line has the number of the next table and what it answers to the control
 decide_table : (tables : List Offer) (y : Yard) (t : ℕ) (wanted : Tried) → AreTables tables → AreSound tables → Stands tables y
     → ((a : Tried) → Dec (a ≡ wanted)) → (Tries tables y wanted → IsOpen tables y) → Dec ((t ≡ y.tried + 1) × Tries tables y wanted)
 decide_table tables y t wanted are sound s is_wanted opens = decide_× _ _ (cases_eq t (y.tried + 1)) (elim (cases_lt (y.tried + 1) (length tables)) [

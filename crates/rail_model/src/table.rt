@@ -149,6 +149,24 @@ impl Table {
         }
     }
 
+    /// The missions, the sections and the connections, apart.
+    pub fn into_parts(self) -> (Missions, Vec<Section>, Vec<Connection>)
+        ensures missions { result.0 ≡ self.missions }
+        ensures sections { result.1.items ≡ self.sections }
+        ensures connections { result.2.items ≡ self.connections }
+        ensures formed { IsTable self }
+    {
+        (self.missions, self.sections, self.connections)
+    }
+
+    /// The missions alone, by value.
+    pub fn into_missions(self) -> Missions
+        ensures missions { result ≡ self.missions }
+        ensures formed { IsTable self }
+    {
+        self.missions
+    }
+
     /// The missions, one per train.
     pub fn missions(&self) -> &Missions
         ensures missions { result.now ≡ self.now.missions }

@@ -1,4 +1,4 @@
--- Worked rows: which circle is told of a state in which trains wait for one another.
+-- Worked rows: which circle is named for a state in which trains wait for one another.
 use Rattle.std.proofs.Common.{◌≡◌, ◌∷◌, [], ℕ, zero, suc, ◌+◌, ◌-◌, ◌<◌, List, length, get_or, false, refl, lit<, lit≤, arith}
 use Rattle.std.specs.Prelude.{Some}
 use Rattle.rail_model.specs.Table.{Table, Mission, trains}
