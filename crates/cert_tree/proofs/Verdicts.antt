@@ -1,11 +1,11 @@
 -- A list of nodes has one verdict: it spells a tree, or it is refused for one cause.
-use Rattle.std.proofs.Common.{◌≡◌, ◌≢◌, ℕ, suc, ◌+◌, ◌≤◌, List, [], ◌∷◌, ◌++◌, length, replicate, refl, sym, ◌∙◌, ap, arith, append_assoc, length-append}
+use Rattle.std.proofs.Common.{◌≡◌, ℕ, suc, ◌+◌, ◌≤◌, List, [], ◌∷◌, ◌++◌, length, replicate, refl, sym, ◌∙◌, ap, arith, append_assoc, length-append}
 use Rattle.std.proofs.lemmas.List.{length-replicate}
 use Rattle.rail_model.specs.declared.types.Node.{Node}
 use Rattle.rail_model.specs.declared.types.Node.TheVariants.{Split, Clash, Overfull, Arrived, Move}
 use Rattle.rail_model.specs.Certificate.{Tree, clash, overfull, arrived, move, split, preorder}
 use Rattle.cert_tree.specs.declared.reading.CertRefused.{CertRefused}
-use Rattle.cert_tree.specs.declared.reading.CertRefused.TheVariants.{Memory, TooMany, Short, Over}
+use Rattle.cert_tree.specs.declared.reading.CertRefused.TheVariants.{TooMany, Short, Over}
 use Rattle.cert_tree.specs.Spelling.{most_nodes, forest_nodes, trees_of, first_tree, trees_of-preorder, tree_of-preorder}
 use Rattle.cert_tree.specs.Refused.{IsMissing, IsLeftOver, IsRefused}
 
@@ -105,25 +105,20 @@ same_over nodes m n one two =
     ∙ ap first_tree (trees_of-preorder two.0 two.1) in
     sym one.3 ∙ ap (λ (t : Tree). length (preorder t)) first ∙ two.3
 
-pub refused_not_spelled : (nodes : List Node) (e : CertRefused) (t : Tree) → e ≢ Memory → IsRefused nodes e → preorder t ≡ nodes → length nodes ≤ most_nodes → ⊥
-refused_not_spelled nodes Memory t ample r spelled few = ample refl
-refused_not_spelled nodes (TooMany n) t ample r spelled few = omega (arith, r.1, few)
-refused_not_spelled nodes (Short n) t ample r spelled few =
+pub refused_not_spelled : (nodes : List Node) (e : CertRefused) (t : Tree) → IsRefused nodes e → preorder t ≡ nodes → length nodes ≤ most_nodes → ⊥
+refused_not_spelled nodes (TooMany n) t r spelled few = omega (arith, r.1, few)
+refused_not_spelled nodes (Short n) t r spelled few =
     omega (arith, r.1, missing_is nodes n r.2, one_more t, ap leaves spelled, ap splits spelled)
-refused_not_spelled nodes (Over n) t ample r spelled few =
+refused_not_spelled nodes (Over n) t r spelled few =
     omega (arith, nothing_left r.1.0 t r.1.1 (sym r.1.2 ∙ sym spelled), r.1.4)
 
-pub one_refusal : (nodes : List Node) (e f : CertRefused) → e ≢ Memory → f ≢ Memory → IsRefused nodes e → IsRefused nodes f → e ≡ f
-one_refusal nodes Memory f ample _ r k = absurd (ample refl)
-one_refusal nodes (TooMany m) Memory _ ample r k = absurd (ample refl)
-one_refusal nodes (TooMany m) (TooMany n) _ _ r k = let x = r.0 in let y = k.0 in cc
-one_refusal nodes (TooMany m) (Short n) _ _ r k = absurd (omega (arith, r.1, k.0))
-one_refusal nodes (TooMany m) (Over n) _ _ r k = absurd (omega (arith, r.1, k.0))
-one_refusal nodes (Short m) Memory _ ample r k = absurd (ample refl)
-one_refusal nodes (Short m) (TooMany n) _ _ r k = absurd (omega (arith, k.1, r.0))
-one_refusal nodes (Short m) (Short n) _ _ r k = ap (λ (x : ℕ). Short x) (same_missing nodes m n r.2 k.2)
-one_refusal nodes (Short m) (Over n) _ _ r k = absurd (not_missing_and_over nodes m n r.2 k.1)
-one_refusal nodes (Over m) Memory _ ample r k = absurd (ample refl)
-one_refusal nodes (Over m) (TooMany n) _ _ r k = absurd (omega (arith, k.1, r.0))
-one_refusal nodes (Over m) (Short n) _ _ r k = absurd (not_missing_and_over nodes n m k.2 r.1)
-one_refusal nodes (Over m) (Over n) _ _ r k = ap (λ (x : ℕ). Over x) (same_over nodes m n r.1 k.1)
+pub one_refusal : (nodes : List Node) (e f : CertRefused) → IsRefused nodes e → IsRefused nodes f → e ≡ f
+one_refusal nodes (TooMany m) (TooMany n) r k = let x = r.0 in let y = k.0 in cc
+one_refusal nodes (TooMany m) (Short n) r k = absurd (omega (arith, r.1, k.0))
+one_refusal nodes (TooMany m) (Over n) r k = absurd (omega (arith, r.1, k.0))
+one_refusal nodes (Short m) (TooMany n) r k = absurd (omega (arith, k.1, r.0))
+one_refusal nodes (Short m) (Short n) r k = ap (λ (x : ℕ). Short x) (same_missing nodes m n r.2 k.2)
+one_refusal nodes (Short m) (Over n) r k = absurd (not_missing_and_over nodes m n r.2 k.1)
+one_refusal nodes (Over m) (TooMany n) r k = absurd (omega (arith, k.1, r.0))
+one_refusal nodes (Over m) (Short n) r k = absurd (not_missing_and_over nodes n m k.2 r.1)
+one_refusal nodes (Over m) (Over n) r k = ap (λ (x : ℕ). Over x) (same_over nodes m n r.1 k.1)

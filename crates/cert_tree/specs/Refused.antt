@@ -3,7 +3,7 @@ use Rattle.std.specs.Prelude.{◌≡◌, ℕ, ◌<◌, ◌≤◌, List, ◌++◌
 use Rattle.rail_model.specs.declared.types.Node.{Node}
 use Rattle.rail_model.specs.Certificate.{Tree, preorder}
 use Rattle.cert_tree.specs.declared.reading.CertRefused.{CertRefused}
-use Rattle.cert_tree.specs.declared.reading.CertRefused.TheVariants.{Memory, TooMany, Short, Over}
+use Rattle.cert_tree.specs.declared.reading.CertRefused.TheVariants.{TooMany, Short, Over}
 use Rattle.cert_tree.specs.Spelling.{forest_nodes, most_nodes}
 
 -- Any `missing` trees after the list make it a tree's preorder.
@@ -16,9 +16,8 @@ abbrev pub IsLeftOver : List Node → ℕ → Type 0
 IsLeftOver nodes used =
     (t : Tree) × (rest : List Node) × (nodes ≡ preorder t ++ rest) × (length (preorder t) ≡ used) × (0 < length rest)
 
--- The cause of a refusal: too many nodes first; out of memory may come at any list that isn't too long.
+-- The cause of a refusal: too many nodes first.
 abbrev pub IsRefused : List Node → CertRefused → Type 0
-IsRefused nodes Memory = length nodes ≤ most_nodes
 IsRefused nodes (TooMany n) = (n ≡ length nodes) × (most_nodes < length nodes)
 IsRefused nodes (Short missing) = (length nodes ≤ most_nodes) × (0 < missing) × IsMissing nodes missing
 IsRefused nodes (Over used) = (length nodes ≤ most_nodes) × IsLeftOver nodes used

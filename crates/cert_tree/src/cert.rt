@@ -36,13 +36,22 @@ impl Cert {
     ghost use Rattle.rail_model.specs.Certificate.{preorder as nodes_of};
     ghost use Rattle.cert_tree.specs.Spelling.{most_nodes, tree_of};
 
-    /// The certificate whose nodes these are.
-    pub(crate) fn spelled(nodes: Nodes) -> Self
+    /// The certificate whose nodes these are, for nodes of which it is proved that they are a tree's preorder;
+    /// [`tree`](crate::tree) tests any.
+    pub fn spelled(nodes: Nodes) -> Self
         requires spelled { nodes_of (tree_of nodes) ≡ nodes }
         requires few { length nodes ≤ most_nodes }
         ensures { nodes_of result ≡ nodes }
     {
         Cert { nodes }
+    }
+
+    /// The nodes in preorder, by value.
+    pub fn into_nodes(self) -> Vec<Node>
+        ensures nodes { result.items ≡ nodes_of self }
+        ensures few { length result.items ≤ most_nodes }
+    {
+        self.nodes.into_vec()
     }
 
     /// The nodes in preorder, lent.

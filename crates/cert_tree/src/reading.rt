@@ -1,19 +1,15 @@
 // A list of nodes, read as the tree that it spells.
-ghost use Rattle.std.specs.Prelude.{◌≡◌, ◌+◌, ◌<◌, ◌≤◌, IfOk, IfErr};
+ghost use Rattle.std.specs.Prelude.{◌≡◌, ◌+◌, ◌<◌, ◌≤◌, length, IfOk, IfErr, OnOk};
 ghost use Rattle.rail_model.specs.Certificate.{preorder as nodes_of};
-ghost use Rattle.cert_tree.specs.declared.reading.CertRefused.TheVariants.{Memory};
-ghost use Rattle.cert_tree.specs.Refused.{IsRefused};
+ghost use Rattle.cert_tree.specs.Refused.{IsMissing, IsRefused};
 ghost use Rattle.cert_tree.specs.Spelling.{most_nodes, wanted_behind};
 
 use crate::{Cert, MOST_NODES};
-use rail_model::{Node, Nodes};
-use std::alloc::{AllocError, Global};
+use rail_model::Node;
 
 /// Why a list of nodes spells no certificate.
 #[derive(Clone, Copy, Debug, PartialEq, Eq)]
 pub enum CertRefused {
-    /// There is no memory for the list.
-    Memory,
     /// There are `count` nodes, more than `MOST_NODES`.
     TooMany { count: u64 },
     /// The list ends while `missing` trees are still wanted.
@@ -22,21 +18,10 @@ pub enum CertRefused {
     Over { used: u64 },
 }
 
-impl From<AllocError> for CertRefused {
-    ghost from_gives = { λ _ e. e ≡ Memory };
-
-    fn from(_: AllocError) -> Self {
-        CertRefused::Memory
-    }
-}
-
-/// The certificate that the nodes spell, read without recursion.
-///
-/// # Errors
-///
-/// Too many nodes are refused before all else. Out of memory may come for any list that isn't too long.
-pub fn tree(alloc: Global, nodes: &[Node]) -> Result<Cert, CertRefused>
-    ensures spells { IfOk result (λ cert. nodes_of cert ≡ nodes.now) }
+// Refuses nodes that spell no tree. They are read without recursion.
+fn check_nodes(nodes: &[Node]) -> Result<(), CertRefused>
+    ensures spelled { OnOk result (IsMissing nodes.now 0) }
+    ensures few { OnOk result (length nodes.now ≤ most_nodes) }
     ensures refused { IfErr result (IsRefused nodes.now) }
 {
     if nodes.len() > MOST_NODES {
@@ -54,8 +39,20 @@ pub fn tree(alloc: Global, nodes: &[Node]) -> Result<Cert, CertRefused>
     if wanted > 0 {
         return Err(CertRefused::Short { missing: wanted });
     }
-    let nodes: Nodes = Vec::from_slice(alloc, nodes)?.into();
-    Ok(Cert::spelled(nodes))
+    Ok(())
+}
+
+/// The certificate that the nodes spell.
+///
+/// # Errors
+///
+/// Too many nodes are refused before all else; then the list ends too early, or too late.
+pub fn tree(nodes: Vec<Node>) -> Result<Cert, CertRefused>
+    ensures spells { IfOk result (λ cert. nodes_of cert ≡ nodes.items) }
+    ensures refused { IfErr result (IsRefused nodes.items) }
+{
+    check_nodes(&nodes)?;
+    Ok(Cert::spelled(nodes.into()))
 }
 
 /// How many trees are wanted after a node, where this many were before it.
