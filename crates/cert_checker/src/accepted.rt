@@ -32,6 +32,18 @@ impl Model for Accepted {
 }
 
 impl Accepted {
+    ghost use Rattle.std.specs.Prelude.{◌≡◌};
+    ghost use Rattle.rail_model.specs.Move.{Live};
+    ghost use Rattle.rail_model.specs.Table.{IsTable};
+
+    /// A table that is proved to be live, as one that the maker made a certificate for; it isn't checked again.
+    pub fn live(table: Table, after: u32) -> Self
+        requires { Live table }
+        ensures { result ≡ record { table = table; after = after } }
+    {
+        Accepted { table, after }
+    }
+
     /// The table.
     pub fn table(&self) -> &Table
         ensures given { result.now ≡ self.now.table }
