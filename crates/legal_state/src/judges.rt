@@ -48,8 +48,8 @@ fn check_range(table: &Table, state: &State) -> Result<(), Illegal>
     Ok(())
 }
 
-/// Whether a train stands at a point.
-pub(crate) fn stands_at(table: &Table, state: &State, train: u32, point: u32) -> bool
+// Whether a train stands at a point.
+fn stands_at(table: &Table, state: &State, train: u32, point: u32) -> bool
     requires size { length state.now ≡ trains table.now }
     requires train { train < trains table.now }
     ensures { IsTrue result ↔ StandsAt table.now state.now train point }

@@ -1,15 +1,21 @@
 // What a train that asks to move is told.
-ghost use Rattle.std.specs.Prelude.{◌≡◌, ℕ, ◌+◌, ◌<◌, ◌≤◌, length, MatchOption, IsTrue, ◌↔◌};
+ghost use Rattle.std.specs.Prelude.{◌≡◌, ℕ, ◌+◌, ◌<◌, ◌≤◌, length, MatchOption, IsTrue, ◌↔◌, Some, slice_get};
 ghost use Rattle.rail_model.specs.Table.{IsTable, trains, last, place};
 ghost use Rattle.rail_model.specs.State.{Legal};
 ghost use Rattle.rail_model.specs.Move.{advance, Answers, Blocks, IsHeldBy, IsOver, IsFirstOrNone};
 
 use crate::count_of;
-use crate::judges::stands_at;
 use rail_model::{
-    Ask, State, Table, change_at, connection_of, connections_of, last_of, limit_of, point_of,
-    sections_of, trains_of,
+    Ask, Mission, State, Table, change_at, connection_of, connections_of, last_of, limit_of,
+    point_of, sections_of, trains_of,
 };
+
+// Whether a mission has a point at a place.
+fn is_at(mission: &Mission, place: u32, point: u32) -> bool
+    ensures { IsTrue result ↔ (slice_get mission.now.points place ≡ Some point) }
+{
+    mission.point(place) == Some(point)
+}
 
 // The other train at a train's next point, if there is one.
 fn blocker(table: &Table, state: &State, train: u32) -> Option<u32>
@@ -18,12 +24,12 @@ fn blocker(table: &Table, state: &State, train: u32) -> Option<u32>
     requires unfinished { place state.now train < last table.now train }
     ensures { MatchOption result ((by : ℕ) → Blocks table.now state.now train by → ⊥) (λ by. Blocks table.now state.now train by) }
 {
-    let trains = trains_of(table);
-    if let Some(next) = point_of(table, train, state.place(train) + 1) {
-        for other in 0..trains {
-            if other != train && stands_at(table, state, other, next) {
-                return Some(other);
-            }
+    let missions = table.missions();
+    let next = point_of(table, train, state.place(train) + 1)?;
+    // The train itself isn't there: each of its steps leads to another point.
+    for other in 0..missions.len() as u32 {
+        if is_at(missions.mission(other), state.place(other), next) {
+            return Some(other);
         }
     }
     None
