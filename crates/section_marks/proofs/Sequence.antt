@@ -1,39 +1,35 @@
 -- Sections and their lists one after another: where the first refusal comes.
-use Rattle.std.proofs.Common.{◌≡◌, ◌∙◌, ℕ, ◌+◌, ◌<◌, ◌≤◌, Bool, true, false, not, ◌==◌, ℤ, List, [], length, get_or, Vec, Global, Option, Some, None, refl, sym, ap, arith}
+use Rattle.std.proofs.Common.{◌≡◌, ◌∙◌, ℕ, ◌+◌, ◌<◌, ◌≤◌, Bool, true, false, not, ◌==◌, ℤ, List, [], length, get_or, Option, Some, None, refl, sym, ap, arith}
 use Rattle.std.proofs.lemmas.Bool.Decides.{nat_tests}
-use Rattle.std.proofs.lemmas.List.{length-map, get_or-map}
+use Rattle.std.proofs.lemmas.List.{get_or_default}
 use Rattle.rail_model.specs.Table.{Mission, Section, AreMissions}
 use Rattle.rail_model.specs.Turns.{first_below}
 use Rattle.rail_model.proofs.Firsts.{first_below-found, first_below-next, first_below-none, option_or-none, then_some-none}
 use Rattle.section_marks.specs.declared.marks.Marks.{Marks}
 use Rattle.section_marks.specs.declared.refused.MarkRefused.{MarkRefused}
 use Rattle.section_marks.specs.declared.refused.MarkRefused.TheVariants.{Count}
-use Rattle.section_marks.specs.Seen.{section_seen, sections_seen}
 use Rattle.section_marks.specs.Marking.{places, changes_of, bad_count, length_refusal, count_refusal, train_refusal, share_refusal, section_refusal, section_at, each_refusal}
 
--- a section, as it is seen
-section_there : (lists : List (ℕ × Vec (Vec ℤ Global) Global)) (s : ℕ) (x : ℕ × Vec (Vec ℤ Global) Global) → s < length lists → x ≡ get_or lists s x
-    → section_at (sections_seen lists) s ≡ section_seen x
-section_there lists s x lt is = get_or-map section_seen lists s x (record { limit = 0; changes = [] }) lt ∙ ap section_seen (sym is)
+section_there : (sections : List Section) (s : ℕ) (x : Section) → s < length sections → x ≡ get_or sections s x → section_at sections s ≡ x
+section_there sections s x lt is = get_or_default sections s (record { limit = 0; changes = [] }) x lt ∙ sym is
 
 abbrev at_section : Marks → List Mission → List Section → ℕ → Option MarkRefused
 at_section marks missions sections s = section_refusal marks missions s (section_at sections s)
 
 -- the first section that is refused is what is wrong
-pub sections_stop : (marks : Marks) (missions : List Mission) (lists : List (ℕ × Vec (Vec ℤ Global) Global)) (s : ℕ) (x : ℕ × Vec (Vec ℤ Global) Global) (e : MarkRefused)
-    → s < length lists → x ≡ get_or lists s x → Some e ≡ section_refusal marks missions s (section_seen x)
-    → first_below s (at_section marks missions (sections_seen lists)) ≡ None → each_refusal marks missions (sections_seen lists) ≡ Some e
-sections_stop marks missions lists s x e lt is h none =
-    let size : length (sections_seen lists) ≡ length lists = length-map lists section_seen in
-    first_below-found (length (sections_seen lists)) s (at_section marks missions (sections_seen lists)) e (omega arith) none
-    (ap (section_refusal marks missions s) (section_there lists s x lt is) ∙ sym h)
+pub sections_stop : (marks : Marks) (missions : List Mission) (sections : List Section) (s : ℕ) (x : Section) (e : MarkRefused)
+    → s < length sections → x ≡ get_or sections s x → Some e ≡ section_refusal marks missions s x
+    → first_below s (at_section marks missions sections) ≡ None → each_refusal marks missions sections ≡ Some e
+sections_stop marks missions sections s x e lt is h none =
+    first_below-found (length sections) s (at_section marks missions sections) e lt none
+    (ap (section_refusal marks missions s) (section_there sections s x lt is) ∙ sym h)
 
 -- a section that isn't refused is passed
-pub sections_go : (marks : Marks) (missions : List Mission) (lists : List (ℕ × Vec (Vec ℤ Global) Global)) (s : ℕ) (x : ℕ × Vec (Vec ℤ Global) Global)
-    → s < length lists → x ≡ get_or lists s x → None ≡ section_refusal marks missions s (section_seen x)
-    → first_below s (at_section marks missions (sections_seen lists)) ≡ None → first_below (s + 1) (at_section marks missions (sections_seen lists)) ≡ None
-sections_go marks missions lists s x lt is h none =
-    first_below-next s (at_section marks missions (sections_seen lists)) none (ap (section_refusal marks missions s) (section_there lists s x lt is) ∙ sym h)
+pub sections_go : (marks : Marks) (missions : List Mission) (sections : List Section) (s : ℕ) (x : Section)
+    → s < length sections → x ≡ get_or sections s x → None ≡ section_refusal marks missions s x
+    → first_below s (at_section marks missions sections) ≡ None → first_below (s + 1) (at_section marks missions sections) ≡ None
+sections_go marks missions sections s x lt is h none =
+    first_below-next s (at_section marks missions sections) none (ap (section_refusal marks missions s) (section_there sections s x lt is) ∙ sym h)
 
 -- ---- the numbers of changes
 

@@ -1,4 +1,3 @@
 pub mod Connecting
 pub mod Keeping
 pub mod Marking
-pub mod Seen

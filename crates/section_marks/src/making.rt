@@ -1,46 +1,43 @@
 // The maker of sections.
-ghost use Rattle.std.specs.Prelude.{◌≡◌, ◌≤◌, ◌<◌, [], ◌∷◌, IfOk, None, length};
+ghost use Rattle.std.specs.Prelude.{◌≡◌, ◌≤◌, ◌<◌, [], ◌∷◌, None, length};
 ghost use Rattle.std.specs.Result.{result_err};
-ghost use Rattle.rail_model.specs.Turns.{AnswersAs, first_of};
+ghost use Rattle.rail_model.specs.Turns.{first_of};
 ghost use Rattle.section_marks.specs.Marking.{too_many, bad_limit, bad_count, list_too_many, places, changes_of, length_refusal, count_refusal, share_refusal, section_refusal, each_refusal, sections_refusal, table_from};
-ghost use Rattle.section_marks.specs.Seen.{changes_seen, section_seen, sections_seen};
 
 use crate::shares::check_train;
 use crate::{MarkRefused, Marks};
 use rail_model::{Changes, Missions, Section, Table};
-use std::alloc::{AllocError, Global};
 
 // The most sections of a table.
 const MOST_SECTIONS: usize = 64;
 
-/// The missions with these sections: for each a limit, and for each train one change per place.
+/// The missions with these sections: for each a limit, and for each train one change per place. It takes no memory.
 ///
 /// # Errors
 ///
 /// The first thing wrong with the sections: their number, then section by section the limit, the numbers of changes, and train by
-/// train and place by place the change and the share; out of memory. The missions are dropped then.
+/// train and place by place the change and the share. The missions are dropped then.
 pub fn sections(
-    alloc: Global,
     missions: Missions,
-    lists: Vec<(u32, Vec<Vec<i32>>)>,
+    sections: Vec<Section>,
     marks: Marks,
 ) -> Result<Table, MarkRefused>
-    ensures { AnswersAs MarkRefused.Memory (λ table. table) result (table_from marks missions (sections_seen lists.items)) }
+    ensures { result ≡ table_from marks missions sections.items }
 {
-    check_sections(&missions, marks, &lists)?;
-    let sections = listed(alloc, lists)?;
-    Ok(Table::new(missions, sections, Vec::new(alloc)))
+    check_sections(&missions, marks, &sections)?;
+    let connections = Vec::new(*sections.allocator());
+    Ok(Table::new(missions, sections, connections))
 }
 
 fn check_sections(
     missions: &Missions,
     marks: Marks,
-    lists: &[(u32, Vec<Vec<i32>>)],
+    sections: &[Section],
 ) -> Result<(), MarkRefused>
-    ensures { result_err result ≡ sections_refusal marks missions.now (sections_seen lists.now) }
+    ensures { result_err result ≡ sections_refusal marks missions.now sections.now }
 {
-    check_count(lists.len())?;
-    check_each(missions, marks, lists)
+    check_count(sections.len())?;
+    check_each(missions, marks, sections)
 }
 
 fn check_count(count: usize) -> Result<(), MarkRefused>
@@ -52,16 +49,12 @@ fn check_count(count: usize) -> Result<(), MarkRefused>
     Ok(())
 }
 
-fn check_each(
-    missions: &Missions,
-    marks: Marks,
-    lists: &[(u32, Vec<Vec<i32>>)],
-) -> Result<(), MarkRefused>
-    requires { length lists.now ≤ 64 }
-    ensures { result_err result ≡ each_refusal marks missions.now (sections_seen lists.now) }
+fn check_each(missions: &Missions, marks: Marks, sections: &[Section]) -> Result<(), MarkRefused>
+    requires { length sections.now ≤ 64 }
+    ensures { result_err result ≡ each_refusal marks missions.now sections.now }
 {
-    for (section, list) in lists.iter().enumerate() {
-        check_section(missions, marks, section as u32, list)?;
+    for (number, section) in sections.iter().enumerate() {
+        check_section(missions, marks, number as u32, section)?;
     }
     Ok(())
 }
@@ -69,14 +62,14 @@ fn check_each(
 fn check_section(
     missions: &Missions,
     marks: Marks,
-    section: u32,
-    list: &(u32, Vec<Vec<i32>>),
+    number: u32,
+    section: &Section,
 ) -> Result<(), MarkRefused>
-    ensures { result_err result ≡ section_refusal marks missions.now section (section_seen list.now) }
+    ensures { result_err result ≡ section_refusal marks missions.now number section.now }
 {
-    check_limit(marks, section, list.0)?;
-    check_counts(missions, section, &list.1)?;
-    check_shares(missions, marks, section, &list.1)
+    check_limit(marks, number, section.limit())?;
+    check_counts(missions, number, section.all_changes())?;
+    check_shares(missions, marks, number, section.all_changes())
 }
 
 fn check_limit(marks: Marks, section: u32, value: u32) -> Result<(), MarkRefused>
@@ -88,8 +81,8 @@ fn check_limit(marks: Marks, section: u32, value: u32) -> Result<(), MarkRefused
     Ok(())
 }
 
-fn check_counts(missions: &Missions, section: u32, changes: &[Vec<i32>]) -> Result<(), MarkRefused>
-    ensures { result_err result ≡ count_refusal missions.now section (changes_seen changes.now) }
+fn check_counts(missions: &Missions, section: u32, changes: &[Changes]) -> Result<(), MarkRefused>
+    ensures { result_err result ≡ count_refusal missions.now section changes.now }
 {
     let trains = missions.len() as u32;
     check_lengths(missions, section, changes)?;
@@ -102,8 +95,8 @@ fn check_counts(missions: &Missions, section: u32, changes: &[Vec<i32>]) -> Resu
     Ok(())
 }
 
-fn check_lengths(missions: &Missions, section: u32, changes: &[Vec<i32>]) -> Result<(), MarkRefused>
-    ensures { result_err result ≡ length_refusal missions.now section (changes_seen changes.now) }
+fn check_lengths(missions: &Missions, section: u32, changes: &[Changes]) -> Result<(), MarkRefused>
+    ensures { result_err result ≡ length_refusal missions.now section changes.now }
 {
     for train in 0..missions.len() as u32 {
         if changes_of(changes, train).len() != places(missions, train) {
@@ -129,11 +122,11 @@ fn places(missions: &Missions, train: u32) -> usize
 }
 
 // The changes of a train, none where there is no list.
-fn changes_of(changes: &[Vec<i32>], train: u32) -> &[i32]
-    ensures { result.now ≡ changes_of (changes_seen changes.now) train }
+fn changes_of(changes: &[Changes], train: u32) -> &[i32]
+    ensures { result.now ≡ changes_of changes.now train }
 {
     match changes.get(train as usize) {
-        Some(list) => list,
+        Some(list) => list.as_slice(),
         None => &[],
     }
 }
@@ -142,30 +135,13 @@ fn check_shares(
     missions: &Missions,
     marks: Marks,
     section: u32,
-    changes: &[Vec<i32>],
+    changes: &[Changes],
 ) -> Result<(), MarkRefused>
-    requires { count_refusal missions.now section (changes_seen changes.now) ≡ None }
-    ensures { result_err result ≡ share_refusal marks missions.now section (changes_seen changes.now) }
+    requires { count_refusal missions.now section changes.now ≡ None }
+    ensures { result_err result ≡ share_refusal marks missions.now section changes.now }
 {
     for train in 0..missions.len() as u32 {
         check_train(marks, section, train, changes_of(changes, train))?;
     }
     Ok(())
-}
-
-// The sections, in the types of a table.
-fn listed(alloc: Global, lists: Vec<(u32, Vec<Vec<i32>>)>) -> Result<Vec<Section>, AllocError>
-    ensures { IfOk result (λ sections. sections.items ≡ sections_seen lists.items) }
-{
-    let mut sections = Vec::new(alloc);
-    for (limit, changes) in lists {
-        sections.push(Section::new(limit, typed(alloc, changes)?))?;
-    }
-    Ok(sections)
-}
-
-fn typed(alloc: Global, changes: Vec<Vec<i32>>) -> Result<Vec<Changes>, AllocError>
-    ensures { IfOk result (λ typed. typed.items ≡ changes_seen changes.items) }
-{
-    changes.into_iter().map(Changes::from).collect(alloc)
 }

@@ -1,7 +1,4 @@
 // What is wrong with sections and connections.
-ghost use Rattle.std.specs.Prelude.{◌≡◌};
-
-use std::alloc::AllocError;
 
 /// Why lists are no sections or connections. Sections, trains, places and connections go by number, counted from 0.
 #[derive(Clone, Copy)]
@@ -46,16 +43,4 @@ pub enum MarkRefused {
     ConnectionPlace {
         connection: u32,
     },
-    /// Memory ran out.
-    Memory,
-}
-
-impl From<AllocError> for MarkRefused {
-    ghost use Rattle.section_marks.specs.declared.refused.MarkRefused.TheVariants.{Memory};
-
-    ghost from_gives = { λ _ e. e ≡ Memory };
-
-    fn from(_error: AllocError) -> MarkRefused {
-        MarkRefused::Memory
-    }
 }

@@ -7,10 +7,10 @@ pub returns-in_err-check_section : goal.returns-in_err-check_section
 returns-in_err-check_section c =
     let e = c.in_err-check_section.field-0.0 in
     result_err-is c.from_residual.result e c.from_residual.ensures.1
-    ∙ sym (sections_stop c.args.marks c.args.missions.now c.args.lists.now c.loop-section.section c.index-lists-section.result e c.loop-section-test.true c.index-lists-section.is
-    c.in_err-check_section.ensures c.loop-section.invariant)
+    ∙ sym (sections_stop c.args.marks c.args.missions.now c.args.sections.now c.loop-number.number c.index-sections-number.result e c.loop-number-test.true c.index-sections-number.is
+    c.in_err-check_section.ensures c.loop-number.invariant)
 
-pub loop-section-preserved : goal.loop-section-preserved
-loop-section-preserved c =
-    sections_go c.args.marks c.args.missions.now c.args.lists.now c.loop-section.section c.index-lists-section.result c.loop-section-test.true c.index-lists-section.is
-    c.in_ok-check_section.ensures c.loop-section.invariant
+pub loop-number-preserved : goal.loop-number-preserved
+loop-number-preserved c =
+    sections_go c.args.marks c.args.missions.now c.args.sections.now c.loop-number.number c.index-sections-number.result c.loop-number-test.true c.index-sections-number.is
+    c.in_ok-check_section.ensures c.loop-number.invariant
