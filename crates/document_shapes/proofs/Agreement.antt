@@ -7,7 +7,6 @@ use Rattle.serde_json.specs.Data.{Data, Items, no_items, item}
 use Rattle.serde_json.specs.Find.{as_array, get}
 use Rattle.document_shapes.specs.Shape.{Shape, whole, change, truth, text, each, two, list_of, pair, at}
 use Rattle.document_shapes.specs.Parts.{node, section, connection}
-use Rattle.document_shapes.specs.SeenSection.{seen_section}
 use Rattle.document_shapes.specs.Readings.{elements, SomeMisfits, MisfitsTwo, MisfitsList, MisfitsPair, ReadsList, ReadsTwo, ReadsPair, ReadsAt, MisfitsAt}
 
 -- the readings are the shape, as `see` shows them
@@ -33,7 +32,10 @@ agrees-node = record { reads = λ d n h. h; misfits = λ d h. h }
 pub agrees-connection : Agrees (λ d k. connection d ≡ Some k) (λ d. connection d ≡ None) connection (λ k. k)
 agrees-connection = record { reads = λ d k h. h; misfits = λ d h. h }
 
-pub agrees-section : Agrees (λ d s. section d ≡ Some (seen_section s)) (λ d. section d ≡ None) section seen_section
+pub agrees-changes : Agrees (λ d c. list_of change d ≡ Some c) (λ d. list_of change d ≡ None) (list_of change) (λ c. c)
+agrees-changes = record { reads = λ d c h. h; misfits = λ d h. h }
+
+pub agrees-section : Agrees (λ d s. section d ≡ Some s) (λ d. section d ≡ None) section (λ s. s)
 agrees-section = record { reads = λ d s h. h; misfits = λ d h. h }
 
 pub agrees-train_times : Agrees (λ d t. list_of whole d ≡ Some t) (λ d. list_of whole d ≡ None) (list_of whole) (λ t. t)

@@ -14,16 +14,13 @@ use Rattle.document_shapes.specs.Parts.{changes, section, connection, node}
 use Rattle.document_shapes.specs.Raw.{IsOfVersion, table_members, doc_members, known_version}
 use Rattle.document_shapes.specs.Readings.{elements, ReadsList}
 use Rattle.document_shapes.specs.Seen.{names_seen, seen_table, seen_document}
-use Rattle.document_shapes.specs.SeenSection.{seen_section}
 use Rattle.document_shapes.specs.Shape.{whole, change, truth, text, each, list_of, pair}
 use Rattle.document_shapes.specs.Shape as shape
 use Rattle.document_shapes.specs.TableFound.{TableFinds}
 use Rattle.document_shapes.specs.TableRead.{ReadsTable, is_of_version}
 use Rattle.document_shapes.specs.Taken.{Finds}
-use Rattle.document_shapes.specs.Values.{changes_seen}
 use Rattle.document_shapes.specs.declared.document.DocMembers.{DocMembers}
 use Rattle.document_shapes.specs.declared.member.Member.TheVariants as names
-use Rattle.document_shapes.specs.declared.parts.SectionMembers.{SectionMembers}
 use Rattle.document_shapes.specs.declared.refused.ShapeRefused.{ShapeRefused}
 use Rattle.document_shapes.specs.declared.refused.ShapeRefused.TheVariants as refused
 use Rattle.document_shapes.specs.declared.table.TableMembers.{TableMembers}
@@ -38,10 +35,10 @@ use Rattle.document_shapes.proofs.TableWritten.{since-back}
 abbrev section_from : ℕ → List (List ℤ) → Section
 section_from n cs = record { limit = n; changes = cs }
 
-pub section-found : (ms : Members) (s : SectionMembers) → Finds whole (λ n. n) (codes "limit") ms (Some s.limit) → Finds (list_of (list_of change)) changes_seen (codes "changes") ms (Some s.changes)
-    → section (object ms) ≡ Some (seen_section s)
-section-found ms s limit found =
-    ap (option_and_then (λ n. option_map (λ cs. section_from n cs) (changes (object ms)))) limit ∙ ap (option_map (λ cs. section_from s.limit cs)) found
+pub section-found : (ms : Members) (limit : ℕ) (v : Vec (List ℤ) Global) → Finds whole (λ n. n) (codes "limit") ms (Some limit)
+    → Finds (list_of (list_of change)) (λ v. v.items) (codes "changes") ms (Some v) → section (object ms) ≡ Some (section_from limit v.items)
+section-found ms limit v found listed =
+    ap (option_and_then (λ n. option_map (λ cs. section_from n cs) (changes (object ms)))) found ∙ ap (option_map (λ cs. section_from limit cs)) listed
 
 -- ---- a table
 
@@ -67,7 +64,7 @@ module _ (ms : Members) (t : TableMembers) where
             rw (
               need-found (list_of (list_of text)) (λ v. map names_seen v.items) ms (Some number) names.Missions t.missions g.missions,
               since-back 2 version _ (seen_table t).exits of.exits (may-found (list_of truth) (λ v. v.items) ms number names.Exits t.exits g.exits),
-              may-found (list_of section) (λ v. map seen_section v.items) ms number names.Sections t.sections g.sections,
+              may-found (list_of section) (λ v. v.items) ms number names.Sections t.sections g.sections,
               since-back 3 version _ (seen_table t).connections of.connections (may-found (list_of connection) (λ v. v.items) ms number names.Connections t.connections g.connections),
               may-found (list_of node) (λ v. v.items) ms number names.Certificate t.certificate g.certificate,
               may-found (list_of (list_of whole)) (λ v. v.items) ms number names.Times t.times g.times,

@@ -2,7 +2,7 @@
 use Rattle.std.proofs.Common.{◌≡◌, List, [], ◌∷◌, map, Option, Some, None, option_map, refl, ap, ap₂, Vec, String, Global, string_bytes, ℕ, Bool, ◌++◌, codes, All, IsUtf8, ◌∙◌}
 use Rattle.std.proofs.lemmas.List.Elements.{All-map, All-weaker}
 use Rattle.rail_model.specs.declared.types.Node.{Node}
-use Rattle.rail_model.specs.Table.{Connection}
+use Rattle.rail_model.specs.Table.{Section, Connection}
 use Rattle.json.specs.Token.{begin_object, end_object}
 use Rattle.serde_json.specs.Data.{Data, string, array, item, boolean, object, no_members, Members, member}
 use Rattle.serde_json.specs.View.{items_of}
@@ -10,8 +10,6 @@ use Rattle.document_shapes.specs.InRange.{IfGiven, IsSmall, NodeIsSmall, Connect
 use Rattle.document_shapes.specs.Seen.{names_seen, seen_table, seen_document}
 use Rattle.document_shapes.specs.Written.{list_data, whole_data, node_data, section_data, connection_data, table_data, pair_data, doc_data}
 use Rattle.document_shapes.specs.Added.{tokens_of, member_tokens, given_tokens}
-use Rattle.document_shapes.specs.SeenSection.{seen_section}
-use Rattle.document_shapes.specs.declared.parts.SectionMembers.{SectionMembers}
 use Rattle.document_shapes.specs.declared.table.TableMembers.{TableMembers}
 use Rattle.document_shapes.specs.Raw.{DocMembers as RawDoc}
 use Rattle.document_shapes.specs.declared.document.DocMembers.{DocMembers}
@@ -54,8 +52,8 @@ put_missions v = list_data put_names v.items
 abbrev put_exits : Vec Bool Global → Data
 put_exits v = list_data boolean v.items
 
-abbrev put_sections : Vec SectionMembers Global → Data
-put_sections v = list_data (λ s. section_data (seen_section s)) v.items
+abbrev put_sections : Vec Section Global → Data
+put_sections v = list_data section_data v.items
 
 abbrev put_connections : Vec Connection Global → Data
 put_connections v = list_data connection_data v.items
@@ -68,9 +66,6 @@ put_times v = list_data (list_data whole_data) v.items
 
 missions-seen : (v : Vec (Vec (String Global) Global) Global) → put_missions v ≡ list_data (list_data string) (map names_seen v.items)
 missions-seen v = list-seen put_names (list_data string) names_seen names-seen v.items
-
-sections-seen : (v : Vec SectionMembers Global) → put_sections v ≡ list_data section_data (map seen_section v.items)
-sections-seen v = list-seen (λ s. section_data (seen_section s)) section_data seen_section (λ s. refl) v.items
 
 module _ (t : TableMembers) where
   abbrev standing : Standing
@@ -90,7 +85,7 @@ module _ (t : TableMembers) where
       let connections = given-seen put_connections (list_data connection_data) (λ v. v.items) (λ v. refl) t.connections in
       let exits = given-seen put_exits (list_data boolean) (λ v. v.items) (λ v. refl) t.exits in
       let missions = missions-seen t.missions in
-      let sections = given-seen put_sections (list_data section_data) (λ v. map seen_section v.items) sections-seen t.sections in
+      let sections = given-seen put_sections (list_data section_data) (λ v. v.items) (λ v. refl) t.sections in
       let times = given-seen put_times (list_data (list_data whole_data)) (λ v. v.items) (λ v. refl) t.times in
       λ i. record {
         after = option_map whole_data t.after;
@@ -121,14 +116,14 @@ module _ (t : TableMembers) where
       ap (λ ts. begin_object ∷ ts) after ∙ ap tokens_of table-seen
 
   -- the table is in range where its lists are
-  pub table-in_range : All (λ w. All (λ x. IsUtf8 (string_bytes x)) w.items) t.missions.items → IfGiven (λ v. All (λ x. SectionIsSmall (seen_section x)) v.items) t.sections
+  pub table-in_range : All (λ w. All (λ x. IsUtf8 (string_bytes x)) w.items) t.missions.items → IfGiven (λ v. All SectionIsSmall v.items) t.sections
       → IfGiven (λ v. All ConnectionIsSmall v.items) t.connections → IfGiven (λ v. All NodeIsSmall v.items) t.certificate
       → IfGiven (λ v. All (All IsSmall) v.items) t.times → IfGiven IsSmall t.after → TableInRange (seen_table t)
   table-in_range missions sections connections certificate times after = record {
     missions =
         All-map (All IsUtf8) names_seen t.missions.items
         (All-weaker (λ w. All (λ x. IsUtf8 (string_bytes x)) w.items) (λ w. All IsUtf8 (names_seen w)) (λ w. All-map IsUtf8 string_bytes w.items) t.missions.items missions);
-    sections = given-kept _ (All SectionIsSmall) (λ v. map seen_section v.items) (λ v. All-map SectionIsSmall seen_section v.items) t.sections sections;
+    sections = given-kept _ (All SectionIsSmall) (λ v. v.items) (λ v h. h) t.sections sections;
     connections = given-kept _ (All ConnectionIsSmall) (λ v. v.items) (λ v h. h) t.connections connections;
     certificate = given-kept _ (All NodeIsSmall) (λ v. v.items) (λ v h. h) t.certificate certificate;
     times = given-kept _ (All (All IsSmall)) (λ v. v.items) (λ v h. h) t.times times;

@@ -6,7 +6,6 @@ pub mod Each
 pub mod Members
 pub mod Raw
 pub mod Values
-pub mod SeenSection
 pub mod Seen
 pub mod Written
 pub mod InRange

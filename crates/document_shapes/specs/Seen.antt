@@ -2,7 +2,6 @@
 use Rattle.std.specs.Prelude.{ℕ, List, map, option_map, string_bytes, String, Vec}
 use Rattle.std.specs.declared.alloc.Global.{Global}
 use Rattle.document_shapes.specs.Raw as raw
-use Rattle.document_shapes.specs.SeenSection.{seen_section}
 use Rattle.document_shapes.specs.declared.table.TableMembers.{TableMembers}
 use Rattle.document_shapes.specs.declared.document.DocMembers.{DocMembers}
 
@@ -14,7 +13,7 @@ abbrev pub seen_table : TableMembers → raw.TableMembers
 seen_table t = record {
   missions = map names_seen t.missions.items;
   exits = option_map (λ v. v.items) t.exits;
-  sections = option_map (λ v. map seen_section v.items) t.sections;
+  sections = option_map (λ v. v.items) t.sections;
   connections = option_map (λ v. v.items) t.connections;
   certificate = option_map (λ v. v.items) t.certificate;
   times = option_map (λ v. v.items) t.times;

@@ -1,6 +1,5 @@
 -- What values and lists of values stand for.
-use Rattle.std.specs.Prelude.{ℕ, ℤ, Bool, is_some, List, map, Vec, Option}
-use Rattle.std.specs.declared.alloc.Global.{Global}
+use Rattle.std.specs.Prelude.{ℕ, Bool, is_some, List, Option}
 use Rattle.serde_json.specs.Data.{Data}
 use Rattle.serde_json.specs.Find.{as_object}
 use Rattle.serde_json.specs.View.{items_view}
@@ -14,7 +13,3 @@ each_whole vs = each whole (items_view vs)
 -- whether a value is an object
 abbrev pub is_object : Data → Bool
 is_object d = is_some (as_object d)
-
--- the changes of a section
-abbrev pub changes_seen : Vec (Vec ℤ Global) Global → List (List ℤ)
-changes_seen changes = map (λ c. c.items) changes.items

@@ -21,7 +21,6 @@ mod writing;
 pub use document::{DocMembers, read_document};
 pub use laws::written_members_read_back;
 pub use member::Member;
-pub use parts::SectionMembers;
 pub use refused::ShapeRefused;
 pub use table::TableMembers;
 pub use writing::write_document;

@@ -4,11 +4,11 @@ ghost use Rattle.serde_json.specs.View.{view};
 ghost use Rattle.document_shapes.specs.Shape.{each};
 ghost use Rattle.document_shapes.specs.Shape as shape;
 ghost use Rattle.document_shapes.specs.Parts as part;
-ghost use Rattle.document_shapes.specs.Values.{each_whole, changes_seen};
+ghost use Rattle.document_shapes.specs.Values.{each_whole};
 
 use crate::from_value::{FromValue, member_called, whole};
 use crate::refused::Misfit;
-use rail_model::{Connection, Node, TrainTimes};
+use rail_model::{Changes, Connection, Node, Section, TrainTimes};
 use serde_json::Value;
 use std::alloc::Global;
 
@@ -90,31 +90,33 @@ impl FromValue for TrainTimes {
     }
 }
 
+impl FromValue for Changes {
+    ghost reads = { λ d c. shape.list_of shape.change d ≡ Some c };
+
+    ghost misfits = { λ d. shape.list_of shape.change d ≡ None };
+
+    fn from_value(alloc: Global, value: &Value) -> Result<Changes, Misfit> {
+        let changes = Vec::<i32>::from_value(alloc, value)?;
+        Ok(Changes::from(changes))
+    }
+}
+
 // The changes of a section, a list for each train.
-fn changes_of(alloc: Global, section: &Value) -> Result<Vec<Vec<i32>>, Misfit>
-    ensures ok { IfOk result (λ v. part.changes (view section.now) ≡ Some (changes_seen v)) }
+fn changes_of(alloc: Global, section: &Value) -> Result<Vec<Changes>, Misfit>
+    ensures ok { IfOk result (λ v. part.changes (view section.now) ≡ Some v.items) }
     ensures err { result ≡ Err Misfit.Shape → part.changes (view section.now) ≡ None }
 {
     member_called(alloc, section, "changes")
 }
 
-/// A section's members: a limit, and for each train a list of changes.
-#[derive(Drop)]
-pub struct SectionMembers {
-    pub limit: u32,
-    pub changes: Vec<Vec<i32>>,
-}
-
-impl FromValue for SectionMembers {
-    ghost use Rattle.document_shapes.specs.SeenSection.{seen_section};
-
-    ghost reads = { λ d s. part.section d ≡ Some (seen_section s) };
+impl FromValue for Section {
+    ghost reads = { λ d s. part.section d ≡ Some s };
 
     ghost misfits = { λ d. part.section d ≡ None };
 
-    fn from_value(alloc: Global, value: &Value) -> Result<SectionMembers, Misfit> {
+    fn from_value(alloc: Global, value: &Value) -> Result<Section, Misfit> {
         let limit = value.get("limit").and_then(whole).ok_or(Misfit::Shape)?;
         let changes = changes_of(alloc, value)?;
-        Ok(SectionMembers { limit, changes })
+        Ok(Section::new(limit, changes))
     }
 }

@@ -9,12 +9,10 @@ ghost use Rattle.document_shapes.specs.Members.{need, may, since};
 ghost use Rattle.document_shapes.specs.Raw.{table_members};
 ghost use Rattle.document_shapes.specs.Each.{each_from};
 ghost use Rattle.document_shapes.specs.Seen.{seen_table, names_seen};
-ghost use Rattle.document_shapes.specs.SeenSection.{seen_section};
 
 use crate::members::{given, needed};
-use crate::parts::SectionMembers;
 use crate::{Member, ShapeRefused};
-use rail_model::{Connection, Node, TrainTimes};
+use rail_model::{Connection, Node, Section, TrainTimes};
 use serde_json::Value;
 use std::alloc::Global;
 
@@ -23,7 +21,7 @@ use std::alloc::Global;
 pub struct TableMembers {
     pub missions: Vec<Vec<String>>,
     pub exits: Option<Vec<bool>>,
-    pub sections: Option<Vec<SectionMembers>>,
+    pub sections: Option<Vec<Section>>,
     pub connections: Option<Vec<Connection>>,
     pub certificate: Option<Vec<Node>>,
     pub times: Option<Vec<TrainTimes>>,
@@ -56,8 +54,8 @@ fn sections(
     alloc: Global,
     value: &Value,
     table: usize,
-) -> Result<Option<Vec<SectionMembers>>, ShapeRefused>
-    ensures { AnswersAs ShapeRefused.Memory (option_map (λ v. map seen_section v.items)) result
+) -> Result<Option<Vec<Section>>, ShapeRefused>
+    ensures { AnswersAs ShapeRefused.Memory (option_map (λ v. v.items)) result
         (may table Member.Sections (list_of part.section) (view value.now)) }
 {
     given(alloc, value, table, Member::Sections)

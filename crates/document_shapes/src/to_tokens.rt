@@ -1,14 +1,13 @@
 // Values of one shape, written as the tokens of JSON.
-ghost use Rattle.std.specs.Prelude.{All, IsUtf8, OnOk, ⊤, string_bytes};
+ghost use Rattle.std.specs.Prelude.{All, IsUtf8, OnOk, ⊤, codes, string_bytes};
 ghost use Rattle.serde_json.specs.Data.{Data, boolean, string};
 ghost use Rattle.document_shapes.specs.Added.{Adds, member_tokens, tokens_of};
 ghost use Rattle.document_shapes.specs.InRange.{IsSmall, IsChange, NodeIsSmall, ConnectionIsSmall, SectionIsSmall};
 ghost use Rattle.document_shapes.specs.Written as written;
 ghost use Rattle.document_shapes.specs.Written.{list_data, pair_data};
 
-use crate::parts::SectionMembers;
 use json::Writer;
-use rail_model::{Connection, Node, TrainTimes};
+use rail_model::{Changes, Connection, Node, Section, TrainTimes};
 use std::alloc::AllocError;
 
 /// What stands for a value in JSON.
@@ -104,17 +103,35 @@ impl ToTokens for TrainTimes {
     }
 }
 
-impl ToTokens for SectionMembers {
-    ghost use Rattle.document_shapes.specs.SeenSection.{seen_section};
+impl ToTokens for Changes {
+    ghost stands = { list_data written.change_data };
 
-    ghost stands = { λ s. written.section_data (seen_section s) };
+    ghost in_range = { All IsChange };
 
-    ghost in_range = { λ s. SectionIsSmall (seen_section s) };
+    fn to_tokens(&self, writer: &mut Writer) -> Result<(), AllocError> {
+        write_list(writer, self.as_slice())
+    }
+}
+
+// Writes the changes of a section, a list for each train.
+fn write_changes(writer: &mut Writer, changes: &[Changes]) -> Result<(), AllocError>
+    ensures tokens { OnOk result
+        (Adds (member_tokens (codes "changes") (list_data (list_data written.change_data) changes.now)) writer.old writer.new) }
+    ensures in_range { OnOk result (All (All IsChange) changes.now) }
+{
+    writer.key("changes")?;
+    write_list(writer, changes)
+}
+
+impl ToTokens for Section {
+    ghost stands = { written.section_data };
+
+    ghost in_range = { SectionIsSmall };
 
     fn to_tokens(&self, writer: &mut Writer) -> Result<(), AllocError> {
         writer.begin_object()?;
-        write_named(writer, "changes", &self.changes)?;
-        write_named(writer, "limit", &self.limit)?;
+        write_changes(writer, self.all_changes())?;
+        write_named(writer, "limit", &self.limit())?;
         writer.end_object()
     }
 }

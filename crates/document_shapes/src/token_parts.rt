@@ -6,9 +6,8 @@ ghost use Rattle.document_shapes.specs.Taken.{TakesItems};
 
 use crate::from_members::{FromMembers, object};
 use crate::from_tokens::{FromTokens, list_begins, read_into};
-use crate::parts::SectionMembers;
 use json::Reader;
-use rail_model::{Connection, Node, TrainTimes};
+use rail_model::{Changes, Connection, Node, Section, TrainTimes};
 use std::alloc::Global;
 
 // Whole numbers, at most four.
@@ -98,11 +97,20 @@ impl FromTokens for TrainTimes {
     }
 }
 
+impl FromTokens for Changes {
+    ghost reads = { λ d c. shape.list_of shape.change d ≡ Some c };
+
+    fn from_tokens(alloc: Global, reader: &mut Reader<'_>, depth: usize) -> Option<Changes> {
+        let changes = Vec::<i32>::from_tokens(alloc, reader, depth)?;
+        Some(Changes::from(changes))
+    }
+}
+
 // What is found of a section's members.
 #[derive(Drop)]
 struct FoundSection {
     limit: Option<u32>,
-    changes: Option<Vec<Vec<i32>>>,
+    changes: Option<Vec<Changes>>,
 }
 
 impl FromMembers for FoundSection {
@@ -132,16 +140,14 @@ impl FromMembers for FoundSection {
     }
 }
 
-impl FromTokens for SectionMembers {
-    ghost use Rattle.document_shapes.specs.SeenSection.{seen_section};
+impl FromTokens for Section {
+    ghost reads = { λ d s. part.section d ≡ Some s };
 
-    ghost reads = { λ d s. part.section d ≡ Some (seen_section s) };
-
-    fn from_tokens(alloc: Global, reader: &mut Reader<'_>, depth: usize) -> Option<SectionMembers> {
+    fn from_tokens(alloc: Global, reader: &mut Reader<'_>, depth: usize) -> Option<Section> {
         let found: FoundSection = object(alloc, reader, depth)?;
         let FoundSection { limit, changes } = found;
         let limit = limit?;
         let changes = changes?;
-        Some(SectionMembers { limit, changes })
+        Some(Section::new(limit, changes))
     }
 }

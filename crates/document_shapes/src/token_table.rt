@@ -2,9 +2,8 @@
 use crate::TableMembers;
 use crate::from_members::{FromMembers, object};
 use crate::from_tokens::{FromTokens, read_into};
-use crate::parts::SectionMembers;
 use json::Reader;
-use rail_model::{Connection, Node, TrainTimes};
+use rail_model::{Connection, Node, Section, TrainTimes};
 use std::alloc::Global;
 
 // What is found of a table's members.
@@ -12,7 +11,7 @@ use std::alloc::Global;
 struct FoundTable {
     missions: Option<Vec<Vec<String>>>,
     exits: Option<Vec<bool>>,
-    sections: Option<Vec<SectionMembers>>,
+    sections: Option<Vec<Section>>,
     connections: Option<Vec<Connection>>,
     certificate: Option<Vec<Node>>,
     times: Option<Vec<TrainTimes>>,

@@ -1,7 +1,6 @@
 use Rattle.std.proofs.Common.{codes, map, refl, rules}
 use Rattle.document_shapes.specs.Parts.{section, connection, node}
 use Rattle.document_shapes.specs.Seen.{names_seen}
-use Rattle.document_shapes.specs.SeenSection.{seen_section}
 use Rattle.document_shapes.specs.Shape.{whole, truth, text, list_of}
 use Rattle.document_shapes.specs.TableFound.{TableFinds}
 use Rattle.document_shapes.proofs.Agreement.{agrees-list, agrees-items, agrees-text, agrees-truth, agrees-whole, agrees-node, agrees-connection, agrees-section, agrees-train_times}
@@ -24,7 +23,7 @@ pub returns-in-sections : goal.returns-in-sections
 returns-in-sections c =
     on_some c.read_into-in-sections.result c.read_into-in-sections.ensures
     (λ h. found-at TableFinds c.args.name.now (codes "sections") c.args.self.now (record c.args.self.now { sections = c.read_into-in-sections.new.field }) c.args.depth c.args.reader.now c.read_into-in-sections.new.reader h.0 h.1 (search rules) h.2 h.3
-    (λ ms f. record { missions = rw (kept h.1 ms (codes "missions") (codes "sections") refl) f.missions; exits = rw (kept h.1 ms (codes "exits") (codes "sections") refl) f.exits; sections = finds-read h.1 ms (list_of section) (λ v. map seen_section v.items) _ (agrees-list agrees-section).reads (codes "sections") c.read_into-in-sections.new.field h.4; connections = rw (kept h.1 ms (codes "connections") (codes "sections") refl) f.connections; certificate = rw (kept h.1 ms (codes "certificate") (codes "sections") refl) f.certificate; times = rw (kept h.1 ms (codes "times") (codes "sections") refl) f.times; after = rw (kept h.1 ms (codes "after") (codes "sections") refl) f.after }))
+    (λ ms f. record { missions = rw (kept h.1 ms (codes "missions") (codes "sections") refl) f.missions; exits = rw (kept h.1 ms (codes "exits") (codes "sections") refl) f.exits; sections = finds-read h.1 ms (list_of section) (λ v. v.items) _ (agrees-items agrees-section).reads (codes "sections") c.read_into-in-sections.new.field h.4; connections = rw (kept h.1 ms (codes "connections") (codes "sections") refl) f.connections; certificate = rw (kept h.1 ms (codes "certificate") (codes "sections") refl) f.certificate; times = rw (kept h.1 ms (codes "times") (codes "sections") refl) f.times; after = rw (kept h.1 ms (codes "after") (codes "sections") refl) f.after }))
 
 pub returns-in-connections : goal.returns-in-connections
 returns-in-connections c =
