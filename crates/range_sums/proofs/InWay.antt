@@ -27,7 +27,7 @@ Decides-at T q j b =
 pub Decides-covered : (B : List Range) (s : Spot) → Decides (is_covered B s) (IsIn s.place (range B s.train))
 Decides-covered B s = Decides-and _ _ (Decides-leb _ _) (Decides-leb _ _)
 
-Decides-rival : (B : List Range) (i : ℕ) (s : Spot) → Decides (is_rival B i s) ((s.train ≢ i) × IsIn s.place (range B s.train))
+pub Decides-rival : (B : List Range) (i : ℕ) (s : Spot) → Decides (is_rival B i s) ((s.train ≢ i) × IsIn s.place (range B s.train))
 Decides-rival B i s = Decides-and _ _ (Decides-not _ (Decides-eqb s.train i)) (Decides-covered B s)
 
 -- what is found among the first b places of train j, of which none is train i's
@@ -137,13 +137,13 @@ known_choice : (n : ℕ) (b : Bool) (xs : List Spot) → All (IsKnown n) xs → 
 known_choice n true xs h = h
 known_choice n false xs h = All-nil (IsKnown n)
 
-known_column : (T : Table) (n q j b : ℕ) → j < n → All (IsKnown n) (column T q j b)
+pub known_column : (T : Table) (n q j b : ℕ) → j < n → All (IsKnown n) (column T q j b)
 known_column T n q j zero lt = All-nil (IsKnown n)
 known_column T n q j (suc b) lt =
     All-append (IsKnown n) (column T q j b) _ (known_column T n q j b lt)
     (known_choice n (is_at T q j b) _ (All-cons (IsKnown n) (record { train = j; place = b }) [] lt (All-nil (IsKnown n))))
 
-known_below : (T : Table) (m q n : ℕ) → n ≤ m → All (IsKnown m) (spots T q n)
+pub known_below : (T : Table) (m q n : ℕ) → n ≤ m → All (IsKnown m) (spots T q n)
 known_below T m q zero le = All-nil (IsKnown m)
 known_below T m q (suc n) le =
     All-append (IsKnown m) (spots T q n) _ (known_below T m q n (omega arith)) (known_column T m q n (last T n + 1) (omega arith))

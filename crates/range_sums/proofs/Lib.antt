@@ -5,6 +5,7 @@ pub mod From
 pub mod HeldBack
 pub mod InWay
 pub mod Joins
+pub mod Own
 pub mod Room
 pub mod Searched
 pub mod Summed

@@ -1,5 +1,5 @@
 // The places of all trains by their points, listed once for a table, and where another train may stand in a train's way.
-ghost use Rattle.std.specs.Prelude.{MatchOption, Some, ◌≡◌, ℕ, ◌+◌, ◌<◌, ◌≤◌, ◌++◌, ◌==◌, ◌^◌, ◌∷◌, if◌then◌else◌, [], find, length, All, IfOk, OnOk, IsTrue, ◌↔◌, option_map, slice_index_or};
+ghost use Rattle.std.specs.Prelude.{MatchOption, Some, ◌≡◌, ℕ, ◌+◌, ◌<◌, ◌≤◌, ◌++◌, ◌==◌, ◌^◌, ◌∷◌, if◌then◌else◌, [], find, length, All, AllPairs, IfOk, OnOk, IsTrue, ◌↔◌, option_map, slice_index_or};
 ghost use Rattle.rail_model.specs.Table.{IsTable, trains, last, point};
 ghost use Rattle.rail_model.specs.Move.{IsFirstOrNone};
 ghost use Rattle.rail_model.specs.Certificate.{IsBox, MayBlock};
@@ -130,11 +130,27 @@ fn is_rival(ranges: &Ranges, train: u32, spot: Spot) -> bool
     spot.train != train && is_covered(ranges, spot)
 }
 
+// Whether all spots are of one train: of spots in order the first and the last tell.
+fn are_of(spots: &[Spot], train: u32) -> bool
+    requires { AllPairs (λ a b. a.train ≤ b.train) spots.now }
+    ensures { IsTrue result → All (λ s. s.train ≡ train) spots.now }
+{
+    let count = spots.len();
+    if count == 0 {
+        return true;
+    }
+    spots[0].train == train && spots[count - 1].train == train
+}
+
 // The first spot of another train that is in that train's range.
 fn first_covered(spots: &[Spot], ranges: &Ranges, train: u32) -> Option<Spot>
-    requires { All (λ s. s.train < length ranges.now) spots.now }
+    requires known { All (λ s. s.train < length ranges.now) spots.now }
+    requires ordered { AllPairs (λ a b. a.train ≤ b.train) spots.now }
     ensures { result ≡ find (is_rival_of ranges.now train) spots.now }
 {
+    if are_of(spots, train) {
+        return None;
+    }
     for &spot in spots {
         if is_rival(ranges, train, spot) {
             return Some(spot);
