@@ -20,16 +20,6 @@ pub value_next : {X : Type 0} (f : ℕ → X) (n : ℕ) (found new : List X) (x 
 value_next f n found new x was value pushed =
     pushed ∙ ap (λ p. p ++ x ∷ []) was ∙ ap (λ y. map f (below n) ++ y ∷ []) value ∙ sym (map-range_with_len_more f 0 n n (omega arith))
 
--- what one number more stands for
-pub below_next : {A X : Type 0} (see : A → X) (f : ℕ → X) (n : ℕ) (found new : List A) (a : A) → map see found ≡ map f (below n) → see a ≡ f n →
-    new ≡ found ++ a ∷ [] → map see new ≡ map f (below (n + 1))
-below_next see f n found new a was value pushed =
-    ap (map see) pushed
-    ∙ map-append see found (a ∷ [])
-    ∙ ap (λ p. p ++ see a ∷ []) was
-    ∙ ap (λ y. map f (below n) ++ y ∷ []) value
-    ∙ sym (map-range_with_len_more f 0 n n (omega arith))
-
 -- what one item more stands for
 pub take_next : {A X Y : Type 0} (see : A → Y) (f : X → Y) (xs : List X) (k : ℕ) (x : X) (found new : List A) (a : A) → k < length xs → x ≡ get_or xs k x →
     map see found ≡ map f (take k xs) → see a ≡ f x → new ≡ found ++ a ∷ [] → map see new ≡ map f (take (k + 1) xs)

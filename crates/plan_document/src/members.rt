@@ -1,23 +1,18 @@
 // The members of the document of a plan.
 ghost use Rattle.std.specs.Prelude.{◌≡◌, IfOk, map};
 ghost use Rattle.document_shapes.specs.Seen.{seen_document, seen_table};
-ghost use Rattle.document_shapes.specs.SeenSection.{seen_section};
 ghost use Rattle.plan_document.specs.Written as spec;
 ghost use Rattle.plan_document.specs.Written.{document_of, table_of};
 
 use crate::shares::changes;
 use crate::{Plan, SectionPlan, TablePlan, Wait};
-use document_shapes::{DocMembers, SectionMembers, TableMembers};
-use rail_model::Connection;
+use document_shapes::{DocMembers, TableMembers};
+use rail_model::{Connection, Section};
 use std::alloc::{AllocError, Global};
 
 // A section, as a document has it.
-fn section(
-    alloc: Global,
-    table: &TablePlan,
-    section: &SectionPlan,
-) -> Result<SectionMembers, AllocError>
-    ensures { IfOk result (λ s. seen_section s ≡ spec.section_of table.now section.now) }
+fn section(alloc: Global, table: &TablePlan, section: &SectionPlan) -> Result<Section, AllocError>
+    ensures { IfOk result (λ s. s ≡ spec.section_of table.now section.now) }
 {
     let mut found = Vec::new(alloc);
     for train in 0..table.routes.len() {
@@ -25,15 +20,12 @@ fn section(
         let exits = table.exits_at(train);
         found.push(changes(alloc, &section.points, &holding, table.route(train), exits)?)?;
     }
-    Ok(SectionMembers {
-        limit: section.limit,
-        changes: found,
-    })
+    Ok(Section::new(section.limit, found))
 }
 
 // The sections of a table.
-fn sections(alloc: Global, table: &TablePlan) -> Result<Vec<SectionMembers>, AllocError>
-    ensures { IfOk result (λ v. map seen_section v.items ≡ map (spec.section_of table.now) table.now.sections.items) }
+fn sections(alloc: Global, table: &TablePlan) -> Result<Vec<Section>, AllocError>
+    ensures { IfOk result (λ v. v.items ≡ map (spec.section_of table.now) table.now.sections.items) }
 {
     let mut found = Vec::new(alloc);
     for plan in &table.sections {

@@ -3,6 +3,7 @@ ghost use Rattle.std.specs.Prelude.{◌≡◌, IfOk, bytes_eq, string_bytes};
 ghost use Rattle.plan_document.specs.Shares as spec;
 
 use crate::Holding;
+use rail_model::Changes;
 use std::alloc::{AllocError, Global};
 
 // Whether a name is this one.
@@ -62,12 +63,12 @@ pub(crate) fn changes(
     holding: &Holding,
     route: &[String],
     exits: bool,
-) -> Result<Vec<i32>, AllocError>
-    ensures { IfOk result (λ v. v.items ≡ spec.changes points.now holding.now route.now exits) }
+) -> Result<Changes, AllocError>
+    ensures { IfOk result (λ c. c ≡ spec.changes points.now holding.now route.now exits) }
 {
     let mut found = Vec::new(alloc);
     for place in 0..places(route, exits) {
         found.push(change_at(points, holding, route, place))?;
     }
-    Ok(found)
+    Ok(Changes::from(found))
 }
