@@ -1,12 +1,10 @@
 // The sections: one for each pair that has a train.
-ghost use Rattle.std.specs.Prelude.{◌≡◌, ◌++◌, ◌≤◌, IfOk, OnOk, map, flat_map};
-ghost use Rattle.document_shapes.specs.SeenSection.{seen_section};
-ghost use Rattle.document_shapes.specs.Values.{changes_seen};
+ghost use Rattle.std.specs.Prelude.{◌≡◌, ◌++◌, ◌≤◌, IfOk, OnOk, flat_map};
 ghost use Rattle.document_generator.specs.Pieces as piece;
 ghost use Rattle.document_generator.specs.Pieces.{changes_in, pair_changes, section_of, sections_of};
 
 use crate::pairs::Pair;
-use document_shapes::SectionMembers;
+use rail_model::{Changes, Section};
 use std::alloc::{AllocError, Global};
 
 // How many trains may be in the section of a pair: both of the pair.
@@ -37,14 +35,14 @@ fn change_in(own: &Pair, pair: &Pair, place: u32) -> i32
 }
 
 // The changes of a train of the pair in the section of the pair `own`.
-fn changes(alloc: Global, own: &Pair, pair: &Pair) -> Result<Vec<i32>, AllocError>
-    ensures { IfOk result (λ v. v.items ≡ changes_in own.now pair.now) }
+fn changes(alloc: Global, own: &Pair, pair: &Pair) -> Result<Changes, AllocError>
+    ensures { IfOk result (λ c. c ≡ changes_in own.now pair.now) }
 {
     let mut found = Vec::new(alloc);
     for place in 0..2 * pair.loops() + 1 {
         found.push(change_in(own, pair, place))?;
     }
-    Ok(found)
+    Ok(Changes::from(found))
 }
 
 // Adds the same for each train of the pair.
@@ -52,9 +50,9 @@ fn add_changes(
     alloc: Global,
     own: &Pair,
     pair: &Pair,
-    found: &mut Vec<Vec<i32>>,
+    found: &mut Vec<Changes>,
 ) -> Result<(), AllocError>
-    ensures { OnOk result (changes_seen found.new ≡ changes_seen found.old ++ pair_changes own.now pair.now) }
+    ensures { OnOk result (found.new.items ≡ found.old.items ++ pair_changes own.now pair.now) }
 {
     for _train in 0..pair.times().len() {
         found.push(changes(alloc, own, pair)?)?;
@@ -63,17 +61,14 @@ fn add_changes(
 }
 
 // The section of a pair among all pairs.
-fn section(alloc: Global, pairs: &[Pair], own: &Pair) -> Result<SectionMembers, AllocError>
-    ensures { IfOk result (λ s. seen_section s ≡ section_of pairs.now own.now) }
+fn section(alloc: Global, pairs: &[Pair], own: &Pair) -> Result<Section, AllocError>
+    ensures { IfOk result (λ s. s ≡ section_of pairs.now own.now) }
 {
     let mut changes = Vec::new(alloc);
     for pair in pairs {
         add_changes(alloc, own, pair, &mut changes)?;
     }
-    Ok(SectionMembers {
-        limit: LIMIT,
-        changes,
-    })
+    Ok(Section::new(LIMIT, changes))
 }
 
 // Adds the section of a pair, where it has a train.
@@ -81,9 +76,9 @@ fn add_section(
     alloc: Global,
     pairs: &[Pair],
     own: &Pair,
-    found: &mut Vec<SectionMembers>,
+    found: &mut Vec<Section>,
 ) -> Result<(), AllocError>
-    ensures { OnOk result (map seen_section found.new.items ≡ map seen_section found.old.items ++ sections_of pairs.now own.now) }
+    ensures { OnOk result (found.new.items ≡ found.old.items ++ sections_of pairs.now own.now) }
 {
     if !own.times().is_empty() {
         found.push(section(alloc, pairs, own)?)?;
@@ -92,8 +87,8 @@ fn add_section(
 }
 
 /// The sections of all pairs.
-pub(crate) fn sections(alloc: Global, pairs: &[Pair]) -> Result<Vec<SectionMembers>, AllocError>
-    ensures { IfOk result (λ v. map seen_section v.items ≡ flat_map (sections_of pairs.now) pairs.now) }
+pub(crate) fn sections(alloc: Global, pairs: &[Pair]) -> Result<Vec<Section>, AllocError>
+    ensures { IfOk result (λ v. v.items ≡ flat_map (sections_of pairs.now) pairs.now) }
 {
     let mut found = Vec::new(alloc);
     for own in pairs {

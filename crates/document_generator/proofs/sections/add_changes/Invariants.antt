@@ -1,7 +1,6 @@
 use Rattle.std.proofs.Common.{◌≡◌, ◌++◌, replicate}
-use Rattle.document_shapes.specs.Values.{changes_seen}
 use Rattle.document_generator.specs.Pieces.{changes_in}
 use Rattle.document_generator.proofs.sections.add_changes.Given as goal
 
 abbrev pub invariant-loop-train : goal.invariant-loop-train
-invariant-loop-train l = changes_seen l.found ≡ changes_seen l.initial.found ++ replicate l._train (changes_in l.own l.pair)
+invariant-loop-train l = l.found.items ≡ l.initial.found.items ++ replicate l._train (changes_in l.own l.pair)
