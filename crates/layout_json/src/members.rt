@@ -2,7 +2,6 @@
 ghost use Rattle.std.specs.Prelude.{◌≡◌, ◌<◌, All, IfOk, length, map, option_map};
 ghost use Rattle.rail_model.specs.Names.{point_name};
 ghost use Rattle.document_shapes.specs.Seen.{seen_document, seen_table, names_seen};
-ghost use Rattle.document_shapes.specs.SeenSection.{seen_section};
 ghost use Rattle.layout_json.specs.Doc.{doc_table, names_of};
 ghost use Rattle.layout_json.specs.Members.{from_version, way_names, members_in, table_members_in, with_tables, in_version};
 ghost use Rattle.layout_json.specs.Written.{AreNamed, JoinsNamed, point_pair, point_seen, link_pair, link_seen};
@@ -10,9 +9,9 @@ ghost use Rattle.layout_json.specs.Written.{AreNamed, JoinsNamed, point_pair, po
 use crate::{
     Doc, after_of, layout_of, names_of, nodes_of, start_of, table_of, tables_of, times_of,
 };
-use document_shapes::{DocMembers, SectionMembers, TableMembers};
+use document_shapes::{DocMembers, TableMembers};
 use rail_model::{
-    Changes, Connection, Link, Mission, Names, Node, Point, Section, Table, TrainTimes, zones_of,
+    Connection, Link, Mission, Names, Node, Point, Table, TrainTimes, copy_all, zones_of,
 };
 use std::alloc::{AllocError, Global};
 
@@ -108,28 +107,6 @@ fn exits_since(
     Ok(Some(exits(alloc, missions)?))
 }
 
-fn changes(alloc: Global, changes: &[Changes]) -> Result<Vec<Vec<i32>>, AllocError>
-    ensures { IfOk result (λ v. map (λ c. c.items) v.items ≡ changes.now) }
-{
-    let mut found = Vec::new(alloc);
-    for change in changes {
-        found.push(Vec::from_slice(alloc, change.as_slice())?)?;
-    }
-    Ok(found)
-}
-
-fn sections(alloc: Global, sections: &[Section]) -> Result<Vec<SectionMembers>, AllocError>
-    ensures { IfOk result (λ v. map seen_section v.items ≡ sections.now) }
-{
-    let mut found = Vec::new(alloc);
-    for section in sections {
-        let changes = changes(alloc, section.all_changes())?;
-        let limit = section.limit();
-        found.push(SectionMembers { limit, changes })?;
-    }
-    Ok(found)
-}
-
 // The connections, where the version has them.
 fn connections_since(
     alloc: Global,
@@ -174,7 +151,7 @@ pub(crate) fn table_with(
     Ok(TableMembers {
         missions: ways(alloc, names, missions)?,
         exits: exits_since(alloc, version, missions)?,
-        sections: Some(sections(alloc, table.sections())?),
+        sections: Some(copy_all(alloc, table.sections())?),
         connections: connections_since(alloc, version, table.connections())?,
         certificate: Some(Vec::from_slice(alloc, nodes)?),
         times: Some(table_times(alloc, doc, number)?),

@@ -6,20 +6,20 @@ ghost use Rattle.mission_table.specs.Seen.{ways_seen};
 ghost use Rattle.mission_table.specs.Ways.{missions_from};
 ghost use Rattle.section_marks.specs.Connecting.{connected};
 ghost use Rattle.section_marks.specs.Marking.{table_from};
-ghost use Rattle.section_marks.specs.Seen.{sections_seen};
 ghost use Rattle.document_shapes.specs.Each.{each_from};
 ghost use Rattle.document_shapes.specs.Seen.{seen_table};
-ghost use Rattle.document_shapes.specs.SeenSection.{seen_section};
 ghost use Rattle.layout_json.specs.Keeps.{timed, with_times};
 ghost use Rattle.layout_json.specs.Tables.{refused_as, marks_of, exits_or_none, times_or_one, after_refusal, times_refusal, doc_table_of};
 
 use crate::DocRefused;
 use crate::checks::{check_after, check_times};
 use crate::doc::Untimed;
-use document_shapes::{SectionMembers, TableMembers};
+use document_shapes::TableMembers;
 use mission_table::{MissionRefused, Trains, missions};
-use rail_model::{Connection, Layout, Missions, Table, TableTimes, TrainTimes, last_of, trains_of};
-use section_marks::{MarkRefused, Marks, connections, sections};
+use rail_model::{
+    Connection, Layout, Missions, Section, Table, TableTimes, TrainTimes, last_of, trains_of,
+};
+use section_marks::{Marks, connections, sections};
 use std::alloc::{AllocError, Global};
 
 // Which trains leave the layout; missing exits are all false.
@@ -68,36 +68,19 @@ fn marks(version: u32) -> Marks
     }
 }
 
-// Sections as pairs of a limit and changes.
-fn section_pairs(
-    alloc: Global,
-    members: Vec<SectionMembers>,
-) -> Result<Vec<(u32, Vec<Vec<i32>>)>, AllocError>
-    ensures { IfOk result (λ v. sections_seen v.items ≡ map seen_section members.items) }
-{
-    let mut pairs = Vec::new(alloc);
-    for SectionMembers { limit, changes } in members {
-        pairs.push((limit, changes))?;
-    }
-    Ok(pairs)
-}
-
 // The missions with sections.
 fn made_sections(
     alloc: Global,
     number: usize,
     version: u32,
     missions: Missions,
-    members: Option<Vec<SectionMembers>>,
+    list: Option<Vec<Section>>,
 ) -> Result<Table, DocRefused>
-    ensures { AnswersAs DocRefused.Memory (λ t. t) result
-        (refused_as (DocRefused.Marks number)
-        (table_from (marks_of version) missions (unwrap_or (option_map (λ v. map seen_section v.items) members) []))) }
+    ensures { result ≡ refused_as (DocRefused.Marks number)
+        (table_from (marks_of version) missions (unwrap_or (option_map (λ v. v.items) list) [])) }
 {
-    let pairs = section_pairs(alloc, members.unwrap_or(Vec::new(alloc)))?;
-    match sections(alloc, missions, pairs, marks(version)) {
+    match sections(missions, list.unwrap_or(Vec::new(alloc)), marks(version)) {
         Ok(table) => Ok(table),
-        Err(MarkRefused::Memory) => Err(DocRefused::Memory),
         Err(refused) => Err(DocRefused::Marks {
             table: number,
             refused,
