@@ -5,7 +5,7 @@ use Rattle.std.proofs.lemmas.List.{append-nil, append_assoc, get_or_default}
 use Rattle.std.proofs.lemmas.List.Elements.{All-append, All-head, All-tail}
 use Rattle.std.proofs.lemmas.List.Quantifiers.{all_pairs_push}
 use Rattle.std.proofs.lemmas.Bool.{cases_eq}
-use Rattle.rail_model.specs.Table.{Table, trains, last}
+use Rattle.rail_model.specs.Table.{Table, last}
 use Rattle.rail_model.specs.Certificate.{Range}
 use Rattle.range_sums.specs.declared.ways.Spot.{Spot}
 use Rattle.range_sums.specs.Ways.{is_at, column, spots, is_rival}

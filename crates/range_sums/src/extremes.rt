@@ -79,8 +79,9 @@ pub fn first_row(alloc: Global, table: &Table, train: u32) -> Result<Row, AllocE
     requires { train < trains table.now }
     ensures { IfOk result (IsRow table.now train 0 0) }
 {
-    let mut cells = Vec::new(alloc);
-    for section in 0..sections_of(table) {
+    let sections = sections_of(table);
+    let mut cells = Vec::with_capacity(alloc, sections as usize)?;
+    for section in 0..sections {
         let share = share_at(table, train, section, 0);
         cells.push(Extremes::single(share))?;
     }
@@ -100,8 +101,9 @@ pub fn next_row(
     requires row { IsRow table.now train place 0 row.now }
     ensures { IfOk result (IsRow table.now train (place + 1) 0) }
 {
-    let mut cells = Vec::new(alloc);
-    for section in 0..sections_of(table) {
+    let sections = sections_of(table);
+    let mut cells = Vec::with_capacity(alloc, sections as usize)?;
+    for section in 0..sections {
         let before = i32::from(row.cell(section).least);
         let share = before + change_at(table, train, section, place + 1);
         cells.push(Extremes::single(share))?;
@@ -114,7 +116,7 @@ pub fn joined_row(alloc: Global, first: &Row, second: &Row) -> Result<Row, Alloc
     requires { length second.now ≡ length first.now }
     ensures { IfOk result (IsJoinedRow first.now second.now) }
 {
-    let mut cells = Vec::new(alloc);
+    let mut cells = Vec::with_capacity(alloc, first.cells.len())?;
     for section in 0..first.cells.len() {
         cells.push(first.cells[section].joined(second.cells[section]))?;
     }

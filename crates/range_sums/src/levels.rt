@@ -6,7 +6,6 @@ ghost use Rattle.range_sums.specs.Extremes.{IsExtremes, IsRow, IsLevel, IsLevels
 
 use crate::extremes::{Extremes, Row, first_row, joined_row, next_row};
 use crate::ranges::Span;
-use crate::shares::greatest_share;
 use rail_model::{Table, last_of, sections_of, trains_of};
 use std::alloc::{AllocError, Global};
 use std::marker::Model;
@@ -47,9 +46,10 @@ fn first_level(alloc: Global, table: &Table, train: u32) -> Result<Level, AllocE
     ensures level { IfOk result (IsLevel table.now train) }
     ensures width { IfOk result (λ level. level.width ≡ 1) }
 {
-    let mut rows = Vec::new(alloc);
+    let last = last_of(table, train);
+    let mut rows = Vec::with_capacity(alloc, last as usize + 1)?;
     rows.push(first_row(alloc, table, train)?)?;
-    for place in 0..last_of(table, train) {
+    for place in 0..last {
         let row = next_row(alloc, table, train, place, &rows[place as usize])?;
         rows.push(row)?;
     }
@@ -66,8 +66,9 @@ fn next_level(alloc: Global, table: &Table, train: u32, level: &Level) -> Result
 {
     let last = last_of(table, train);
     let width = level.width();
-    let mut rows = Vec::new(alloc);
-    for place in 0..last + 2 - 2 * width {
+    let count = last + 2 - 2 * width;
+    let mut rows = Vec::with_capacity(alloc, count as usize)?;
+    for place in 0..count {
         let first = level.row(place);
         let second = level.row(place + width);
         rows.push(joined_row(alloc, first, second)?)?;
@@ -117,30 +118,45 @@ fn pick(table: &Table, train: u32, levels: &[Level], more: u32) -> u8
     unreachable!()
 }
 
-/// Whether a train has a share of a section at some place.
-pub(crate) fn has_share(table: &Table, train: u32, section: u32) -> bool
+// The extremes of a section at all places of a train: two spans of the last level cover them.
+fn all_extremes(table: &Table, levels: &[Level], train: u32, section: u32) -> Extremes
+    requires levels { IsLevels table.now train levels.now }
+    requires train { train < trains table.now }
+    requires section { section < length table.now.sections }
+    ensures { IsExtremes (share table.now train section) 0 (last table.now train) result }
+{
+    let level = widest(levels);
+    let front = level.row(0);
+    let back = level.row(last_of(table, train) + 1 - level.width());
+    front.cell(section).joined(back.cell(section))
+}
+
+// Whether a train has a share of a section at some place.
+fn has_share(table: &Table, levels: &[Level], train: u32, section: u32) -> bool
+    requires levels { IsLevels table.now train levels.now }
     requires train { train < trains table.now }
     requires section { section < length table.now.sections }
     ensures { IsTrue result ↔ (pos 0 <ℤ greatest (share table.now train section) 0 (last table.now train)) }
 {
-    let all = Span::new(0, last_of(table, train));
-    greatest_share(table, train, section, all) > 0
+    all_extremes(table, levels, train, section).greatest > 0
 }
 
 // Adds a section, where the train has a share of it.
 fn add_shared(
     table: &Table,
+    levels: &[Level],
     train: u32,
     section: u32,
     sections: &mut Vec<u32>,
 ) -> Result<(), AllocError>
     requires formed { IsTable table.now }
+    requires levels { IsLevels table.now train levels.now }
     requires train { train < trains table.now }
     requires section { section < length table.now.sections }
     requires before { AreShared table.now train 0 section sections.old.items }
     ensures { OnOk result (AreShared table.now train 0 (section + 1) sections.new.items) }
 {
-    if !has_share(table, train, section) {
+    if !has_share(table, levels, train, section) {
         return Ok(());
     }
     sections.push(section)?;
@@ -148,13 +164,19 @@ fn add_shared(
 }
 
 // The sections that a train has a share of at some place, in order.
-fn shared_sections(alloc: Global, table: &Table, train: u32) -> Result<Vec<u32>, AllocError>
-    requires { train < trains table.now }
+fn shared_sections(
+    alloc: Global,
+    table: &Table,
+    levels: &[Level],
+    train: u32,
+) -> Result<Vec<u32>, AllocError>
+    requires levels { IsLevels table.now train levels.now }
+    requires train { train < trains table.now }
     ensures { IfOk result (λ sections. AreShared table.now train 0 (length table.now.sections) sections.items) }
 {
     let mut sections = Vec::new(alloc);
     for section in 0..sections_of(table) {
-        add_shared(table, train, section, &mut sections)?;
+        add_shared(table, levels, train, section, &mut sections)?;
     }
     Ok(sections)
 }
@@ -184,11 +206,11 @@ impl TrainShares {
     {
         let last = last_of(table, train);
         let levels = train_levels(alloc, table, train)?;
-        let mut picks = Vec::new(alloc);
+        let mut picks = Vec::with_capacity(alloc, last as usize + 1)?;
         for more in 0..last + 1 {
             picks.push(pick(table, train, &levels, more))?;
         }
-        let sections = shared_sections(alloc, table, train)?;
+        let sections = shared_sections(alloc, table, &levels, train)?;
         Ok(TrainShares {
             levels,
             picks,
@@ -201,6 +223,16 @@ impl TrainShares {
         ensures { result.now ≡ self.now.sections }
     {
         &self.sections
+    }
+
+    /// Whether the train has a share of a section at some place.
+    pub(crate) fn has_share(&self, table: &Table, train: u32, section: u32) -> bool
+        requires shares { IsTrainShares table.now train self.now }
+        requires train { train < trains table.now }
+        requires section { section < length table.now.sections }
+        ensures { IsTrue result ↔ (pos 0 <ℤ greatest (share table.now train section) 0 (last table.now train)) }
+    {
+        has_share(table, &self.levels, train, section)
     }
 
     // The level for a span.

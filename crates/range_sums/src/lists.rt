@@ -36,7 +36,7 @@ impl Lists {
         let ways = ways_of(alloc, table)?;
         let shares = Shares::new(alloc, table)?;
         let rises = rises_of(alloc, table)?;
-        let members = members_of(alloc, table)?;
+        let members = members_of(alloc, table, &shares)?;
         Ok(Lists {
             ways,
             shares,

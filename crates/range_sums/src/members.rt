@@ -1,10 +1,10 @@
 // The trains that may have a share of each section, listed once for a table.
 ghost use Rattle.std.specs.Prelude.{◌≡◌, ◌+◌, ◌<◌, length, IfOk, OnOk};
 ghost use Rattle.rail_model.specs.Table.{IsTable, trains};
-ghost use Rattle.range_sums.specs.Extremes.{AreMembers};
+ghost use Rattle.range_sums.specs.Extremes.{IsShares, AreMembers};
 ghost use Rattle.range_sums.specs.Sums.{AreAllMembers};
 
-use crate::levels::has_share;
+use crate::Shares;
 use rail_model::{Table, sections_of, trains_of};
 use std::alloc::{AllocError, Global};
 use std::marker::Model;
@@ -52,17 +52,19 @@ impl Members {
 // Adds a train, where it has a share of the section.
 fn add_member(
     table: &Table,
+    shares: &Shares,
     section: u32,
     train: u32,
     members: &mut Vec<u32>,
 ) -> Result<(), AllocError>
     requires formed { IsTable table.now }
+    requires shares { IsShares table.now shares.now }
     requires section { section < length table.now.sections }
     requires train { train < trains table.now }
     requires before { AreMembers table.now section 0 train members.old.items }
     ensures { OnOk result (AreMembers table.now section 0 (train + 1) members.new.items) }
 {
-    if !has_share(table, train, section) {
+    if !shares.train(train).has_share(table, train, section) {
         return Ok(());
     }
     members.push(train)?;
@@ -70,24 +72,35 @@ fn add_member(
 }
 
 // The trains that have a share of a section at some place, in order.
-fn section_members(alloc: Global, table: &Table, section: u32) -> Result<SectionMembers, AllocError>
-    requires { section < length table.now.sections }
+fn section_members(
+    alloc: Global,
+    table: &Table,
+    shares: &Shares,
+    section: u32,
+) -> Result<SectionMembers, AllocError>
+    requires shares { IsShares table.now shares.now }
+    requires section { section < length table.now.sections }
     ensures { IfOk result (AreMembers table.now section 0 (trains table.now)) }
 {
     let mut members = Vec::new(alloc);
     for train in 0..trains_of(table) {
-        add_member(table, section, train, &mut members)?;
+        add_member(table, shares, section, train, &mut members)?;
     }
     Ok(SectionMembers { trains: members })
 }
 
 /// The trains that may have a share of each section of a table.
-pub(crate) fn members_of(alloc: Global, table: &Table) -> Result<Members, AllocError>
+pub(crate) fn members_of(
+    alloc: Global,
+    table: &Table,
+    shares: &Shares,
+) -> Result<Members, AllocError>
+    requires { IsShares table.now shares.now }
     ensures { IfOk result (AreAllMembers table.now) }
 {
     let mut sections = Vec::new(alloc);
     for section in 0..sections_of(table) {
-        sections.push(section_members(alloc, table, section)?)?;
+        sections.push(section_members(alloc, table, shares, section)?)?;
     }
     Ok(Members { sections })
 }

@@ -130,8 +130,9 @@ fn train_rises(alloc: Global, table: &Table, train: u32) -> Result<TrainRises, A
     requires { train < trains table.now }
     ensures { IfOk result (AreSteps table.now train) }
 {
-    let mut places = Vec::new(alloc);
-    for place in 0..last_of(table, train) {
+    let last = last_of(table, train);
+    let mut places = Vec::with_capacity(alloc, last as usize)?;
+    for place in 0..last {
         places.push(place_rises(alloc, table, train, place)?)?;
     }
     Ok(TrainRises { places })

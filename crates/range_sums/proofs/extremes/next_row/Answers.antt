@@ -15,9 +15,9 @@ overflow_add-share c =
     let s = c.loop-section.section in
     let k = c.args.place in
     let s_in = c.loop-section-test.true in
-    let here = (c.requires.row.1 s (omega (arith, c.sections_of-section-end.ensures.count))).least_is in
+    let here = (c.requires.row.1 s (omega (arith, c.sections_of-sections.ensures.count))).least_is in
     let read = ap (λ (e : Extremes). e.least) c.cell.ensures in
-    let bounds = share_bounds T i s (k + 1) c.change_at.ensures.formed c.requires.train (omega (arith, c.sections_of-section-end.ensures.count)) (omega arith) in
+    let bounds = share_bounds T i s (k + 1) c.change_at.ensures.formed c.requires.train (omega (arith, c.sections_of-sections.ensures.count)) (omega arith) in
     omega (arith, ints, here, read, c.change_at.ensures.change, share_next T i s k, bounds)
 
 pub loop-section-preserved : goal.loop-section-preserved
@@ -26,9 +26,9 @@ loop-section-preserved c =
     let i = c.args.train in
     let s = c.loop-section.section in
     let k = c.args.place in
-    let here = (c.requires.row.1 s (omega (arith, c.sections_of-section-end.ensures.count))).least_is in
+    let here = (c.requires.row.1 s (omega (arith, c.sections_of-sections.ensures.count))).least_is in
     let read = ap (λ (e : Extremes). e.least) c.cell.ensures in
-    let bounds = share_bounds T i s (k + 1) c.change_at.ensures.formed c.requires.train (omega (arith, c.sections_of-section-end.ensures.count)) (omega arith) in
+    let bounds = share_bounds T i s (k + 1) c.change_at.ensures.formed c.requires.train (omega (arith, c.sections_of-sections.ensures.count)) (omega arith) in
     subst (IsEach (λ s e. IsExtremes (share T i s) (k + 1) 0 e) (s + 1) nothing) (sym c.in_ok-push.ensures.items)
     (each_push (λ s e. IsExtremes (share T i s) (k + 1) 0 e) s nothing _ _ c.loop-section.invariant (record {
       least_is = omega (arith, ints, ap (λ (e : Extremes). e.least) c.single.ensures, here, read, c.change_at.ensures.change, share_next T i s k, bounds);
@@ -42,9 +42,9 @@ single-requires-clause-low c =
     let s = c.loop-section.section in
     let k = c.args.place in
     let s_in = c.loop-section-test.true in
-    let here = (c.requires.row.1 s (omega (arith, c.sections_of-section-end.ensures.count))).least_is in
+    let here = (c.requires.row.1 s (omega (arith, c.sections_of-sections.ensures.count))).least_is in
     let read = ap (λ (e : Extremes). e.least) c.cell.ensures in
-    let bounds = share_bounds T i s (k + 1) c.change_at.ensures.formed c.requires.train (omega (arith, c.sections_of-section-end.ensures.count)) (omega arith) in
+    let bounds = share_bounds T i s (k + 1) c.change_at.ensures.formed c.requires.train (omega (arith, c.sections_of-sections.ensures.count)) (omega arith) in
     omega (arith, ints, here, read, c.change_at.ensures.change, share_next T i s k, bounds)
 
 pub single-requires-clause-high : goal.single-requires-clause-high
@@ -54,7 +54,7 @@ single-requires-clause-high c =
     let s = c.loop-section.section in
     let k = c.args.place in
     let s_in = c.loop-section-test.true in
-    let here = (c.requires.row.1 s (omega (arith, c.sections_of-section-end.ensures.count))).least_is in
+    let here = (c.requires.row.1 s (omega (arith, c.sections_of-sections.ensures.count))).least_is in
     let read = ap (λ (e : Extremes). e.least) c.cell.ensures in
-    let bounds = share_bounds T i s (k + 1) c.change_at.ensures.formed c.requires.train (omega (arith, c.sections_of-section-end.ensures.count)) (omega arith) in
+    let bounds = share_bounds T i s (k + 1) c.change_at.ensures.formed c.requires.train (omega (arith, c.sections_of-sections.ensures.count)) (omega arith) in
     omega (arith, ints, here, read, c.change_at.ensures.change, share_next T i s k, bounds)
