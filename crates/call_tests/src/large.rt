@@ -62,9 +62,9 @@ fn a_large_tree_is_checked_in_parts(rt: HostRuntime) -> Result<(), Fail> {
         return Err("a table".into());
     }
     let table = table_of(&doc, 0);
-    let mut nodes = leaf_by_leaf(alloc)?;
-    let cert = tree(alloc, &nodes).ok().ok_or("a tree")?;
+    let cert = tree(leaf_by_leaf(alloc)?).ok().ok_or("a tree")?;
     assert_eq!(rt; check_par(&rt, alloc, table, &cert), Ok(()));
+    let mut nodes = cert.into_nodes();
     for index in [32_766u32, 20_002, 511, 2] {
         let at = index as usize;
         if at >= nodes.len() {
@@ -74,10 +74,11 @@ fn a_large_tree_is_checked_in_parts(rt: HostRuntime) -> Result<(), Fail> {
             first: 0,
             second: 1,
         };
-        let cert = tree(alloc, &nodes).ok().ok_or("a tree")?;
+        let cert = tree(nodes).ok().ok_or("a tree")?;
         let bad = CheckFault::Bad(Bad::Clash { index });
         assert_eq!(rt; check_par(&rt, alloc, table, &cert), Err(bad));
         assert_eq!(rt; check(alloc, table, &cert), Err(bad));
+        nodes = cert.into_nodes();
     }
     Ok(())
 }

@@ -42,7 +42,7 @@ fn first_nodes(doc: &Doc) -> &[Node] {
 
 // The tree of the first table.
 fn cert_of(alloc: Global, doc: &Doc) -> Result<Cert, Fail> {
-    match tree(alloc, first_nodes(doc)) {
+    match tree(Vec::from_slice(alloc, first_nodes(doc))?) {
         Ok(cert) => Ok(cert),
         Err(_) => Err("a tree".into()),
     }
@@ -54,7 +54,8 @@ pub(crate) fn accepted(alloc: Global, doc: &Doc) -> Result<Vec<Accepted>, Fail>
 {
     let mut tables = Vec::new(alloc);
     for number in 0..tables_of(doc) {
-        let cert = tree(alloc, nodes_of(doc, number)).ok().ok_or("a tree")?;
+        let nodes = Vec::from_slice(alloc, nodes_of(doc, number))?;
+        let cert = tree(nodes).ok().ok_or("a tree")?;
         let table = copy_table(alloc, table_of(doc, number))?;
         match accept(alloc, table, after_of(doc, number), &cert) {
             Ok(table) => tables.push(table)?,
@@ -101,7 +102,7 @@ fn a_table_is_accepted_or_comes_back(rt: HostRuntime) -> Result<(), Fail> {
     let doc = read(alloc, "passing-loop")?;
     let cert = cert_of(alloc, &doc)?;
     assert_eq!(rt; offered(alloc, &doc, &cert)?, (2, Some(3)));
-    let leaf = tree(alloc, &[Node::Arrived]).ok().ok_or("a tree")?;
+    let leaf = tree(Vec::from_slice(alloc, &[Node::Arrived])?).ok().ok_or("a tree")?;
     assert_eq!(rt; offered(alloc, &doc, &leaf)?, (2, None));
     Ok(())
 }
@@ -139,9 +140,10 @@ fn a_tree_has_its_nodes(rt: HostRuntime) -> Result<(), Fail> {
 fn a_tree_has_a_greatest_length(rt: HostRuntime) -> Result<(), Fail> {
     let alloc = rt.alloc();
     let nodes = vec![in alloc; Node::Split { train: 0, place: 0 }; 1_000_001]?;
+    let one_less = Vec::from_slice(alloc, &nodes[1..])?;
     let many = CertRefused::TooMany { count: 1_000_001 };
-    assert_eq!(rt; tree(alloc, &nodes).err(), Some(many));
+    assert_eq!(rt; tree(nodes).err(), Some(many));
     let short = CertRefused::Short { missing: 1_000_001 };
-    assert_eq!(rt; tree(alloc, &nodes[1..]).err(), Some(short));
+    assert_eq!(rt; tree(one_less).err(), Some(short));
     Ok(())
 }

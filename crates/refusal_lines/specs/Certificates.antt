@@ -4,14 +4,12 @@ use Rattle.cert_tree.specs.declared.reading.CertRefused.{CertRefused}
 use Rattle.cert_tree.specs.declared.reading.CertRefused.TheVariants as tree
 use Rattle.rail_model.specs.declared.types.Bad.{Bad}
 use Rattle.rail_model.specs.declared.types.Bad.TheVariants as bad
-use Rattle.refusal_lines.specs.Fields.{no_memory}
 
 -- The refusals of lists that spell no tree.
 abbrev pub tree_words : ℕ → CertRefused → List ℕ
 tree_words t (tree.Short n) = codes "41 Short table=" ++ decimal t ++ codes " missing=" ++ decimal n
 tree_words t (tree.Over n) = codes "42 Over table=" ++ decimal t ++ codes " used=" ++ decimal n
 tree_words t (tree.TooMany n) = codes "43 TooMany table=" ++ decimal t ++ codes " count=" ++ decimal n
-tree_words t tree.Memory = no_memory
 
 -- The refusals of nodes.
 abbrev pub bad_words : ℕ → Bad → List ℕ

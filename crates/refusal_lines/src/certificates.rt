@@ -15,7 +15,6 @@ pub fn write_tree(out: &mut String, table: u32, refused: &CertRefused) -> Result
         CertRefused::Short { missing } => tell!(out; "41 Short table=" table, " missing=" missing),
         CertRefused::Over { used } => tell!(out; "42 Over table=" table, " used=" used),
         CertRefused::TooMany { count } => tell!(out; "43 TooMany table=" table, " count=" count),
-        CertRefused::Memory => out.push_str("202 Memory"),
     }
 }
 

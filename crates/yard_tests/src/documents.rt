@@ -83,7 +83,8 @@ fn accepted_at(alloc: Global, doc: &Doc, number: u32) -> Result<Accepted, Fail>
     requires { number < length doc.now.tables }
     ensures { IfOk result (λ a. a ≡ record { table = table_at doc.now number; after = (doc_table doc.now number).after }) }
 {
-    let cert = tree(alloc, nodes_of(doc, number)).ok().ok_or("a tree")?;
+    let nodes = Vec::from_slice(alloc, nodes_of(doc, number))?;
+    let cert = tree(nodes).ok().ok_or("a tree")?;
     let table = copy_table(alloc, table_of(doc, number))?;
     match accept(alloc, table, after_of(doc, number), &cert) {
         Ok(table) => Ok(table),
