@@ -114,7 +114,8 @@ fn holder(table: &Table, state: &State, train: u32) -> Option<u32>
 pub fn can_move(table: &Table, state: &State, train: u32) -> Ask
     requires legal { Legal table.now state.now }
     requires train { train < trains table.now }
-    ensures { Answers table.now state.now train result }
+    ensures answer { Answers table.now state.now train result }
+    ensures formed { IsTable table.now }
 {
     if state.place(train) == last_of(table, train) {
         return Ask::Arrived;

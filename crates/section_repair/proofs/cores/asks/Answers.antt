@@ -9,4 +9,4 @@ loop-train-preserved c =
     let T = c.args.table.now in
     let p = c.args.state.now in
     next_listed (ask T p) c.loop-train.train _ _ _ c.loop-train.invariant c.in_ok-push.ensures.items
-    (told_is_ask T p c.loop-train.train _ c.trains_of-train-end.ensures.formed c.requires (search rules) c.can_move.ensures)
+    (told_is_ask T p c.loop-train.train _ c.trains_of-train-end.ensures.formed c.requires (search rules) c.can_move.ensures.answer)
