@@ -1,17 +1,17 @@
 -- A yard that stands goes on standing, and what its answers rest on.
-use Rattle.std.proofs.Common.{◌≡◌, ℕ, suc, zero, ◌+◌, ◌*◌, ◌<◌, ◌≤◌, List, length, sym, ◌∙◌, subst, arith}
+use Rattle.std.proofs.Common.{◌≡◌, ℕ, suc, zero, ◌+◌, ◌*◌, ◌<◌, ◌≤◌, List, length, refl, sym, ap, ◌∙◌, subst, arith}
 use Rattle.std.proofs.lemmas.List.{length-set}
 use Rattle.rail_model.specs.declared.types.Line.{Line}
 use Rattle.rail_model.specs.declared.types.Line.TheVariants.{Move as MoveLine, Table as TableLine, KeptDiffers, KeptOver}
 use Rattle.rail_model.specs.declared.types.Tried.{Tried}
-use Rattle.rail_model.specs.declared.types.Tried.TheVariants.{Exchanged}
+use Rattle.rail_model.specs.declared.types.Tried.TheVariants.{Exchanged, Differs, Over, Early, NoMore}
 use Rattle.rail_model.specs.Sums.{sum_below}
 use Rattle.rail_model.specs.Table.{Table, IsTable, place}
 use Rattle.rail_model.specs.State.{Legal}
 use Rattle.rail_model.specs.Move.{Move, advance}
-use Rattle.rail_model.specs.Exchange.{Admits}
+use Rattle.rail_model.specs.Exchange.{IsDue, Admits}
 use Rattle.rail_model.specs.Journal.{IsLine, after_line}
-use Rattle.rail_model.specs.Yard.{Offer, Yard, in_force, next_offer, moved, exchanged, IsOpen}
+use Rattle.rail_model.specs.Yard.{Offer, Yard, in_force, next_offer, moved, exchanged, IsOpen, IsNextDue, Tries}
 use Rattle.rail_model.proofs.Sums.{sum_step}
 use Rattle.rail_model.proofs.Moves.{place_moved, place_other}
 use Rattle.rail_model.proofs.Exchanges.{legal_exchange}
@@ -69,3 +69,19 @@ admits_same T U new given p q r old_is new_is p_is a =
     subst (λ (x : List ℕ). Admits U given x r) p_is
     (subst (λ (n : Table). Admits U n p r) new_is
     (subst (λ (t : Table). Admits t new p r) old_is a))
+
+-- a table that is due and admitted has its answer
+pub tries_admitted : (tables : List Offer) (y : Yard) (T : Table) (next : Offer) (r : Tried) → T ≡ in_force tables y → next ≡ next_offer tables y → IsOpen tables y
+    → IsDue T y.positions y.moves next.after → Admits T next.table y.positions r → Tries tables y r
+tries_admitted tables y T next r here ahead still due a =
+    by_answer r (admits_same T (in_force tables y) next.table (next_offer tables y).table y.positions y.positions r here (ap (λ (o : Offer). o.table) ahead) refl a)
+  where
+    is_due : IsNextDue tables y
+    is_due = (still, subst (λ (o : Offer). IsDue (in_force tables y) y.positions y.moves o.after) ahead (subst (λ (U : Table). IsDue U y.positions y.moves next.after) here due))
+
+    by_answer : (r : Tried) → Admits (in_force tables y) (next_offer tables y).table y.positions r → Tries tables y r
+    by_answer Exchanged a = (is_due, a)
+    by_answer (Differs i k) a = (is_due, a)
+    by_answer (Over s n) a = (is_due, a)
+    by_answer (Early m) a = absurd a
+    by_answer NoMore a = absurd a

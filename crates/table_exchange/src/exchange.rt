@@ -73,10 +73,7 @@ fn first_other(old: &Table, new: &Table, state: &State, train: u32) -> Option<u3
     requires train { train < trains old.now }
     ensures { IsFirstOrNone (DiffersAt old.now new.now state.now train) result }
 {
-    // Read for the proof: the trains and their places are few.
-    let _trains = trains_of(old);
-    let _last = last_of(old, train);
-    for place in 0..state.place(train) + 1 {
+    for place in 0..=state.place(train) {
         if differs(old, new, state, train, place) {
             return Some(place);
         }

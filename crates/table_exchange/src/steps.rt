@@ -1,16 +1,17 @@
 // What a question is answered on one thread, and what it changes.
 ghost use Rattle.std.specs.Prelude.{◌≡◌, ◌↔◌, ℕ, ◌+◌, ◌<◌, ◌≤◌, length, map, IsTrue, MatchOption};
-ghost use Rattle.rail_model.specs.Exchange.{Admits};
+ghost use Rattle.rail_model.specs.Exchange.{Admits, IsDue};
 ghost use Rattle.rail_model.specs.Move.{Answers};
+ghost use Rattle.rail_model.specs.State.{Legal};
 ghost use Rattle.rail_model.specs.Table.{IsTable, trains};
-ghost use Rattle.rail_model.specs.Yard.{in_force as table_in_force, next_offer, IsOpen, IsNextDue, Tries};
+ghost use Rattle.rail_model.specs.Yard.{in_force as table_in_force, next_offer, IsOpen, Tries};
 ghost use Rattle.table_exchange.specs.Admitted.{told};
 ghost use Rattle.table_exchange.specs.Steps.{after_ask, after_tried};
 ghost use Rattle.table_exchange.specs.Tables.{AreTables, Stands};
 
 use crate::{NotNow, admit, is_due};
 use legal_state::can_move;
-use rail_model::{Ask, HasTable, Standing, Table, Tried, last_of};
+use rail_model::{Ask, HasTable, Standing, Table, Tried};
 
 /// The table in force.
 pub fn in_force<'a, A: HasTable>(tables: &'a [A], yard: &Standing) -> &'a Table
@@ -28,10 +29,9 @@ pub fn ask<A: HasTable>(tables: &[A], yard: &mut Standing, train: u32) -> Ask
     ensures answer { Answers (table_in_force (map A.offer tables.now) yard.old) yard.old.positions train result }
     ensures after { yard.new ≡ after_ask yard.old train result }
     ensures stands { Stands (map A.offer tables.now) yard.new }
+    ensures formed { IsTable (table_in_force (map A.offer tables.now) yard.new) }
 {
     let table = in_force(tables, yard);
-    // Read for the proof: a train's places are few.
-    let _last = last_of(table, train);
     match can_move(table, yard.positions(), train) {
         Ask::Yes => {
             yard.advance(train);
@@ -49,30 +49,22 @@ fn next_table<'a, A: HasTable>(tables: &'a [A], yard: &Standing) -> Option<&'a A
     tables.get(yard.tried() as usize + 1)
 }
 
-// Whether the next table is due.
-fn is_next_due<A: HasTable>(tables: &[A], yard: &Standing, next: &A) -> bool
-    requires stands { Stands (map A.offer tables.now) yard.now }
-    requires has_next { IsOpen (map A.offer tables.now) yard.now }
-    requires next { A.offer next.now ≡ next_offer (map A.offer tables.now) yard.now }
-    ensures { IsTrue result ↔ IsNextDue (map A.offer tables.now) yard.now }
+// Whether a table is due at a state of the one in force.
+fn is_next_due<A: HasTable>(table: &Table, yard: &Standing, next: &A) -> bool
+    requires { length yard.now.positions ≡ trains table.now }
+    ensures { IsTrue result ↔ IsDue table.now yard.now.positions yard.now.moves (A.offer next.now).after }
 {
-    is_due(
-        in_force(tables, yard),
-        yard.positions(),
-        yard.moves(),
-        next.after(),
-    )
+    is_due(table, yard.positions(), yard.moves(), next.after())
 }
 
-// Whether the next table may take over from the one in force.
-fn admit_next<A: HasTable>(tables: &[A], yard: &Standing, next: &A) -> Result<(), NotNow>
-    requires tables { AreTables (map A.offer tables.now) }
-    requires stands { Stands (map A.offer tables.now) yard.now }
-    requires has_next { IsOpen (map A.offer tables.now) yard.now }
-    requires next { A.offer next.now ≡ next_offer (map A.offer tables.now) yard.now }
-    ensures { Admits (table_in_force (map A.offer tables.now) yard.now) (next_offer (map A.offer tables.now) yard.now).table yard.now.positions (told result) }
+// Whether a table may take over from the one in force.
+fn admit_next<A: HasTable>(table: &Table, yard: &Standing, next: &A) -> Result<(), NotNow>
+    requires same { trains (A.offer next.now).table ≡ trains table.now }
+    requires legal { Legal table.now yard.now.positions }
+    ensures admits { Admits table.now (A.offer next.now).table yard.now.positions (told result) }
+    ensures formed { IsTable (A.offer next.now).table }
 {
-    admit(in_force(tables, yard), next.table(), yard.positions())
+    admit(table, next.table(), yard.positions())
 }
 
 /// Tries the next table: it takes over, or is kept out for a first cause, or is early, or there is none.
@@ -82,16 +74,18 @@ pub fn try_table<A: HasTable>(tables: &[A], yard: &mut Standing) -> Tried
     ensures answer { Tries (map A.offer tables.now) yard.old result }
     ensures after { yard.new ≡ after_tried yard.old result }
     ensures stands { Stands (map A.offer tables.now) yard.new }
+    ensures formed { IsTable (table_in_force (map A.offer tables.now) yard.new) }
 {
+    let table = in_force(tables, yard);
     let Some(next) = next_table(tables, yard) else {
         return Tried::NoMore;
     };
-    if !is_next_due(tables, yard, next) {
+    if !is_next_due(table, yard, next) {
         return Tried::Early {
             moves: yard.moves(),
         };
     }
-    match admit_next(tables, yard, next) {
+    match admit_next(table, yard, next) {
         Ok(()) => {
             yard.exchange();
             Tried::Exchanged

@@ -1,9 +1,6 @@
-use Rattle.std.proofs.Common.{ap, ◌∙◌}
-use Rattle.rail_model.specs.Yard.{Offer}
+use Rattle.std.proofs.Common.{refl}
 use Rattle.table_exchange.proofs.Standings.{admits_same}
 use Rattle.table_exchange.proofs.steps.admit_next.Goals as goal
 
-pub returns : goal.returns
-returns g c =
-    admits_same _ _ _ _ _ _ _ c.in_force.ensures.given (c.table.ensures.given ∙ ap (λ (o : Offer). o.table) c.requires.next) c.positions.ensures
-    c.admit.ensures
+pub returns-clause-admits : goal.returns-clause-admits
+returns-clause-admits g c = admits_same c.args.table.now c.args.table.now _ _ _ _ _ refl c.table.ensures.given c.positions.ensures c.admit.ensures

@@ -14,6 +14,6 @@ advance-requires-clause-moves g c =
 pub returns-in-Yes-clause-stands : goal.returns-in-Yes-clause-stands
 returns-in-Yes-clause-stands g c =
     let tables = map g.A.HasTable.offer c.args.tables.now in
-    let at = subst (λ p. Answers c.in_force-table.result.now p c.args.train Yes) c.positions.ensures c.in-Yes.ensures in
+    let at = subst (λ p. Answers c.in_force-table.result.now p c.args.train Yes) c.positions.ensures c.in-Yes.ensures.answer in
     let move = subst (λ T. Answers T c.args.yard.now.positions c.args.train Yes) c.in_force-table.ensures.given at in
     subst (Stands tables) (sym c.advance.ensures) (stands_moved tables c.args.yard.now c.args.train c.requires.stands move)
