@@ -7,7 +7,7 @@ use Rattle.rail_model.specs.Table.{Table, Mission, IsTable}
 use Rattle.section_marks.specs.Keeping.{KeepsTo}
 use Rattle.section_marks.specs.declared.marks.Marks.TheVariants.{Four}
 use Rattle.document_shapes.specs.Raw.{DocMembers}
-use Rattle.layout_json.specs.Doc.{Doc, DocTable, IsDoc, doc_table, table_at}
+use Rattle.layout_json.specs.Doc.{Doc, IsDoc, doc_table, table_at}
 use Rattle.layout_json.specs.Keeps.{IsTaken, AreMembersOf}
 use Rattle.layout_json.specs.Members.{members_in, in_version}
 use Rattle.layout_json.specs.Migrated.{staying, staying_table, later_version, migrated, IsMigrated}

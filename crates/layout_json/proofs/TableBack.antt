@@ -5,7 +5,6 @@ use Rattle.std.proofs.lemmas.Bool.Decides.{leb_tells}
 use Rattle.rail_model.specs.Layout.{Layout, point_names}
 use Rattle.rail_model.specs.Names.{Names}
 use Rattle.rail_model.specs.Table.{Table, Mission, Connection}
-use Rattle.rail_model.specs.Turns.{in_turn, unless}
 use Rattle.rail_model.proofs.Firsts.{unless-ok}
 use Rattle.mission_table.specs.Ways.{missions_from}
 use Rattle.section_marks.specs.Marking.{table_from}
@@ -15,7 +14,7 @@ use Rattle.document_shapes.specs.Raw.{TableMembers, IsOfVersion}
 use Rattle.document_shapes.proofs.EachLemmas.{in_turn-ok}
 use Rattle.layout_json.specs.Doc.{DocTable}
 use Rattle.layout_json.specs.Members.{from_version, way_names, table_members_in}
-use Rattle.layout_json.specs.Tables.{refused_as, marks_of, exits_or_none, times_or_one, after_refusal, times_refusal, table_of, doc_table_of}
+use Rattle.layout_json.specs.Tables.{refused_as, marks_of, exits_or_none, after_refusal, times_refusal, table_of, doc_table_of}
 use Rattle.layout_json.specs.declared.refused.DocRefused.{DocRefused}
 use Rattle.layout_json.specs.declared.refused.DocRefused.TheVariants as refused
 use Rattle.layout_json.proofs.WaysBack.{missions-made_of}

@@ -1,10 +1,10 @@
 -- The document of members, part by part.
-use Rattle.std.proofs.Common.{◌≡◌, ◌∙◌, ◌⊎◌, ℕ, ◌<◌, ◌≤◌, List, [], length, get_or, None, Ok, Err, refl, sym, ap, subst, arith, inl, inr}
+use Rattle.std.proofs.Common.{◌≡◌, ◌∙◌, ◌⊎◌, ℕ, ◌<◌, ◌≤◌, List, length, get_or, None, Ok, Err, refl, ap, subst, arith, inl, inr}
 use Rattle.std.proofs.lemmas.Bool.Decides.{nat_tests}
 use Rattle.rail_model.specs.Layout.{Layout, point_names}
 use Rattle.rail_model.specs.Names.{Names}
 use Rattle.rail_model.specs.Table.{Table}
-use Rattle.rail_model.specs.Turns.{in_turn, unless}
+use Rattle.rail_model.specs.Turns.{unless}
 use Rattle.rail_model.proofs.Firsts.{then_some-none, unless-ok, unless-err}
 use Rattle.track_layout.specs.Making.{layout_from}
 use Rattle.mission_table.specs.Roster.{trains_from}
