@@ -1,10 +1,10 @@
 // The rounds of a repair.
-ghost use Rattle.std.specs.Prelude.{◌≡◌, ◌+◌, ◌≤◌, ℕ, All, IfOk, length};
+ghost use Rattle.std.specs.Prelude.{◌≡◌, ◌+◌, ◌≤◌, ℕ, IfOk, length};
 ghost use Rattle.rail_model.specs.State.{Legal};
 ghost use Rattle.cert_maker.specs.Draft.{IsDraft};
 ghost use Rattle.cert_maker.specs.Rule.{Makes};
 ghost use Rattle.cert_maker.specs.declared.made.Made.TheVariants.{Stuck as stuck_at};
-ghost use Rattle.forbidden_states.specs.Forbid.{AreStays, marked as marked_of};
+ghost use Rattle.forbidden_states.specs.Forbid.{marked as marked_of};
 ghost use Rattle.section_repair.specs.Repairs.{treated as treated_of, Repairs};
 ghost use Rattle.section_repair.specs.Rounds.{IsUnderWay, Leads};
 ghost use Rattle.section_repair.specs.Claims.{LosesNothing, IsExact, DoomsAlike};
@@ -14,7 +14,7 @@ use crate::cores::core;
 use crate::joining::{settled, stays_of};
 use cert_maker::{Draft, Made, Remade, remake};
 use forbidden_states::{Stays, marked};
-use rail_model::{Layout, Missions, State, Table, copy_missions, copy_table};
+use rail_model::{Layout, Missions, State, Table, copy_table};
 use std::alloc::{AllocError, Global};
 
 // The most sections that a table has.
@@ -56,7 +56,8 @@ enum Turn {
     End(Repair),
 }
 
-// The first round, of no sections. No nodes are left of a round before.
+// The first round, of no sections. No nodes are left of a round before. Two tables are there at a time, this one and the
+// former, and they take turns with two lists of the missions: these, and the only copy of them.
 fn first_round(alloc: Global, missions: Missions, budget: u32) -> Result<Round, AllocError>
     ensures under_way { IfOk result (IsUnderWay missions) }
     ensures budget { IfOk result (λ round. round.budget ≡ budget) }
@@ -76,17 +77,8 @@ fn first_round(alloc: Global, missions: Missions, budget: u32) -> Result<Round, 
     })
 }
 
-// The table of the same missions with these sections.
-fn table_with(alloc: Global, table: &Table, sections: &[Stays]) -> Result<Table, AllocError>
-    requires stays { All (AreStays (length table.now.missions)) sections.now }
-    requires few { length sections.now ≤ 64 }
-    ensures { IfOk result (λ next. next ≡ marked_of table.now.missions sections.now) }
-{
-    let missions = copy_missions(alloc, table)?;
-    marked(alloc, missions, sections)
-}
-
-// What a round leads to that found this stuck state, with the nodes that are left of its table.
+// What a round leads to that found this stuck state, with the nodes that are left of its table. The next table has the
+// missions of the former one, which isn't read any more.
 fn treat(
     alloc: Global,
     round: Round,
@@ -103,31 +95,25 @@ fn treat(
 {
     let Round {
         sections,
-        table: former,
+        table,
+        former,
         budget,
         used,
         ..
     } = round;
     if used == rounds {
-        return Ok(Turn::End(Repair::Rounds {
-            table: former,
-            rounds,
-            at,
-        }));
+        return Ok(Turn::End(Repair::Rounds { table, rounds, at }));
     }
-    let sections = treated(alloc, &former, sections, &at)?;
+    let sections = treated(alloc, &table, sections, &at)?;
     if sections.len() > MOST_SECTIONS {
         let count = sections.len() as u32;
-        return Ok(Turn::End(Repair::Many {
-            table: former,
-            count,
-        }));
+        return Ok(Turn::End(Repair::Many { table, count }));
     }
-    let table = table_with(alloc, &former, &sections)?;
+    let next = marked(alloc, former.into_missions(), &sections)?;
     Ok(Turn::Next(Round {
         sections,
-        table,
-        former,
+        table: next,
+        former: table,
         draft,
         budget,
         used: used + 1,
