@@ -53,8 +53,9 @@ fn changes_of(alloc: Global, mission: &Mission, stay: &Option<Stay>) -> Result<C
 {
     let places = last_of(mission) + 1;
     let mut changes = Vec::new(alloc);
+    changes.reserve(places as usize)?;
     for place in 0..places {
-        changes.push(change_at(stay, place))?;
+        changes.push_reserved(change_at(stay, place));
     }
     Ok(Changes::from(changes))
 }
