@@ -1,5 +1,6 @@
 -- Rows: rounds of drivers, turns of the control, and groups of both, on small yards.
-use Rattle.std.proofs.Common.{[], ◌∷◌, refl, arith, lit<, lit≤, inl, inr}
+use Rattle.std.proofs.Common.{List, [], ◌∷◌, refl, arith, lit<, inl, inr}
+use Rattle.std.proofs.lemmas.List.Elements.{All-cons, All-nil}
 use Rattle.zone_yard.specs.declared.replies.Reply.TheVariants as one
 use Rattle.zone_yard.specs.declared.replies.BlockReply.TheVariants as block
 use Rattle.zone_yard.specs.declared.replies.Turn.TheVariants as turn
@@ -7,9 +8,10 @@ use Rattle.rail_model.specs.declared.types.Ask.TheVariants.{Arrived}
 use Rattle.zone_yard.specs.Passes.{Pass}
 use Rattle.zone_yard.proofs.Samples.{boarded, four_zones}
 use Rattle.zone_yard.proofs.Rows.{granted_after}
+use Rattle.dispatch_workers.specs.declared.rounds.Round.{Round}
 use Rattle.dispatch_workers.specs.declared.rounds.Round.TheVariants.{One, Block}
 use Rattle.dispatch_workers.specs.declared.groups.Group.TheVariants.{Control}
-use Rattle.dispatch_workers.specs.Rounds.{IsWhole, GoesRound, HasNoMore, EndsEarly, DriverWorked, Worked, IsLastTurn, MakesTurns, EndsTrying, Turned}
+use Rattle.dispatch_workers.specs.Rounds.{IsWhole, GoesRound, HasNoMore, AllGoRound, IsOver, EndsAtFirst, Worked, IsLastTurn, MakesTurns, Turned}
 use Rattle.dispatch_workers.specs.Groups.{IsOurGroup, GroupWorked}
 
 -- a driver that may make one entry, and has made it
@@ -30,23 +32,48 @@ ends = (tt, tt, tt, λ end. end)
 whole : IsWhole (block.Granted 0 2) × (IsWhole (block.NotWhole 0 1 Arrived) → ⊥)
 whole = (tt, λ none. none)
 
-ends_early : EndsEarly (One one.Spent ∷ One (one.Granted 0) ∷ []) × (EndsEarly (One (one.Granted 0) ∷ []) → ⊥) × (EndsEarly [] → ⊥)
-ends_early = (tt, (λ none. none), (λ none. none))
+-- a group is over once no driver has more to ask for
+all_spent : IsOver (One one.Spent ∷ [])
+all_spent = All-cons HasNoMore (One one.Spent) [] tt (All-nil HasNoMore)
 
-driver_worked : DriverWorked 5 1 1 made made
-driver_worked = (One one.Spent ∷ [], refl, (made, refl, spent), inr tt)
+over : IsOver (One (one.Arrived 3) ∷ One one.Spent ∷ [])
+over = All-cons HasNoMore (One (one.Arrived 3)) (One one.Spent ∷ []) tt all_spent
+
+not_over : IsOver (One one.Spent ∷ One (one.Granted 0) ∷ []) → ⊥
+not_over over = over 1 (One one.Spent) (lit< tt)
 
 -- one round of five, since nobody has more to ask for
 worked : Worked 5 1 (made ∷ []) (made ∷ [])
-worked = record { made = 1; within = inr (lit≤ tt, lit< tt); each = (driver_worked, tt) }
+worked = record {
+  told = (One one.Spent ∷ []) ∷ [];
+  made = (made ∷ [], refl, (spent, tt));
+  ends = (All-nil (λ one. IsOver one → ⊥), inr (lit< tt, all_spent));
+}
 
 -- no round at all, where none is wanted
 no_round : Worked 0 1 (boarded (four_zones 9) 0 ∷ []) (boarded (four_zones 9) 0 ∷ [])
-no_round = record { made = 0; within = inl refl; each = (([], refl, refl, inl refl), tt) }
+no_round = record { told = []; made = refl; ends = refl }
 
 -- a driver isn't left out
-not_left_out : Worked 5 1 (made ∷ []) [] → ⊥
-not_left_out none = none.each
+not_left_out : (told : List Round) → AllGoRound 1 told (made ∷ []) [] → ⊥
+not_left_out [] none = none
+not_left_out (round ∷ told) none = none
+
+-- no more rounds are made than are wanted, and fewer only up to the first that is over
+no_more : EndsAtFirst IsOver 0 ((One (one.Granted 0) ∷ []) ∷ []) → ⊥
+no_more ends = elim ends.1 [
+  | inl all ↦ omega (arith, all)
+  | inr few ↦ let lt = few.0 in omega (arith, lt)
+]
+
+no_fewer : EndsAtFirst IsOver 5 ((One (one.Granted 0) ∷ []) ∷ []) → ⊥
+no_fewer ends = elim ends.1 [
+  | inl all ↦ omega (arith, all)
+  | inr few ↦ few.1 0 (One one.Spent) (lit< tt)
+]
+
+not_after_the_first : EndsAtFirst IsOver 2 ((One one.Spent ∷ []) ∷ (One one.Spent ∷ []) ∷ []) → ⊥
+not_after_the_first ends = ends.0 0 [] (lit< tt) all_spent
 
 -- the control of a yard with one table has nothing to try
 abbrev control : Pass
@@ -56,10 +83,14 @@ tried : MakesTurns (turn.NoMore ∷ []) control control
 tried = (control, refl, (lit< tt, (λ more. omega (arith, more)), (refl, (refl, refl))))
 
 turned : Turned 5 control control
-turned = record { turns = turn.NoMore ∷ []; most = lit≤ tt; made = tried; ends = inr tt }
+turned = record { turns = turn.NoMore ∷ []; made = tried; ends = (All-nil (λ one. IsLastTurn one → ⊥), inr (lit< tt, tt)) }
 
-last_turns : IsLastTurn turn.NoMore × IsLastTurn turn.Spent × (IsLastTurn (turn.Early 0 0) → ⊥) × (EndsTrying [] → ⊥)
-last_turns = (tt, tt, (λ none. none), (λ none. none))
+last_turns : IsLastTurn turn.NoMore × IsLastTurn turn.Spent × (IsLastTurn (turn.Early 0 0) → ⊥)
+last_turns = (tt, tt, (λ none. none))
+
+-- the control doesn't turn on
+no_turn_more : EndsAtFirst IsLastTurn 2 (turn.NoMore ∷ turn.NoMore ∷ []) → ⊥
+no_turn_more ends = ends.0 0 turn.NoMore (lit< tt) tt
 
 groups : IsOurGroup (four_zones 9) (Control control) × GroupWorked 5 1 (Control control) (Control control)
 groups = (refl, turned)

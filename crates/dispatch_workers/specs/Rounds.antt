@@ -1,6 +1,5 @@
 -- What rounds of drivers and turns of the control come to.
-use Rattle.std.specs.Prelude.{◌≡◌, ℕ, ◌<◌, ◌≤◌, ◌⊎◌, List, [], ◌∷◌, length, Bool, true, All}
-use Rattle.std.specs.List.{AllZip}
+use Rattle.std.specs.Prelude.{◌≡◌, ℕ, suc, ◌<◌, ◌⊎◌, ◌↔◌, List, [], ◌∷◌, length, Bool, IsTrue, All}
 use Rattle.zone_yard.specs.declared.replies.Reply.TheVariants as one
 use Rattle.zone_yard.specs.declared.replies.BlockReply.{BlockReply}
 use Rattle.zone_yard.specs.declared.replies.BlockReply.TheVariants as block
@@ -32,34 +31,40 @@ HasNoMore (Block (block.Arrived ticket)) = Unit {0}
 HasNoMore (Block block.Spent) = Unit {0}
 HasNoMore round = ⊥
 
--- Rounds of a driver, one after the other; the list begins with the last.
-abbrev pub MakesRounds : ℕ → List Round → Pass → Pass → Type 0
-MakesRounds steps [] old new = new ≡ old
-MakesRounds steps (round ∷ earlier) old new = (middle : Pass) × MakesRounds steps earlier old middle × GoesRound steps round middle new
-
--- In the last of the rounds the driver had no more to ask for.
-abbrev pub EndsEarly : List Round → Type 0
-EndsEarly [] = ⊥
-EndsEarly (round ∷ earlier) = HasNoMore round
-
 -- All drivers are the yard's.
 abbrev pub AllOurs : SharedYard → List Pass → Type 0
 AllOurs yard drivers = All (λ d. d.yard ≡ yard) drivers
 
--- One round of one driver, in which it had no more to ask for where that is true of all.
-abbrev pub DriverAsked : ℕ → Bool → Pass → Pass → Type 0
-DriverAsked steps ended old new = (round : Round) × GoesRound steps round old new × (ended ≡ true → HasNoMore round)
+-- One round of each driver, in order.
+abbrev pub AllGoRound : ℕ → List Round → List Pass → List Pass → Type 0
+AllGoRound steps [] [] [] = Unit {0}
+AllGoRound steps (round ∷ rounds) (old ∷ olds) (new ∷ news) = GoesRound steps round old new × AllGoRound steps rounds olds news
+AllGoRound steps rounds olds news = ⊥
 
--- What a driver did of a number of rounds: it made this many of them, all or as many as end early.
-abbrev pub DriverWorked : ℕ → ℕ → ℕ → Pass → Pass → Type 0
-DriverWorked rounds steps made old new =
-    (told : List Round) × (length told ≡ made) × MakesRounds steps told old new × ((made ≡ rounds) ⊎ EndsEarly told)
+-- No driver has more to ask for.
+abbrev pub IsOver : List Round → Type 0
+IsOver told = All HasNoMore told
 
--- A group of drivers made as many rounds each: all that were wanted, or fewer, in the last of which no driver had more to ask for.
+-- Every driver went a round, and this tells whether no driver has more to ask for.
+abbrev pub AllAsked : ℕ → Bool → List Pass → List Pass → Type 0
+AllAsked steps over olds news = (told : List Round) × AllGoRound steps told olds news × (IsTrue over ↔ IsOver told)
+
+-- Rounds of all drivers, one after the other; the list begins with the last.
+abbrev pub MakesRounds : ℕ → List (List Round) → List Pass → List Pass → Type 0
+MakesRounds steps [] olds news = news ≡ olds
+MakesRounds steps (told ∷ earlier) olds news = (middle : List Pass) × MakesRounds steps earlier olds middle × AllGoRound steps told middle news
+
+-- None before the last one was at an end; they are as many as were wanted, or fewer, and then the last one was. The list begins with the last.
+abbrev pub EndsAtFirst : {A : Type 0} → (A → Type 0) → ℕ → List A → Type 0
+EndsAtFirst AtEnd wanted [] = wanted ≡ 0
+EndsAtFirst AtEnd wanted (last ∷ earlier) =
+    All (λ one. AtEnd one → ⊥) earlier × ((suc (length earlier) ≡ wanted) ⊎ ((suc (length earlier) < wanted) × AtEnd last))
+
+-- A group of drivers made all the rounds that were wanted, or ended after the first one in which no driver had more to ask for.
 pub record Worked (rounds steps : ℕ) (olds news : List Pass) : Type 0 where
-  pub made : ℕ
-  pub within : (made ≡ rounds) ⊎ ((1 ≤ made) × (made < rounds))
-  pub each : AllZip (DriverWorked rounds steps made) olds news
+  pub told : List (List Round)
+  pub made : MakesRounds steps told olds news
+  pub ends : EndsAtFirst IsOver rounds told
 
 -- The turn had nothing to try.
 abbrev pub IsLastTurn : Turn → Type 0
@@ -72,14 +77,8 @@ abbrev pub MakesTurns : List Turn → Pass → Pass → Type 0
 MakesTurns [] old new = new ≡ old
 MakesTurns (answer ∷ earlier) old new = (middle : Pass) × MakesTurns earlier old middle × Turns middle answer new
 
--- The last of the turns had nothing to try.
-abbrev pub EndsTrying : List Turn → Type 0
-EndsTrying [] = ⊥
-EndsTrying (answer ∷ earlier) = IsLastTurn answer
-
--- The control made as many turns as were wanted, or fewer, the last of which had nothing to try.
+-- The control made all the turns that were wanted, or ended after the first one that had nothing to try.
 pub record Turned (rounds : ℕ) (old new : Pass) : Type 0 where
   pub turns : List Turn
-  pub most : length turns ≤ rounds
   pub made : MakesTurns turns old new
-  pub ends : (length turns ≡ rounds) ⊎ EndsTrying turns
+  pub ends : EndsAtFirst IsLastTurn rounds turns

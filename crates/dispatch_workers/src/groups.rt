@@ -38,8 +38,8 @@ fn work<R: Wait, G: Gate>(
 }
 
 /// Works all groups, each beside the others. A group of drivers makes `rounds` rounds of one request for each driver in order, of `block`
-/// steps at once, or of fewer where they can't be granted whole; it ends early after a round in which every answer was `Arrived` or
-/// `Spent`. The control makes `rounds` exchanges; it ends early with `NoMore` or `Spent`.
+/// steps at once, or of fewer where they can't be granted whole; it ends early after the first round in which every answer was `Arrived`
+/// or `Spent`. The control makes `rounds` exchanges; it ends early with the first `NoMore` or `Spent`.
 pub fn run_groups<R: Threads + Wait + Sync, G: Gate>(
     rt: &R,
     yard: &Yard<'_>,

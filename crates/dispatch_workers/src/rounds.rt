@@ -1,8 +1,7 @@
 // Rounds of drivers, and turns of the control.
-ghost use Rattle.std.specs.Prelude.{◌≡◌, ◌≤◌, ◌<◌, ℕ, IsTrue, length, slice_index_or, true};
-ghost use Rattle.zone_yard.specs.Passes.{Pass};
+ghost use Rattle.std.specs.Prelude.{◌≡◌, ◌≤◌, ◌↔◌, IsTrue};
 ghost use Rattle.zone_yard.specs.Entering.{IsSamePass};
-ghost use Rattle.dispatch_workers.specs.Rounds.{GoesRound, HasNoMore, IsLastTurn, AllOurs, DriverAsked, Worked, Turned};
+ghost use Rattle.dispatch_workers.specs.Rounds.{GoesRound, HasNoMore, IsLastTurn, AllOurs, AllAsked, Worked, Turned};
 
 use ats_io::Gate;
 use rail_model::Ask;
@@ -26,7 +25,7 @@ pub enum Round {
 
 // Whether a driver has no more to ask for: it has arrived, or its entries are spent.
 fn is_end(round: Round) -> bool
-    ensures { result ≡ true → HasNoMore round }
+    ensures { IsTrue result ↔ HasNoMore round }
 {
     matches!(
         round,
@@ -87,7 +86,7 @@ fn go_all<R: Wait, G: Gate>(
     requires ours { AllOurs yard.now drivers.old }
     requires block { (1 ≤ block) × (block ≤ 4) }
     ensures ours { AllOurs yard.now drivers.new }
-    ensures asked { (k : ℕ) (d : Pass) → k < length drivers.old → DriverAsked block result (slice_index_or drivers.old k d) (slice_index_or drivers.new k d) }
+    ensures asked { AllAsked block result drivers.old drivers.new }
 {
     let mut all = true;
     let mut waits = true;
@@ -106,7 +105,7 @@ fn go_all<R: Wait, G: Gate>(
     all
 }
 
-/// Rounds of all drivers. They end early after a round in which no driver has more to ask for.
+/// Rounds of all drivers. They end early after the first one in which no driver has more to ask for.
 pub(crate) fn drive<R: Wait, G: Gate>(
     rt: &R,
     yard: &Yard<'_>,
@@ -129,12 +128,12 @@ pub(crate) fn drive<R: Wait, G: Gate>(
 
 // Whether the control has no more to try: every table has its answer, or its entries are spent.
 fn is_last(turn: Turn) -> bool
-    ensures { result ≡ true → IsLastTurn turn }
+    ensures { IsTrue result ↔ IsLastTurn turn }
 {
     matches!(turn, Turn::NoMore | Turn::Spent)
 }
 
-/// Turns of the control. They end early with one that had nothing to try.
+/// Turns of the control. They end early with the first one that had nothing to try.
 pub(crate) fn exchange<R: Wait, G: Gate>(
     rt: &R,
     yard: &Yard<'_>,

@@ -1,6 +1,7 @@
 -- How many entries a pass makes at most: four in a round, and one in a turn.
-use Rattle.std.proofs.Common.{◌≡◌, ◌≤◌, ◌+◌, ◌*◌, ℕ, suc, List, [], ◌∷◌, refl, length, ap, ◌∙◌, arith}
+use Rattle.std.proofs.Common.{◌≡◌, ◌≤◌, ◌+◌, ◌*◌, ℕ, suc, List, [], ◌∷◌, refl, length, sym, ap, ◌∙◌, subst, arith}
 use Rattle.std.specs.Prelude.{replicate}
+use Rattle.std.specs.List.{AllZip}
 use Rattle.std.proofs.lemmas.List.{length-append, length-map, length-replicate}
 use Rattle.rail_model.specs.declared.types.Entry.{Entry}
 use Rattle.rail_model.specs.declared.types.Ask.TheVariants.{Yes}
@@ -17,7 +18,8 @@ use Rattle.zone_yard.specs.Entering.{Enters}
 use Rattle.zone_yard.specs.Replies.{Replies, BlockReplies, Turns, IsGranted, steps_after}
 use Rattle.dispatch_workers.specs.declared.rounds.Round.{Round}
 use Rattle.dispatch_workers.specs.declared.rounds.Round.TheVariants.{One, Block, Halved}
-use Rattle.dispatch_workers.specs.Rounds.{GoesRound, MakesRounds, MakesTurns}
+use Rattle.dispatch_workers.specs.Rounds.{GoesRound, AllGoRound, MakesRounds, MakesTurns}
+use Rattle.shared_run.proofs.Lists.{zip_same, zip_then}
 
 -- It is the same pass, with at most this many entries more.
 pub record Grew (most : ℕ) (old new : Pass) : Type 0 where
@@ -95,11 +97,21 @@ round_grew steps old new (Block reply) le h = block_grew steps old new reply le 
 round_grew steps old new (Halved t k a reply) le h =
     grew_more 2 4 old new (omega arith) (grew_then 1 1 old h.1.0 new (enters_grew t 1 _ old h.1.0 h.1.1.1.0 (omega arith)) (one_grew h.1.0 new reply h.1.2))
 
-pub rounds_grew : (steps : ℕ) (old new : Pass) (told : List Round) → steps ≤ 4 → MakesRounds steps told old new → Grew (4 * length told) old new
-rounds_grew steps old new [] le made = kept_grew _ old new made
-rounds_grew steps old new (round ∷ earlier) le made =
-    grew_more (4 * length earlier + 4) _ old new (omega arith)
-    (grew_then _ 4 old made.0 new (rounds_grew steps old made.0 earlier le made.1) (round_grew steps made.0 new round le made.2))
+all_grew : (steps : ℕ) (told : List Round) (olds news : List Pass) → steps ≤ 4 → AllGoRound steps told olds news → AllZip (Grew 4) olds news
+all_grew steps [] [] [] le gone = tt
+all_grew steps [] [] (n ∷ news) le gone = absurd gone
+all_grew steps [] (o ∷ olds) news le gone = absurd gone
+all_grew steps (r ∷ told) [] news le gone = absurd gone
+all_grew steps (r ∷ told) (o ∷ olds) [] le gone = absurd gone
+all_grew steps (r ∷ told) (o ∷ olds) (n ∷ news) le gone = (round_grew steps o n r le gone.0, all_grew steps told olds news le gone.1)
+
+pub rounds_grew : (steps : ℕ) (told : List (List Round)) (olds news : List Pass) → steps ≤ 4 → MakesRounds steps told olds news
+    → AllZip (Grew (4 * length told)) olds news
+rounds_grew steps [] olds news le made = subst (AllZip (Grew 0) olds) (sym made) (zip_same (Grew 0) (λ d. kept_grew 0 d d refl) olds)
+rounds_grew steps (round ∷ earlier) olds news le made =
+    zip_then (Grew (4 * length earlier)) (Grew 4) (Grew (4 * length (round ∷ earlier)))
+    (λ a b c one two. grew_more (4 * length earlier + 4) _ a c (omega arith) (grew_then _ 4 a b c one two))
+    olds made.0 news (rounds_grew steps earlier olds made.0 le made.1) (all_grew steps round made.0 news le made.2)
 
 turn_grew : (old new : Pass) (answer : Turn) → Turns old answer new → Grew 1 old new
 turn_grew old new (turn.Exchanged t) h = enters_grew t 1 _ old new h.2 (omega arith)

@@ -52,3 +52,16 @@ zip_long R [] [] zip = refl
 zip_long R [] (y ∷ ys) zip = absurd zip
 zip_long R (x ∷ xs) [] zip = absurd zip
 zip_long R (x ∷ xs) (y ∷ ys) zip = λ i. suc (zip_long R xs ys zip.1 i)
+
+pub zip_same : {A : Type 0} (R : A → A → Type 0) → ((x : A) → R x x) → (xs : List A) → AllZip R xs xs
+zip_same R same [] = tt
+zip_same R same (x ∷ xs) = (same x, zip_same R same xs)
+
+-- what holds from one list to another and from there to a third
+pub zip_then : {A : Type 0} (R S T : A → A → Type 0) → ((x y z : A) → R x y → S y z → T x z) → (xs ys zs : List A) → AllZip R xs ys → AllZip S ys zs → AllZip T xs zs
+zip_then R S T gives [] [] [] one two = tt
+zip_then R S T gives [] [] (z ∷ zs) one two = absurd two
+zip_then R S T gives [] (y ∷ ys) zs one two = absurd one
+zip_then R S T gives (x ∷ xs) [] zs one two = absurd one
+zip_then R S T gives (x ∷ xs) (y ∷ ys) [] one two = absurd two
+zip_then R S T gives (x ∷ xs) (y ∷ ys) (z ∷ zs) one two = (gives x y z one.0 two.0, zip_then R S T gives xs ys zs one.1 two.1)

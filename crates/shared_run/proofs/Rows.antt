@@ -1,6 +1,5 @@
 -- Rows: crews, the trains that each worker has, boarding and leaving, and a crew that makes no round.
-use Rattle.std.proofs.Common.{◌≡◌, ◌-◌, ℕ, List, [], ◌∷◌, refl, arith, lit<, lit≤, inl}
-use Rattle.std.specs.List.{AllZip}
+use Rattle.std.proofs.Common.{◌≡◌, ◌-◌, ℕ, List, [], ◌∷◌, refl, arith, lit<, lit≤}
 use Rattle.std.proofs.lemmas.List.Elements.{All-nil, All-cons, All-map}
 use Rattle.rail_model.specs.declared.types.Line.{Line}
 use Rattle.rail_model.specs.Journal.{IsRound}
@@ -10,7 +9,7 @@ use Rattle.zone_yard.specs.Boarding.{fresh_root, with_pass}
 use Rattle.zone_yard.proofs.Samples.{boarded, yes, one_zone, four_zones}
 use Rattle.zone_yard.proofs.Rows.{granted_after}
 use Rattle.dispatch_workers.specs.declared.groups.Group.TheVariants.{Control}
-use Rattle.dispatch_workers.specs.Rounds.{DriverWorked, Worked}
+use Rattle.dispatch_workers.specs.Rounds.{Worked}
 use Rattle.shared_run.specs.Crews.{crew_of, IsCrew, trains_of, dealt}
 use Rattle.shared_run.specs.Shared.{fresh_pass, fresh_passes, IsRecorded, IsWorked, IsShared, IsAddedBy}
 use Rattle.shared_run.specs.Boarding.{onto, AreOnce, passes_in, IsFresh, HaveBoarded, AreAshore, IsControl}
@@ -62,12 +61,8 @@ shared : (S : Setup) (added : List Line) → IsAddedBy S (crew_of 2 1000 1) adde
 shared S added by = by
 
 -- drivers that made no round
-still : (drivers : List Pass) → AllZip (DriverWorked 0 1 0) drivers drivers
-still [] = tt
-still (d ∷ drivers) = (([], refl, refl, inl refl), still drivers)
-
 no_rounds : (drivers : List Pass) → Worked 0 1 drivers drivers
-no_rounds drivers = record { made = 0; within = inl refl; each = still drivers }
+no_rounds drivers = record { told = []; made = refl; ends = refl }
 
 -- two workers that make no round make no entry
 nobody_asks : IsWorked (four_zones 9) (crew_of 2 0 1) []
@@ -77,7 +72,7 @@ nobody_asks = record {
   worked = λ g lt. no_rounds (fresh_passes (four_zones 9) 2 g);
   recorded = λ g lt. All-map (IsRecorded []) (fresh_pass (four_zones 9)) (dealt 3 2 g) (λ k d within. (refl, lit< tt));
   control = fresh_pass (four_zones 9) 32;
-  turned = record { turns = []; most = lit≤ tt; made = refl; ends = inl refl };
+  turned = record { turns = []; made = refl; ends = refl };
   told = (refl, lit< tt);
 }
 

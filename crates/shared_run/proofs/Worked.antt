@@ -1,5 +1,5 @@
 -- A crew that boarded, worked and left: what it did, and that the root has all its entries.
-use Rattle.std.proofs.Common.{◌≡◌, ◌<◌, ◌≤◌, ◌+◌, ◌*◌, ◌⊎◌, inl, inr, ℕ, List, [], ◌∷◌, refl, length, get_or, map, sym, ap, ◌∙◌, subst, arith}
+use Rattle.std.proofs.Common.{◌≡◌, ◌<◌, ◌≤◌, ◌+◌, ◌*◌, ℕ, List, [], ◌∷◌, refl, length, get_or, map, sym, ap, ◌∙◌, subst, arith}
 use Rattle.std.specs.List.{All, AllZip, AllByRecursion}
 use Rattle.std.proofs.lemmas.List.Elements.{All-from_recursion, recursion_from_All, AllZip-get_or}
 use Rattle.rail_model.specs.Yard.{control as control_number}
@@ -9,8 +9,9 @@ use Rattle.zone_yard.specs.Entering.{HasRoom}
 use Rattle.zone_yard.specs.Boarding.{fresh_root}
 use Rattle.dispatch_workers.specs.declared.groups.Group.{Group}
 use Rattle.dispatch_workers.specs.declared.groups.Group.TheVariants.{Drivers, Control}
-use Rattle.dispatch_workers.specs.Rounds.{DriverWorked, Worked, Turned}
+use Rattle.dispatch_workers.specs.Rounds.{IsOver, IsLastTurn, Worked, Turned}
 use Rattle.dispatch_workers.specs.Groups.{GroupWorked}
+use Rattle.dispatch_workers.proofs.Ended.{ended_within}
 use Rattle.shared_run.specs.declared.crews.Crew.{Crew}
 use Rattle.shared_run.specs.Crews.{IsCrew}
 use Rattle.shared_run.specs.Shared.{fresh_pass, fresh_passes}
@@ -20,21 +21,15 @@ use Rattle.shared_run.proofs.Lists.{each_part, zip_weaker, zip_parts, all_zipped
 use Rattle.shared_run.proofs.Grown.{Grew, grew_more, rounds_grew, turns_grew}
 use Rattle.shared_run.proofs.Done.{each_done}
 
-made_within : (made rounds : ℕ) → (made ≡ rounds) ⊎ ((1 ≤ made) × (made < rounds)) → made ≤ rounds
-made_within made rounds (inl all) = omega (arith, all)
-made_within made rounds (inr few) = let lt = few.1 in omega (arith, lt)
-
-driver_grew : (rounds steps made : ℕ) (old new : Pass) → steps ≤ 4 → made ≤ rounds → DriverWorked rounds steps made old new → Grew (4 * rounds) old new
-driver_grew rounds steps made old new le within worked =
-    grew_more (4 * length worked.0) (4 * rounds) old new (let long = worked.1 in omega (arith, long, within)) (rounds_grew steps old new worked.0 le worked.2)
-
 -- each pass of a group that has worked is the same, with some entries more
 group_grew : (rounds steps : ℕ) (old new : Group) → steps ≤ 4 → GroupWorked rounds steps old new → AllZip (Grew (4 * rounds)) (passes_of old) (passes_of new)
 group_grew rounds steps (Drivers olds) (Drivers news) le worked =
-    zip_weaker (DriverWorked rounds steps worked.made) (Grew (4 * rounds))
-    (λ x y did. driver_grew rounds steps worked.made x y le (made_within worked.made rounds worked.within) did) olds.items news.items worked.each
+    let most = ended_within IsOver rounds worked.told worked.ends in
+    zip_weaker (Grew (4 * length worked.told)) (Grew (4 * rounds)) (λ x y. grew_more (4 * length worked.told) (4 * rounds) x y (omega (arith, most)))
+    olds.items news.items (rounds_grew steps worked.told olds.items news.items le worked.made)
 group_grew rounds steps (Control old) (Control new) le turned =
-    (grew_more (length turned.turns) (4 * rounds) old new (let most = turned.most in omega (arith, most)) (turns_grew old new turned.turns turned.made), tt)
+    let most = ended_within IsLastTurn rounds turned.turns turned.ends in
+    (grew_more (length turned.turns) (4 * rounds) old new (omega (arith, most)) (turns_grew old new turned.turns turned.made), tt)
 group_grew rounds steps (Drivers olds) (Control new) le none = absurd none
 group_grew rounds steps (Control old) (Drivers news) le none = absurd none
 

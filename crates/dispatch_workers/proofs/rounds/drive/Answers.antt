@@ -1,36 +1,34 @@
-use Rattle.std.proofs.Common.{◌+◌, ◌∷◌, inl, inr, refl, arith}
-use Rattle.dispatch_workers.specs.Rounds.{DriverWorked}
-use Rattle.dispatch_workers.proofs.Gone.{within_last, zipped}
+use Rattle.std.proofs.Common.{◌∷◌, ◌∙◌, sym, true≢false, arith}
+use Rattle.std.proofs.lemmas.List.Elements.{All-cons}
+use Rattle.dispatch_workers.specs.Rounds.{IsOver}
+use Rattle.dispatch_workers.proofs.Ended.{ended_early, ended_whole}
 use Rattle.dispatch_workers.proofs.rounds.drive.Goals as goal
 
 pub returns-then-go_all-clause-worked : goal.returns-then-go_all-clause-worked
 returns-then-go_all-clause-worked g c =
-    let inv = c.loop-round.invariant in
+    let old = c.loop-round.invariant.made in
+    let now = c.go_all.ensures.asked in
     record {
-      made = c.loop-round._round + 1;
-      within = within_last c.args.rounds c.loop-round._round (omega arith);
-      each = zipped (DriverWorked c.args.rounds c.args.block (c.loop-round._round + 1)) c.args.drivers.now c.go_all.new.drivers (omega arith) (λ k d lt.
-          let old = inv.made k d lt in
-          let now = c.go_all.ensures.asked k d (omega arith) in
-          (now.0 ∷ old.0, (let e = old.1 in omega arith), (_, old.2, now.1), inr (now.2 c.if-go_all.true)));
+      told = now.0 ∷ old.0;
+      made = (_, old.2, now.1);
+      ends = ended_early IsOver c.args.rounds now.0 old.0 (let e = old.1 in omega arith) old.3 (now.2.0 c.if-go_all.true);
     }
 
 pub loop-round-preserved : goal.loop-round-preserved
 loop-round-preserved g c =
-    let inv = c.loop-round.invariant in
+    let old = c.loop-round.invariant.made in
+    let now = c.go_all.ensures.asked in
     record {
       ours = c.go_all.ensures.ours;
-      made = λ k d lt.
-          let old = inv.made k d lt in
-          let now = c.go_all.ensures.asked k d (omega arith) in
-          (now.0 ∷ old.0, (let e = old.1 in omega arith), (_, old.2, now.1));
+      made = (
+        now.0 ∷ old.0,
+        (let e = old.1 in omega arith),
+        (_, old.2, now.1),
+        All-cons (λ told. IsOver told → ⊥) now.0 old.0 (λ over. true≢false (sym (now.2.1 over) ∙ c.if-go_all.false)) old.3,
+      );
     }
 
 pub returns-clause-worked : goal.returns-clause-worked
 returns-clause-worked g c =
-    let inv = c.loop-round.invariant in
-    record {
-      made = c.args.rounds;
-      within = inl refl;
-      each = zipped (DriverWorked c.args.rounds c.args.block c.args.rounds) c.args.drivers.now c.loop-round.drivers (omega arith) (λ k d lt. let old = inv.made k d lt in (old.0, (let e = old.1 in omega arith), old.2, inl refl));
-    }
+    let old = c.loop-round.invariant.made in
+    record { told = old.0; made = old.2; ends = ended_whole IsOver c.args.rounds old.0 (let e = old.1 in omega arith) old.3 }
