@@ -1,5 +1,5 @@
 -- What a run keeps: right lines from a legal start, a yard that stands, and counts that are true.
-use Rattle.std.proofs.Common.{◌≡◌, ℕ, ◌+◌, ◌<◌, ◌≤◌, List, [], ◌∷◌, ◌++◌, length, length-append, cond, refl, sym, ap, ◌∙◌, subst, arith, lit≤}
+use Rattle.std.proofs.Common.{◌≡◌, ℕ, ◌+◌, ◌≤◌, List, [], ◌∷◌, ◌++◌, length, length-append, cond, refl, sym, ap, ◌∙◌, subst, arith, lit≤}
 use Rattle.std.specs.Prelude.{count_by}
 use Rattle.std.proofs.lemmas.List.Sums.{sum_by-cons}
 use Rattle.rail_model.specs.declared.types.Ask.{Ask}
@@ -77,14 +77,6 @@ keeps_ready tables y lines capacity k room = record {
       omega (arith, line_counts (opening k.start) lines);
   room = room;
 }
-
--- a line comes only of a table that is due
-pub line_of_due : (tables : List Offer) (y : Yard) (tried : Tried) (l : Line) → Tries tables y tried → l ∷ [] ≡ tried_lines tables y tried → y.tried + 1 < length tables
-line_of_due tables y Exchanged l tries e = tries.0.0
-line_of_due tables y (Differs i k) l tries e = tries.0.0
-line_of_due tables y (Over s n) l tries e = tries.0.0
-line_of_due tables y (Early m) l tries e = absurd cc
-line_of_due tables y NoMore l tries e = absurd cc
 
 -- each table that has its answer is a line
 pub counted_tried : (tables : List Offer) (y z : Yard) (tried : Tried) (lines longer : List Line) → length lines ≡ y.moves + y.tried

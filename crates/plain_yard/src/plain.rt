@@ -116,6 +116,8 @@ impl<'a, A: CheckedTable> PlainYard<'a, A> {
         ensures tables { self.new.tables ≡ self.old.tables }
         ensures room { self.new.room ≡ self.old.room }
         ensures keeps { Keeps self.new.tables self.new.yard self.new.lines }
+        ensures formed { IsTable (table_in_force self.new.tables self.new.yard) }
+        ensures few { length self.new.lines ≤ most_lines }
     {
         ask_line(self.tables, &mut self.yard, &mut self.lines, train)
     }
@@ -128,6 +130,8 @@ impl<'a, A: CheckedTable> PlainYard<'a, A> {
         ensures tables { self.new.tables ≡ self.old.tables }
         ensures room { self.new.room ≡ self.old.room }
         ensures keeps { Keeps self.new.tables self.new.yard self.new.lines }
+        ensures formed { IsTable (table_in_force self.new.tables self.new.yard) }
+        ensures few { length self.new.lines ≤ most_lines }
     {
         try_line(self.tables, &mut self.yard, &mut self.lines)
     }

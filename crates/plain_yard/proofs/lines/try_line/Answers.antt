@@ -1,17 +1,19 @@
-use Rattle.std.proofs.Common.{◌++◌, List, map, subst, sym, ap, ◌∙◌, arith}
+use Rattle.std.proofs.Common.{◌++◌, ◌∷◌, [], List, length-append, map, sym, ap, ◌∙◌, arith}
 use Rattle.std.proofs.lemmas.List.{append-nil}
 use Rattle.rail_model.specs.declared.types.Line.{Line}
-use Rattle.rail_model.specs.Table.{IsTable}
-use Rattle.plain_yard.proofs.Keeping.{counted_tried, few_moves, line_of_due}
+use Rattle.plain_yard.proofs.Keeping.{counted_tried, few_moves}
 use Rattle.plain_yard.proofs.lines.try_line.Goals as goal
 
 pub push_line-requires : goal.push_line-requires
 push_line-requires g c =
     let tables = map g.A.HasTable.offer c.args.tables.now in
     let y = c.args.yard.now in
-    let few = few_moves tables y c.requires.stands (subst IsTable c.in_force-table.ensures.given c.in_force-table.ensures.formed) in
-    let due = line_of_due tables y c.try_table-tried.result c.in-Some.line c.try_table-tried.ensures.answer (c.in-Some.ensures tables y (omega (arith, c.tried-table.ensures))) in
-    omega (arith, few, due, c.requires.counted, c.requires.are.few, c.requires.room)
+    let lines = c.args.lines.now.items in
+    let tried = c.try_table-tried.ensures in
+    let few = few_moves tables c.try_table-tried.new.yard tried.stands tried.formed in
+    let line = ap (λ (ls : List Line). lines ++ ls) (c.in-Some.ensures tables y (omega (arith, c.tried-table.ensures))) in
+    let counted = counted_tried tables y c.try_table-tried.new.yard c.try_table-tried.result lines (lines ++ c.in-Some.line ∷ []) c.requires.counted tried.after line in
+    omega (arith, few, counted, length-append lines (c.in-Some.line ∷ []), tried.stands.tried, c.requires.are.few, c.requires.room)
 
 pub returns-in-Some-clause-adds : goal.returns-in-Some-clause-adds
 returns-in-Some-clause-adds g c =
