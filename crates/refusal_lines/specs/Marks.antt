@@ -3,7 +3,6 @@ use Rattle.std.specs.Prelude.{ℕ, ℤ, List, ◌++◌, codes, decimal}
 use Rattle.std.specs.Fmt.{signed_decimal}
 use Rattle.section_marks.specs.declared.refused.MarkRefused.{MarkRefused}
 use Rattle.section_marks.specs.declared.refused.MarkRefused.TheVariants as marks
-use Rattle.refusal_lines.specs.Fields.{no_memory}
 
 -- A change or a share, with its sign.
 abbrev pub value_words : ℤ → List ℕ
@@ -27,4 +26,3 @@ marks_words t (marks.Limit s v) = codes "25 Limit table=" ++ decimal t ++ codes 
 marks_words t (marks.Connections n) = codes "26 Connections table=" ++ decimal t ++ codes " count=" ++ decimal n
 marks_words t (marks.ConnectionTrain c) = codes "27 ConnectionTrain table=" ++ decimal t ++ codes " connection=" ++ decimal c
 marks_words t (marks.ConnectionPlace c) = codes "28 ConnectionPlace table=" ++ decimal t ++ codes " connection=" ++ decimal c
-marks_words t marks.Memory = no_memory

@@ -34,7 +34,6 @@ pub fn write_marks(out: &mut String, table: usize, refused: &MarkRefused) -> Res
             tell!(out; "27 ConnectionTrain table=" table, " connection=" connection),
         MarkRefused::ConnectionPlace { connection } =>
             tell!(out; "28 ConnectionPlace table=" table, " connection=" connection),
-        MarkRefused::Memory => out.push_str("202 Memory"),
     }
 }
 
