@@ -8,7 +8,7 @@ use Rattle.zone_yard.specs.declared.replies.Reply.TheVariants as one
 use Rattle.zone_yard.specs.declared.replies.BlockReply.{BlockReply}
 use Rattle.zone_yard.specs.declared.replies.BlockReply.TheVariants as block
 use Rattle.zone_yard.specs.Passes.{Pass}
-use Rattle.zone_yard.specs.Blocks.{IsAnswered, CanAnswer}
+use Rattle.zone_yard.specs.Blocks.{IsAnswered}
 use Rattle.zone_yard.specs.Replies.{IsBusy, reply_to, block_reply_to}
 
 -- It was answered, or a zone that it needs was held.
@@ -30,8 +30,3 @@ reply_of (Busy zone holder) = one.Busy zone holder
 abbrev pub block_reply_of : Attempt → BlockReply
 block_reply_of (Told answer steps ticket) = block_reply_to ticket steps answer
 block_reply_of (Busy zone holder) = block.Busy zone holder
-
--- An answer can be one to its steps.
-abbrev pub IsSound : Attempt → Type 0
-IsSound (Told answer steps ticket) = CanAnswer steps answer
-IsSound (Busy zone holder) = Unit {0}

@@ -1,7 +1,6 @@
 // A driver asks for a block of steps.
 ghost use Rattle.std.specs.Prelude.{◌≡◌};
-ghost use Rattle.zone_yard.specs.Asked.{block_reply_of as answered_by, IsSound};
-ghost use Rattle.zone_yard.specs.Blocks.{CanAnswer};
+ghost use Rattle.zone_yard.specs.Asked.{block_reply_of as answered_by};
 ghost use Rattle.zone_yard.specs.Replies.{block_reply_to};
 
 use crate::asking::{ask_steps, ask_until, entries_left};
@@ -14,14 +13,13 @@ use std::sync::Wait;
 
 // The reply to a block of this many steps that is answered so.
 fn told(answer: BlockAsk, steps: u32, ticket: u64) -> BlockReply
-    requires { CanAnswer steps answer }
     ensures { result ≡ block_reply_to ticket steps answer }
 {
     match answer {
         BlockAsk::Yes => BlockReply::Granted { ticket, steps },
         BlockAsk::NotWhole { step, ask } => BlockReply::NotWhole { ticket, step, ask },
         BlockAsk::First { ask } => match ask {
-            Ask::Yes => unreachable!(),
+            Ask::Yes => BlockReply::Granted { ticket, steps },
             Ask::Arrived => BlockReply::Arrived { ticket },
             Ask::Occupied { by } => BlockReply::Occupied { ticket, by },
             Ask::Full { section, count } => BlockReply::Full {
@@ -36,7 +34,6 @@ fn told(answer: BlockAsk, steps: u32, ticket: u64) -> BlockReply
 
 // The reply to a block of which this came.
 fn block_reply_of(attempt: Attempt) -> BlockReply
-    requires { IsSound attempt }
     ensures { result ≡ answered_by attempt }
 {
     match attempt {
