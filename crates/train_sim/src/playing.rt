@@ -7,6 +7,7 @@ ghost use Rattle.rail_model.specs.Table.{IsTable, place};
 ghost use Rattle.rail_model.specs.Times.{time};
 ghost use Rattle.rail_model.specs.Yard.{in_force, moved, IsNextDue};
 ghost use Rattle.table_exchange.specs.Tables.{Stands};
+ghost use Rattle.plain_yard.specs.Keeps.{Keeps};
 ghost use Rattle.plain_yard.specs.Lines.{most_lines};
 ghost use Rattle.train_sim.specs.Report.{HaveTimes};
 ghost use Rattle.train_sim.specs.Steps.{IsKept, Leads, MovesNext};
@@ -23,13 +24,12 @@ fn try_next<A: CheckedTable>(run: &mut PlainYard<'_, A>, watch: &mut Watch) -> b
     ensures tried { run.new.yard.tried ≡ run.old.yard.tried + (if result then 1 else 0) }
     ensures stays { result ≡ false → run.new.yard ≡ run.old.yard }
     ensures leads { (times : List (List (List ℕ))) → Leads run.old.tables times run.old.yard watch.old run.old.lines run.new.yard watch.new run.new.lines }
+    ensures formed { IsTable (in_force run.new.tables run.new.yard) }
+    ensures stands { Stands run.new.tables run.new.yard }
     ensures kept { IsKept run.new.tables run.new.yard watch.new run.new.lines }
     ensures tables { run.new.tables ≡ run.old.tables }
 {
-    let tried = run.try_table();
-    // Read for the proof: few lines were written, so that there is room for a tick.
-    let _table = run.live_in_force();
-    if !has_answer(tried) {
+    if !has_answer(run.try_table()) {
         return false;
     }
     watch.note_table();
@@ -48,8 +48,6 @@ fn try_due<A: CheckedTable>(run: &mut PlainYard<'_, A>, watch: &mut Watch)
     ensures tables { run.new.tables ≡ run.old.tables }
 {
     while try_next(run, watch) {}
-    // Read for the proof: the table in force is well formed.
-    let _table = run.live_in_force();
 }
 
 // The train that moves next; none where no train may move.
@@ -66,11 +64,11 @@ fn next_mover<A: CheckedTable>(run: &PlainYard<'_, A>, watch: &Watch) -> Option<
 // How long the step of a train that moves takes.
 fn step_time<A: CheckedTable>(run: &PlainYard<'_, A>, times: &Times, train: u32) -> u32
     requires formed { IsTable (in_force run.now.tables run.now.yard) }
-    requires stands { Stands run.now.tables run.now.yard }
     requires times { HaveTimes run.now.tables times.now }
     requires may_move { Move (in_force run.now.tables run.now.yard) run.now.yard.positions train (advance run.now.yard.positions train) }
     ensures takes { result ≡ time times.now run.now.yard.table train (place run.now.yard.positions train) }
     ensures short { result ≤ 1000 }
+    ensures keeps { Keeps run.now.tables run.now.yard run.now.lines }
 {
     let yard = run.yard();
     times.time(yard.table(), train, yard.positions().place(train))
@@ -88,8 +86,6 @@ fn move_train<A: CheckedTable>(run: &mut PlainYard<'_, A>, train: u32)
         Ask::Yes => {}
         _ => unreachable!(),
     }
-    // Read for the proof: few lines were written.
-    let _table = run.live_in_force();
 }
 
 // A train moves at its due tick, and asks again after the time that its step takes.
@@ -103,13 +99,12 @@ fn move_next<A: CheckedTable>(
     requires times { HaveTimes run.old.tables times.now }
     requires next { MovesNext (in_force run.old.tables run.old.yard) run.old.yard.positions watch.old.due train }
     requires undue { IsNextDue run.old.tables run.old.yard → ⊥ }
+    requires formed { IsTable (in_force run.old.tables run.old.yard) }
     ensures moved { run.new.yard ≡ moved run.old.yard train }
     ensures leads { Leads run.old.tables times.now run.old.yard watch.old run.old.lines run.new.yard watch.new run.new.lines }
     ensures kept { IsKept run.new.tables run.new.yard watch.new run.new.lines }
     ensures tables { run.new.tables ≡ run.old.tables }
 {
-    // Read for the proof: few moves were made, so that its due tick is low.
-    let _table = run.live_in_force();
     let takes = step_time(run, times, train);
     move_train(run, train);
     watch.grant(train, takes);
