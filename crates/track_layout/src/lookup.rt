@@ -2,7 +2,7 @@
 ghost use Rattle.std.specs.Prelude.{◌≡◌, ◌≤◌, ◌↔◌, Some, IsNone, IfSome, Contains, length, slice_get, position, bytes_eq};
 ghost use Rattle.rail_model.specs.Layout.{point_names};
 
-use rail_model::{Layout, Point, points_of};
+use rail_model::{Layout, Point};
 
 /// The number of the point with a name; none exactly where no point has it.
 pub fn number_of(layout: &Layout, name: &str) -> Option<u32>
@@ -10,8 +10,6 @@ pub fn number_of(layout: &Layout, name: &str) -> Option<u32>
     ensures found { IfSome result (λ q. slice_get (point_names layout.now) q ≡ Some name.now) }
     ensures none { IsNone result ↔ (Contains (point_names layout.now) name.now → ⊥) }
 {
-    // This read gives the proof that a layout has at most 512 points.
-    let _count = points_of(layout);
     let point = place_of(layout.points(), name)?;
     Some(point as u32)
 }
