@@ -1,6 +1,6 @@
 // Journals that are replayed, line after line.
 ghost use Rattle.std.specs.Prelude.{◌≡◌, ◌↔◌, ◌+◌, ℕ, ◌<◌, length, map, IsTrue, OnOk, IfOk, IfErr};
-ghost use Rattle.rail_model.specs.Table.{trains, place, last};
+ghost use Rattle.rail_model.specs.Table.{IsTable, trains, place, last};
 ghost use Rattle.rail_model.specs.State.{Legal};
 ghost use Rattle.rail_model.specs.Yard.{offer, opening, Tries};
 ghost use Rattle.rail_model.specs.Journal.{IsLine, after_line};
@@ -118,10 +118,9 @@ fn is_step(table: &Table, state: &State, train: u32, from: u32, to: Option<u32>)
     requires size { length state.now ≡ trains table.now }
     requires train { train < trains table.now }
     requires unfinished { place state.now train < last table.now train }
+    requires formed { IsTable table.now }
     ensures { IsTrue result ↔ IsStepBetween table.now state.now train from to }
 {
-    // Read for the proof: a train's places are few.
-    let _last = last_of(table, train);
     let at = state.place(train);
     point_of(table, train, at) == Some(from) && point_of(table, train, at + 1) == to
 }
