@@ -16,4 +16,3 @@ pub mod Remade
 pub mod MigratedLemmas
 pub mod FormedDoc
 pub mod Offered
-pub mod Recertified

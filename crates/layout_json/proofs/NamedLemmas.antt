@@ -1,5 +1,5 @@
 -- The points of a document's ways have names, and each member is of its version.
-use Rattle.std.proofs.Common.{◌≡◌, false, ℕ, ◌<◌, ◌≤◌, [], length, get_or, slice_get, All, None, refl, ap, ◌∙◌, arith}
+use Rattle.std.proofs.Common.{◌≡◌, false, ℕ, ◌<◌, ◌≤◌, [], length, get_or, slice_get, All, None, refl, sym, ap, subst, ◌∙◌, arith}
 use Rattle.std.specs.Prelude.{nat_le}
 use Rattle.std.proofs.lemmas.Bool.Decides.{nat_tests}
 use Rattle.std.proofs.lemmas.List.{length-map, get_or_default}
@@ -9,8 +9,9 @@ use Rattle.rail_model.specs.Names.{Names}
 use Rattle.rail_model.specs.Layout.{Layout}
 use Rattle.rail_model.specs.Table.{Table, Mission}
 use Rattle.rail_model.specs.Ways.{IsOn}
-use Rattle.document_shapes.specs.Raw.{IsRead, IsOfVersion}
+use Rattle.document_shapes.specs.Raw.{DocMembers, IsRead, IsOfVersion}
 use Rattle.layout_json.specs.Doc.{Doc, DocTable, names_of}
+use Rattle.layout_json.specs.Keeps.{AreMembersOf}
 use Rattle.layout_json.specs.Members.{from_version, members_in, table_members_in}
 use Rattle.layout_json.specs.Written.{AreNamed}
 
@@ -37,3 +38,6 @@ of-version D = All-map (IsOfVersion D.version) (table_members_in D.version (name
 -- a document's own members can be read
 pub members-are-read : (D : Doc) → 1 ≤ D.version → D.version ≤ 3 → IsRead (members_in D)
 members-are-read D first last = record { first = first; last = last; tables = of-version D }
+
+pub own-are-read : (D : Doc) (m : DocMembers) → AreMembersOf D m → IsRead m
+own-are-read D m of = subst IsRead (sym of.are) (members-are-read D of.first of.last)

@@ -1,7 +1,7 @@
 -- Tables and their times, side by side.
 use Rattle.std.proofs.Common.{◌≡◌, ℕ, zero, suc, ◌<◌, List, [], ◌∷◌, ◌++◌, length, get_or, map, refl, ap, arith}
 use Rattle.layout_json.specs.Doc.{DocTable}
-use Rattle.layout_json.specs.Keeps.{Untimed, timed}
+use Rattle.layout_json.specs.Keeps.{Untimed, untimed, timed}
 
 pub length-timed : (ts : List Untimed) (xs : List (List (List ℕ))) → length ts ≡ length xs → length (timed ts xs) ≡ length ts
 length-timed [] xs h = refl
@@ -33,3 +33,13 @@ timed-push [] [] t x h = refl
 timed-push [] (y ∷ ys) t x h = absurd cc
 timed-push (s ∷ ss) [] t x h = absurd cc
 timed-push (s ∷ ss) (y ∷ ys) t x h = ap (λ rest. record { table = s.table; after = s.after; times = y; nodes = s.nodes } ∷ rest) (timed-push ss ys t x (omega (arith, h)))
+
+pub untimed-timed : (ts : List Untimed) (xs : List (List (List ℕ))) → length ts ≡ length xs → map untimed (timed ts xs) ≡ ts
+untimed-timed [] xs h = refl
+untimed-timed (t ∷ ts) [] h = absurd cc
+untimed-timed (t ∷ ts) (x ∷ xs) h = ap (λ us. t ∷ us) (untimed-timed ts xs (omega (arith, h)))
+
+pub afters-timed : (ts : List Untimed) (xs : List (List (List ℕ))) → length ts ≡ length xs → map (λ t. t.after) (timed ts xs) ≡ map (λ t. t.after) ts
+afters-timed [] xs h = refl
+afters-timed (t ∷ ts) [] h = absurd cc
+afters-timed (t ∷ ts) (x ∷ xs) h = ap (λ ns. t.after ∷ ns) (afters-timed ts xs (omega (arith, h)))

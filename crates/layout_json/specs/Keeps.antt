@@ -15,6 +15,10 @@ pub record Untimed : Type 0 where
   pub after : ℕ
   pub nodes : List Node
 
+-- a table of a document without its times
+abbrev pub untimed : DocTable → Untimed
+untimed t = record { table = t.table; after = t.after; nodes = t.nodes }
+
 -- a table with its times
 abbrev pub with_times : Untimed → List (List ℕ) → DocTable
 with_times t times = record { table = t.table; after = t.after; times = times; nodes = t.nodes }

@@ -1,8 +1,7 @@
 -- The certificates of a document: the trees that its nodes spell.
-use Rattle.std.specs.Prelude.{◌≡◌, ◌≢◌, ℕ, ◌<◌, ◌≤◌, List, length, slice_index_or}
+use Rattle.std.specs.Prelude.{◌≡◌, ℕ, ◌<◌, ◌≤◌, List, length, slice_index_or}
 use Rattle.rail_model.specs.Certificate.{Tree, arrived, preorder}
 use Rattle.cert_tree.specs.declared.reading.CertRefused.{CertRefused}
-use Rattle.cert_tree.specs.declared.reading.CertRefused.TheVariants.{Memory as NoRoom}
 use Rattle.cert_tree.specs.Refused.{IsRefused}
 use Rattle.cert_tree.specs.Spelling.{most_nodes}
 use Rattle.layout_json.specs.declared.spelling.TreeRefused.{TreeRefused}
@@ -25,7 +24,6 @@ pub record AreTrees (D : Doc) (trees : List Tree) : Type 0 where
 pub record IsNoTree (D : Doc) (t : ℕ) (cause : CertRefused) : Type 0 where
   pub in_range : t < length D.tables
   pub earlier : (u : ℕ) → u < t → (tree : Tree) × IsTreeOf D u tree
-  pub caused : cause ≢ NoRoom
   pub refused : IsRefused (nodes_at D t) cause
 
 -- Why there is no tree for each table; there may be no memory at any document.

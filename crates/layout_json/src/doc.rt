@@ -1,10 +1,9 @@
-// A document: its parts, how they are read, and how its certificates are exchanged.
-ghost use Rattle.std.specs.Prelude.{◌≡◌, ◌<◌, ◌≤◌, ℕ, List, IfOk, OnOk, length};
+// A document: its parts, and how they are read and taken apart.
+ghost use Rattle.std.specs.Prelude.{◌≡◌, ◌<◌, ◌≤◌, ℕ, IfOk, length, map};
 ghost use Rattle.layout_json.specs.Doc.{IsDoc, names_of, times_of, doc_table, table_at, nodes_at};
-ghost use Rattle.layout_json.specs.Keeps.{Keeps, IsTaken, doc_of_parts, timed};
-ghost use Rattle.layout_json.specs.Replaced.{each_with, recertified, certified};
+ghost use Rattle.layout_json.specs.Keeps.{IsTaken};
 
-use cert_tree::{Cert, preorder};
+use crate::Frame;
 use rail_model::{Layout, Names, Node, State, Table, Times};
 use std::alloc::{AllocError, Global};
 use std::marker::Model;
@@ -54,59 +53,70 @@ impl Untimed {
         &self.nodes
     }
 
-    // Puts these nodes in place of its own.
-    fn set_nodes(&mut self, nodes: Vec<Node>)
-        ensures { self.new ≡ record self.old { nodes = nodes.items } }
+    /// The table and the nodes, by value.
+    pub(crate) fn into_parts(self) -> (Table, Vec<Node>)
+        ensures table { result.0 ≡ self.table }
+        ensures nodes { result.1.items ≡ self.nodes }
     {
-        self.nodes = nodes;
+        (self.table, self.nodes)
     }
 }
 
 /// A layout, trains, tables with their travel times and certificates, and a legal start, all of which fit together.
 #[derive(Drop)]
 pub struct Doc {
-    version: u32,
-    layout: Layout,
-    names: Names,
+    frame: Frame,
     tables: Vec<Untimed>,
-    times: Times,
-    start: State,
 }
 
 impl Model for Doc {
-    ghost use Rattle.layout_json.specs.Doc.{Doc as DocValue};
-    ghost use Rattle.layout_json.specs.Keeps.{Keeps, doc_of_parts};
+    ghost use Rattle.std.specs.Prelude.{◌≡◌, map};
+    ghost use Rattle.layout_json.specs.Doc.{Doc as DocValue, IsDoc};
+    ghost use Rattle.layout_json.specs.Keeps.{untimed};
 
     ghost Value = { DocValue };
 
-    ghost view = { λ d. doc_of_parts d.version d.layout d.names d.tables.items d.times d.start };
+    ghost view = { λ d. d.frame };
 
-    ghost invariant = { λ d. Keeps d.version d.layout d.names d.tables.items d.times d.start };
+    ghost invariant = { λ d. (d.tables.items ≡ map untimed d.frame.tables) × IsDoc d.frame };
 }
 
 impl Doc {
-    ghost use Rattle.layout_json.specs.Keeps.{Keeps, doc_of_parts};
+    ghost use Rattle.std.specs.Prelude.{◌≡◌, IfOk, map};
+    ghost use Rattle.layout_json.specs.Doc.{IsDoc};
+    ghost use Rattle.layout_json.specs.Keeps.{Keeps, doc_of_parts, untimed};
 
     /// The document of these parts.
     pub(crate) fn new(
+        alloc: Global,
         version: u32,
         layout: Layout,
         names: Names,
         tables: Vec<Untimed>,
         times: Times,
         start: State,
-    ) -> Self
+    ) -> Result<Self, AllocError>
         requires { Keeps version layout names tables.items times start }
-        ensures { result ≡ doc_of_parts version layout names tables.items times start }
+        ensures { IfOk result (λ d. d ≡ doc_of_parts version layout names tables.items times start) }
     {
-        Doc {
-            version,
-            layout,
-            names,
-            tables,
-            times,
-            start,
-        }
+        let frame = Frame::new(alloc, version, layout, names, &tables, times, start)?;
+        Ok(Doc { frame, tables })
+    }
+
+    /// The document without its tables, lent.
+    pub fn frame(&self) -> &Frame
+        ensures { result.now ≡ self.now }
+    {
+        &self.frame
+    }
+
+    /// The frame of the document, and its tables without their times.
+    pub(crate) fn into_parts(self) -> (Frame, Vec<Untimed>)
+        ensures frame { result.0 ≡ self }
+        ensures tables { result.1.items ≡ map untimed self.tables }
+        ensures formed { IsDoc self }
+    {
+        (self.frame, self.tables)
     }
 }
 
@@ -118,14 +128,14 @@ pub fn version(doc: &Doc) -> u32
     ensures taken { IsTaken doc.now }
     ensures formed { IsDoc doc.now }
 {
-    doc.version
+    doc.frame().version()
 }
 
 pub fn layout_of(doc: &Doc) -> &Layout
     ensures layout { result.now ≡ doc.now.layout }
     ensures formed { IsDoc doc.now }
 {
-    &doc.layout
+    doc.frame().layout()
 }
 
 /// What the points and the trains are called.
@@ -133,7 +143,7 @@ pub fn names_of(doc: &Doc) -> &Names
     ensures names { result.now ≡ names_of doc.now }
     ensures formed { IsDoc doc.now }
 {
-    &doc.names
+    doc.frame().names()
 }
 
 /// The number of tables.
@@ -141,7 +151,7 @@ pub fn tables_of(doc: &Doc) -> u32
     ensures count { result ≡ length doc.now.tables }
     ensures formed { IsDoc doc.now }
 {
-    doc.tables.len() as u32
+    doc.frame().tables()
 }
 
 /// The position of each train at the start.
@@ -149,7 +159,7 @@ pub fn start_of(doc: &Doc) -> &State
     ensures start { result.now ≡ doc.now.start }
     ensures formed { IsDoc doc.now }
 {
-    &doc.start
+    doc.frame().start()
 }
 
 /// The travel times under each table.
@@ -157,14 +167,13 @@ pub fn times_of(doc: &Doc) -> &Times
     ensures times { result.now ≡ times_of doc.now }
     ensures formed { IsDoc doc.now }
 {
-    &doc.times
+    doc.frame().times()
 }
 
 // A table without its times.
 fn untimed_of(doc: &Doc, table: u32) -> &Untimed
     requires { table < length doc.now.tables }
     ensures table { result.now.table ≡ table_at doc.now table }
-    ensures after { result.now.after ≡ (doc_table doc.now table).after }
     ensures nodes { result.now.nodes ≡ nodes_at doc.now table }
     ensures formed { IsDoc doc.now }
 {
@@ -186,7 +195,7 @@ pub fn after_of(doc: &Doc, table: u32) -> u32
     ensures after { result ≡ (doc_table doc.now table).after }
     ensures formed { IsDoc doc.now }
 {
-    untimed_of(doc, table).after()
+    doc.frame().after(table)
 }
 
 /// The nodes of a table's certificate, as the document has them.
@@ -198,31 +207,17 @@ pub fn nodes_of(doc: &Doc, table: u32) -> &[Node]
     untimed_of(doc, table).nodes()
 }
 
-// Puts the nodes of these certificates, one for each table, in place of the tables' own.
-fn recertify(alloc: Global, tables: &mut [Untimed], certs: &[Cert]) -> Result<(), AllocError>
-    requires { length certs.now ≡ length tables.old }
-    ensures { OnOk result ((times : List (List (List ℕ))) → timed tables.new times ≡ each_with recertified (timed tables.old times) certs.now) }
+/// The frame of a document, and its tables by value. The nodes of their certificates are dropped. The only error is that
+/// there is no memory.
+pub fn tables_apart(alloc: Global, doc: Doc) -> Result<(Frame, Vec<Table>), AllocError>
+    ensures frame { IfOk result (λ parts. parts.0 ≡ doc) }
+    ensures tables { IfOk result (λ parts. parts.1.items ≡ map (λ t. t.table) doc.tables) }
+    ensures formed { IsDoc doc }
 {
-    for (number, table) in tables.iter_mut().enumerate() {
-        table.set_nodes(preorder(alloc, &certs[number])?);
-    }
-    Ok(())
-}
-
-/// The document with these certificates, one for each table, in place of its own; all else is equal. The only error is
-/// that there is no memory.
-pub fn with_certificates(alloc: Global, doc: Doc, certs: &[Cert]) -> Result<Doc, AllocError>
-    requires { length certs.now ≡ length doc.tables }
-    ensures { IfOk result (λ d. d ≡ certified doc certs.now) }
-{
-    let Doc {
-        version,
-        layout,
-        names,
-        mut tables,
-        times,
-        start,
-    } = doc;
-    recertify(alloc, &mut tables, certs)?;
-    Ok(Doc::new(version, layout, names, tables, times, start))
+    let (frame, tables) = doc.into_parts();
+    let tables = tables
+        .into_iter()
+        .map(|untimed| untimed.into_parts().0)
+        .collect(alloc)?;
+    Ok((frame, tables))
 }

@@ -3,24 +3,26 @@
 
 mod checks;
 mod doc;
+mod frame;
 mod laws;
 mod members;
 mod reading;
 mod refused;
 mod remaking;
-mod rereading;
+mod renewing;
 mod spelling;
 mod tables;
 mod writing;
 
 pub use doc::{
-    Doc, after_of, layout_of, names_of, nodes_of, start_of, table_of, tables_of, times_of, version,
-    with_certificates,
+    Doc, after_of, layout_of, names_of, nodes_of, start_of, table_of, tables_apart, tables_of,
+    times_of, version,
 };
+pub use frame::Frame;
 pub use laws::{light_sections_are_taken, read_documents_are_formed};
 pub use reading::{document, document_from};
 pub use refused::DocRefused;
 pub use remaking::{write_certified, write_migrated, write_replaced};
-pub use rereading::{migrate, replaced};
-pub use spelling::{TreeRefused, certificates};
+pub use renewing::{migrate, replaced};
+pub use spelling::{Certified, TreeRefused, certificates};
 pub use writing::write;

@@ -6,9 +6,7 @@ ghost use Rattle.layout_json.specs.Doc.{doc_table, names_of};
 ghost use Rattle.layout_json.specs.Members.{from_version, way_names, members_in, table_members_in, with_tables, in_version};
 ghost use Rattle.layout_json.specs.Written.{AreNamed, JoinsNamed, point_pair, point_seen, link_pair, link_seen};
 
-use crate::{
-    Doc, after_of, layout_of, names_of, nodes_of, start_of, table_of, tables_of, times_of,
-};
+use crate::{Doc, Frame, nodes_of, table_of, tables_of};
 use document_shapes::{DocMembers, TableMembers};
 use rail_model::{
     Connection, Link, Mission, Names, Node, Point, Table, TrainTimes, copy_all, zones_of,
@@ -136,35 +134,35 @@ fn times(alloc: Global, times: &[TrainTimes]) -> Result<Vec<TrainTimes>, AllocEr
 pub(crate) fn table_with(
     alloc: Global,
     version: u32,
-    doc: &Doc,
+    frame: &Frame,
     number: u32,
     table: &Table,
     nodes: &[Node],
 ) -> Result<TableMembers, AllocError>
-    requires number { number < length doc.now.tables }
-    requires named { All (AreNamed (names_of doc.now)) table.now.missions }
-    ensures { IfOk result (λ m. seen_table m ≡ table_members_in version (names_of doc.now)
-        (record (doc_table doc.now number) { table = table.now; nodes = nodes.now })) }
+    requires number { number < length frame.now.tables }
+    requires named { All (AreNamed (names_of frame.now)) table.now.missions }
+    ensures { IfOk result (λ m. seen_table m ≡ table_members_in version (names_of frame.now)
+        (record (doc_table frame.now number) { table = table.now; nodes = nodes.now })) }
 {
     let missions = table.missions().as_slice();
-    let names = names_of(doc);
+    let names = frame.names();
     Ok(TableMembers {
         missions: ways(alloc, names, missions)?,
         exits: exits_since(alloc, version, missions)?,
         sections: Some(copy_all(alloc, table.sections())?),
         connections: connections_since(alloc, version, table.connections())?,
         certificate: Some(Vec::from_slice(alloc, nodes)?),
-        times: Some(table_times(alloc, doc, number)?),
-        after: Some(after_of(doc, number)),
+        times: Some(table_times(alloc, frame, number)?),
+        after: Some(frame.after(number)),
     })
 }
 
 // The travel times of a table.
-fn table_times(alloc: Global, doc: &Doc, number: u32) -> Result<Vec<TrainTimes>, AllocError>
-    requires { number < length doc.now.tables }
-    ensures { IfOk result (λ v. v.items ≡ (doc_table doc.now number).times) }
+fn table_times(alloc: Global, frame: &Frame, number: u32) -> Result<Vec<TrainTimes>, AllocError>
+    requires { number < length frame.now.tables }
+    ensures { IfOk result (λ v. v.items ≡ (doc_table frame.now number).times) }
 {
-    times(alloc, times_of(doc).as_slice()[number as usize].as_slice())
+    times(alloc, frame.times().as_slice()[number as usize].as_slice())
 }
 
 // The members of the document's own tables.
@@ -175,7 +173,7 @@ fn own_tables(alloc: Global, version: u32, doc: &Doc) -> Result<Vec<TableMembers
     for number in 0..tables_of(doc) {
         let table = table_of(doc, number);
         let nodes = nodes_of(doc, number);
-        found.push(table_with(alloc, version, doc, number, table, nodes)?)?;
+        found.push(table_with(alloc, version, doc.frame(), number, table, nodes)?)?;
     }
     Ok(found)
 }
@@ -184,20 +182,20 @@ fn own_tables(alloc: Global, version: u32, doc: &Doc) -> Result<Vec<TableMembers
 pub(crate) fn members_with(
     alloc: Global,
     version: u32,
-    doc: &Doc,
+    frame: &Frame,
     tables: Vec<TableMembers>,
 ) -> Result<DocMembers, AllocError>
-    ensures { IfOk result (λ m. seen_document m ≡ with_tables version (map seen_table tables.items) (members_in doc.now)) }
+    ensures { IfOk result (λ m. seen_document m ≡ with_tables version (map seen_table tables.items) (members_in frame.now)) }
 {
-    let layout = layout_of(doc);
-    let names = names_of(doc);
+    let layout = frame.layout();
+    let names = frame.names();
     Ok(DocMembers {
         version,
         points: points(alloc, layout.points())?,
         links: links(alloc, names, layout.links())?,
         zones: zones_of(layout),
         trains: trains(alloc, names)?,
-        start: Vec::from_slice(alloc, start_of(doc).as_slice())?,
+        start: Vec::from_slice(alloc, frame.start().as_slice())?,
         tables,
     })
 }
@@ -207,5 +205,5 @@ pub(crate) fn members_in(alloc: Global, version: u32, doc: &Doc) -> Result<DocMe
     ensures { IfOk result (λ m. seen_document m ≡ members_in (in_version version doc.now)) }
 {
     let tables = own_tables(alloc, version, doc)?;
-    members_with(alloc, version, doc, tables)
+    members_with(alloc, version, doc.frame(), tables)
 }

@@ -101,7 +101,8 @@ pub(crate) fn checked(alloc: Global, members: DocMembers) -> Result<Doc, DocRefu
     let (tables, times) = made_tables(alloc, version, &layout, &trains, tables)?;
     let start = legal_start(tables[0].table(), start)?;
     let names = names(alloc, &layout, &trains)?;
-    Ok(Doc::new(version, layout, names, tables, Times::from(times), start))
+    let times = Times::from(times);
+    Ok(Doc::new(alloc, version, layout, names, tables, times, start)?)
 }
 
 /// The document that the bytes are.

@@ -1,23 +1,26 @@
-// Documents made anew, as values: what is written of them, read.
-ghost use Rattle.std.specs.Prelude.{◌≡◌, IfOk, Ok, length};
+// Documents made anew, as values: of members, with no text between.
+ghost use Rattle.std.specs.Prelude.{◌≡◌, IfOk, length};
+ghost use Rattle.document_shapes.specs.Raw.{IsRead};
+ghost use Rattle.document_shapes.specs.Seen.{seen_document};
 ghost use Rattle.layout_json.specs.Doc.{Doc as DocValue};
-ghost use Rattle.layout_json.specs.Keeps.{IsTaken};
+ghost use Rattle.layout_json.specs.Keeps.{AreMembersOf, IsTaken};
 ghost use Rattle.layout_json.specs.Migrated.{migrated, IsMigrated};
-ghost use Rattle.layout_json.specs.Reading.{doc_of};
 ghost use Rattle.layout_json.specs.Replaced.{replaced};
 
-use crate::Doc;
-use crate::reading::document;
-use crate::remaking::{write_migrated, write_replaced};
+use crate::reading::checked;
+use crate::remaking::{migrated_members, replaced_members};
+use crate::{Doc, Frame};
 use cert_tree::Cert;
+use document_shapes::DocMembers;
 use rail_model::Table;
 use std::alloc::{AllocError, Global};
 
-// The document that a text is known to spell.
-fn read_back(alloc: Global, text: &[u8]) -> Result<Doc, AllocError>
-    ensures { IfOk result (λ d. (D : DocValue) → doc_of text.now ≡ Ok D → d ≡ D) }
+// The document whose members these are, none of which is refused.
+fn renewed(alloc: Global, members: DocMembers) -> Result<Doc, AllocError>
+    requires { IsRead (seen_document members) }
+    ensures { IfOk result (λ d. (D : DocValue) → AreMembersOf D (seen_document members) → d ≡ D) }
 {
-    match document(alloc, text) {
+    match checked(alloc, members) {
         Ok(doc) => Ok(doc),
         Err(_) => Err(AllocError),
     }
@@ -25,13 +28,12 @@ fn read_back(alloc: Global, text: &[u8]) -> Result<Doc, AllocError>
 
 /// The document with these tables and certificates, one for each table, in place of its own; all else is equal. The
 /// only error is that there is no memory.
-pub fn replaced(alloc: Global, doc: &Doc, parts: &[(Table, Cert)]) -> Result<Doc, AllocError>
-    requires one_each { length parts.now ≡ length doc.now.tables }
-    requires taken { IsTaken (replaced doc.now parts.now) }
-    ensures { IfOk result (λ d. d ≡ replaced doc.now parts.now) }
+pub fn replaced(alloc: Global, frame: &Frame, parts: &[(Table, Cert)]) -> Result<Doc, AllocError>
+    requires one_each { length parts.now ≡ length frame.now.tables }
+    requires taken { IsTaken (replaced frame.now parts.now) }
+    ensures { IfOk result (λ d. d ≡ replaced frame.now parts.now) }
 {
-    let text = write_replaced(alloc, doc, parts)?;
-    read_back(alloc, &text)
+    renewed(alloc, replaced_members(alloc, frame, parts)?)
 }
 
 /// The document in version 2, no train of which leaves the layout; a document of a later version as it is. The only
@@ -40,6 +42,5 @@ pub fn migrate(alloc: Global, doc: &Doc) -> Result<Doc, AllocError>
     ensures document { IfOk result (λ d. d ≡ migrated doc.now) }
     ensures kept { IfOk result (IsMigrated doc.now) }
 {
-    let text = write_migrated(alloc, doc)?;
-    read_back(alloc, &text)
+    renewed(alloc, migrated_members(alloc, doc)?)
 }

@@ -12,7 +12,7 @@ loop-number-preserved c =
     let lt : i < length D.tables = omega (arith, c.loop-number-test.true, c.tables_of-number-end.ensures.count) in
     member-more recertified D c.args.certs.now c.requires _ _ c.in_ok-table_with.field-0 i c.index-certs-number.result lt c.index-certs-number.is
     (c.in_ok-table_with.ensures
-    ∙ λ j. table_members_in (c.version.ensures.version j) (names_of D) (record (doc_table D i) { table = c.table_of-table.ensures.table j; nodes = c.as_slice-nodes.ensures.nodes j }))
+    ∙ λ j. table_members_in (c.version.ensures.version j) (names_of (c.frame.ensures j)) (record (doc_table (c.frame.ensures j) i) { table = c.table_of-table.ensures.table j; nodes = c.as_slice-nodes.ensures.nodes j }))
     c.in_ok-push.ensures.items c.loop-number.invariant
 
 pub returns : goal.returns

@@ -7,9 +7,9 @@ use Rattle.layout_json.proofs.remaking.replaced_tables.Goals as goal
 
 pub loop-number-preserved : goal.loop-number-preserved
 loop-number-preserved c =
-    let D = c.args.doc.now in
+    let D = c.args.frame.now in
     let i = c.loop-number.number in
-    let lt : i < length D.tables = omega (arith, c.loop-number-test.true, c.tables_of-number-end.ensures.count) in
+    let lt : i < length D.tables = omega (arith, c.loop-number-test.true, c.tables-number-end.ensures.count) in
     let part = c.index-parts-number.result in
     member-more exchanged D c.args.parts.now c.requires.one_each _ _ c.in_ok-table_with.field-0 i part lt c.index-parts-number.is
     (c.in_ok-table_with.ensures
@@ -18,5 +18,5 @@ loop-number-preserved c =
 
 pub returns : goal.returns
 returns c =
-    member-all exchanged c.args.doc.now c.args.parts.now c.requires.one_each _ c.loop-number.number
-    (omega (arith, c.loop-number-test.false, c.tables_of-number-end.ensures.count)) c.loop-number.invariant
+    member-all exchanged c.args.frame.now c.args.parts.now c.requires.one_each _ c.loop-number.number
+    (omega (arith, c.loop-number-test.false, c.tables-number-end.ensures.count)) c.loop-number.invariant

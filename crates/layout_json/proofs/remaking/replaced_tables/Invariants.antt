@@ -6,4 +6,4 @@ use Rattle.layout_json.specs.Replaced.{each_with, exchanged}
 use Rattle.layout_json.proofs.remaking.replaced_tables.Given as goal
 
 abbrev pub invariant-loop-number : goal.invariant-loop-number
-invariant-loop-number l = map seen_table l.found.items ≡ map (table_members_in l.doc.version (names_of l.doc)) (take l.number (each_with exchanged l.doc.tables l.parts))
+invariant-loop-number l = map seen_table l.found.items ≡ map (table_members_in l.frame.version (names_of l.frame)) (take l.number (each_with exchanged l.frame.tables l.parts))

@@ -1,8 +1,7 @@
-use Rattle.std.proofs.Common.{◌∙◌, ap, subst, sym, Ok}
+use Rattle.std.proofs.Common.{◌∙◌, ap, Ok}
 use Rattle.std.proofs.lemmas.Result.{IfOk-weaker}
-use Rattle.document_shapes.specs.Raw.{IsRead}
 use Rattle.document_shapes.specs.Written.{text_of}
-use Rattle.layout_json.proofs.NamedLemmas.{members-are-read}
+use Rattle.layout_json.proofs.NamedLemmas.{own-are-read}
 use Rattle.layout_json.proofs.WrittenBack.{doc-back}
 use Rattle.layout_json.proofs.writing.write_members.Goals as goal
 
@@ -12,4 +11,4 @@ returns-clause-text c = IfOk-weaker c.write_document.result _ _ (λ b h D of. h 
 pub returns-clause-reads_back : goal.returns-clause-reads_back
 returns-clause-reads_back c =
     IfOk-weaker c.write_document.result _ _
-    (λ b h D of. doc-back D b.items of.taken (h (subst IsRead (sym of.are) (members-are-read D of.first of.last)) ∙ ap Ok of.are)) c.write_document.ensures.reads_back
+    (λ b h D of. doc-back D b.items of.taken (h (own-are-read D _ of) ∙ ap Ok of.are)) c.write_document.ensures.reads_back
