@@ -24,7 +24,7 @@ not_unchecked input good (failure.Tree t x) h =
     let accepted = good.2.1 in
     let no = subst (λ (E : Doc). IsNoTree E t x) (same_doc input good.0 h.0 good.1 h.1) h.2 in
     let spelled = accepted.are.spelled t no.in_range in
-    refused_not_spelled (nodes_at good.0 t) x (tree_at good.2.0 t) no.caused no.refused spelled.0 spelled.1
+    refused_not_spelled (nodes_at good.0 t) x (tree_at good.2.0 t) no.refused spelled.0 spelled.1
 not_unchecked input good (failure.Certificate t bad) h =
     let accepted = good.2.1 in
     let bad_table = subst (λ (E : Doc). IsBadTable E t bad) (same_doc input good.0 h.0 good.1 h.1) h.2 in

@@ -30,7 +30,7 @@ use Rattle.ats_run.proofs.Inputs.{resumed_input}
 use Rattle.ats_run.proofs.Resumed.{resumed_front}
 use Rattle.ats_run.proofs.Runs.{runs}
 
-begun_keeps : (D : Doc) (from : Plain) → IsDoc D → from ≡ plain_after D [] → Keeps (offers_of D) from.yard from.lines
+pub begun_keeps : (D : Doc) (from : Plain) → IsDoc D → from ≡ plain_after D [] → Keeps (offers_of D) from.yard from.lines
 begun_keeps D from doc is = subst (λ (s : Plain). Keeps (offers_of D) s.yard s.lines) (sym is)
     (record { are = doc.tables; start = D.start; legal = legal_start D doc; right = tt; reached = refl })
 

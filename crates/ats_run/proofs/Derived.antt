@@ -1,5 +1,5 @@
 -- Tables with the sections of their rings.
-use Rattle.std.proofs.Common.{◌≡◌, ℕ, ◌+◌, ◌<◌, ◌≤◌, List, [], ◌∷◌, ◌++◌, length, map, take, get_or, slice_get, All, Some, sym, ◌∙◌, ap, subst, arith}
+use Rattle.std.proofs.Common.{◌≡◌, ◌⊎◌, ℕ, ◌+◌, ◌<◌, ◌≤◌, List, [], ◌∷◌, ◌++◌, length, map, take, get_or, slice_get, All, Some, sym, ◌∙◌, ap, subst, arith, inl, inr}
 use Rattle.std.specs.Prelude.{Ok}
 use Rattle.std.proofs.lemmas.List.{get_or-map, length-map, take_more}
 use Rattle.rail_model.specs.Table.{Table, Mission, Section, Connection, IsTable, IsConnection}
@@ -19,7 +19,9 @@ use Rattle.layout_json.specs.Replaced.{replaced, IsLight, IsRemarked, new_table}
 use Rattle.layout_json.specs.Written.{written}
 use Rattle.layout_json.proofs.Remade.{remarked-is-taken}
 use Rattle.layout_json.proofs.Offered.{offer_count}
-use Rattle.ats_run.specs.Deriving.{derived_table, derived, HasFewRings, HaveFewRings, IsDerived}
+use Rattle.ats_run.specs.declared.failure.Failure.{Failure}
+use Rattle.ats_run.specs.declared.failure.Failure.TheVariants.{Memory as NoMemory}
+use Rattle.ats_run.specs.Deriving.{derived_table, derived, HasFewRings, HaveFewRings, HasTooManyRings, HasManyRings, IsDerived}
 use Rattle.ats_run.specs.Making.{table_in, HaveMade}
 use Rattle.ats_run.proofs.AcceptedText.{derived_text}
 use Rattle.ats_run.proofs.LightMarked.{light}
@@ -77,6 +79,20 @@ module _ (D : Doc) (most : ℕ) where
       → T ≡ derived_table most (table_at D t) → after ≡ before ++ T ∷ [] → after ≡ take (t + 1) (derived D most)
   derived_more t T before after lt front is pushed =
       pushed ∙ (λ i. front i ++ (is ∙ sym (derived_at t lt)) i ∷ []) ∙ sym (take_more (derived D most) t _ (subst (λ n. t < n) (sym derived_count) lt))
+
+  -- the first with too many rings
+  pub many_here : (n number : ℕ) (T : Table) (e : Failure) → n < length D.tables → T ≡ table_at D n → number ≡ n → ((u : ℕ) → u < n → HasFewRings most (table_at D u))
+      → (e ≡ NoMemory) ⊎ HasTooManyRings most T number e → (e ≡ NoMemory) ⊎ HasManyRings D most e
+  many_here n number T e lt at same earlier h = elim h [
+    | inl memory ↦ inl memory
+    | inr many ↦
+        inr (record {
+          table = n;
+          in_range = lt;
+          earlier = earlier;
+          many = subst (λ (U : Table). HasTooManyRings most U n e) at (subst (λ k. HasTooManyRings most T k e) same many);
+        })
+  ]
 
   pub some_table : IsDoc D → 0 < length D.tables
   some_table doc = subst (λ n. 0 < n) (offer_count D) doc.tables.some

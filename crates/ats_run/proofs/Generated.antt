@@ -66,7 +66,7 @@ module _ (seed trains : ℕ) (few : trains ≤ 32) (D : Doc) (is : doc_of (gener
   accepts_made = certified_accepted D full_budget trees (omega arith) made
 
   -- its text reads as it
-  reads_back : doc_of (written (certified D trees)) ≡ Ok (certified D trees)
+  pub reads_back : doc_of (written (certified D trees)) ≡ Ok (certified D trees)
   reads_back =
       let from = members_make (generated seed trains) members D (generated-read seed trains few) is in
       let formed = read-is-formed (generated seed trains) D is in

@@ -1,3 +1,4 @@
+mod Accepting
 mod AcceptedInput
 mod AcceptedText
 mod Begun
@@ -7,6 +8,7 @@ mod Completing
 mod CutRows
 mod Cutting
 mod Derived
+mod Drilling
 mod Drilled
 mod Finished
 mod Forward

@@ -84,3 +84,11 @@ part_more tables budget done rest parts longer T c whole are so pushed made acce
       ap (map (λ p. p.0)) pushed ∙ map-append (λ p. p.0) parts ((T, c) ∷ []) ∙ ap (λ ts. ts ++ T ∷ []) are,
       subst (λ n. AreMadeBelow tables budget n (map (λ p. p.1) longer)) (sym size) more,
     )
+
+-- the table of a document after those that are done
+module _ (D : Doc) (done rest : List Table) (T : Table) (whole : tables_in D ≡ done ++ T ∷ rest) where
+  pub doc_behind : length done < length D.tables
+  doc_behind = omega (arith, some_behind (tables_in D) done rest T whole, table_count D)
+
+  pub doc_table_behind : T ≡ table_at D (length done)
+  doc_table_behind = table_behind (tables_in D) done rest T whole ∙ table_of_doc D (length done) doc_behind

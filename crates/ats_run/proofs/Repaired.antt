@@ -23,7 +23,7 @@ use Rattle.layout_json.specs.Written.{written}
 use Rattle.layout_json.proofs.Remade.{remarked-is-taken}
 use Rattle.layout_json.proofs.Offered.{offer_count}
 use Rattle.ats_run.specs.Making.{part_in}
-use Rattle.ats_run.specs.Repairing.{IsRepairedAs, EndsRepair, AreRepaired, IsUnconnected, IsRepaired, IsRefusedStart, FailsToRepair}
+use Rattle.ats_run.specs.Repairing.{IsRepairedAs, EndsRepair, RepairsNone, AreRepaired, IsUnconnected, IsRepaired, IsRefusedStart, FailsToRepair}
 use Rattle.ats_run.specs.Command.{RefusesRepair}
 use Rattle.ats_run.specs.Starting.{IsBadStart}
 use Rattle.ats_run.specs.declared.failure.Failure.{Failure}
@@ -118,6 +118,19 @@ repaired_more D budget rounds n parts longer p so is repaired start =
         | inr other ↦ subst (λ (q : Table × Tree). Legal q.0 D.start) (sym (before 0 (omega (arith, other)))) (so.start (omega (arith, other)))
       ];
     }
+
+-- the first of which the repair fails
+pub failed_here : (D : Doc) (budget rounds n : ℕ) (parts : List (Table × Tree)) (e : Failure) → IsUnconnected D (length D.tables) → n < length D.tables
+    → AreRepaired D budget rounds n parts
+    → (e ≡ Memory) ⊎ RepairsNone (table_at D n) n budget rounds e ⊎ ((n ≡ 0) × IsRefusedStart (table_at D n) D.start budget rounds e)
+    → (e ≡ Memory) ⊎ FailsToRepair D budget rounds e
+failed_here D budget rounds n parts e unconnected lt so h = elim h [
+  | inl memory ↦ inl memory
+  | inr failed ↦ elim failed [
+    | inl none ↦ inr (inr (inl (record { unconnected = unconnected; table = n; in_range = lt; parts = parts; earlier = so; none = none })))
+    | inr start ↦ inr (inr (inr (unconnected, subst (λ k. IsRefusedStart (table_at D k) D.start budget rounds e) start.0 start.1)))
+  ]
+]
 
 -- ---- the whole document
 

@@ -84,7 +84,7 @@ fn begin_task(
     match order {
         Order::Run { .. } => begin_run(rt, alloc, input),
         Order::Resume { .. } => resume(rt, alloc, input),
-        Order::Drill { seed, trains, .. } => begin_drill(rt, alloc, seed, trains),
+        Order::Drill { seed, trains, .. } => begin_drill(alloc, seed, trains),
         _ => unreachable!(),
     }
 }

@@ -9,7 +9,6 @@ ghost use Rattle.ats_run.specs.declared.failure.Failure.TheVariants.{Memory as N
 use crate::Failure;
 use crate::checked::check_document;
 use cert_tree::Cert;
-use layout_json::tables_of;
 use std::alloc::{AllocError, Global};
 use std::thread::Threads;
 
@@ -20,7 +19,7 @@ pub fn check(rt: &(impl Threads + Sync), alloc: Global, input: &[u8]) -> Result<
     ensures unchecked { IfErr result (λ e. (e ≡ NoMemory) ⊎ RefusesCheck input.now e) }
 {
     let checked = check_document(rt, alloc, input)?;
-    let tables = tables_of(&checked.doc);
+    let tables = checked.doc.tables();
     let text = checked_line(alloc, tables, nodes(&checked.certs))?;
     Ok(text.into_bytes())
 }

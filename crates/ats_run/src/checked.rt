@@ -1,9 +1,9 @@
 // Documents whose tables accept their certificates.
-ghost use Rattle.std.specs.Prelude.{◌≡◌, ◌⊎◌, ◌<◌, Ok, List, length, IfOk, IfErr};
+ghost use Rattle.std.specs.Prelude.{◌≡◌, ◌⊎◌, Ok, map, IfOk, IfErr, OnOk};
 ghost use Rattle.rail_model.specs.declared.types.Bad.{Bad as BadValue};
-ghost use Rattle.rail_model.specs.Certificate.{Tree, Accepts, FirstBad};
-ghost use Rattle.layout_json.specs.Doc.{doc_table, table_at, offers_of};
-ghost use Rattle.layout_json.specs.Trees.{tree_at, AreTrees};
+ghost use Rattle.rail_model.specs.Certificate.{Accepts, FirstBad};
+ghost use Rattle.layout_json.specs.Doc.{IsDoc, offers_of};
+ghost use Rattle.layout_json.specs.Trees.{AreTrees};
 ghost use Rattle.layout_json.specs.Reading.{doc_of};
 ghost use Rattle.ats_run.specs.Certificates.{AreAccepted, IsRejected};
 ghost use Rattle.ats_run.specs.Command.{RefusesDocument, RefusesCheck};
@@ -12,17 +12,15 @@ ghost use Rattle.ats_run.specs.declared.failure.Failure.TheVariants.{Memory as N
 use crate::Failure;
 use cert_checker::{Accepted, CheckFault, accept_par};
 use cert_tree::Cert;
-use layout_json::{
-    Doc, DocRefused, TreeRefused, after_of, certificates, document, table_of, tables_of,
-};
-use rail_model::copy_table;
+use layout_json::{Certified, Doc, DocRefused, Frame, TreeRefused, certificates, document};
+use rail_model::Table;
 use std::alloc::Global;
 use std::thread::Threads;
 
-/// A document, its certificates, and its tables, each of which accepts its own.
+/// A document, a certificate for each of its tables, which accepts it, and the tables.
 #[derive(Drop)]
 pub struct Checked {
-    pub doc: Doc,
+    pub doc: Frame,
     pub certs: Vec<Cert>,
     pub tables: Vec<Accepted>,
 }
@@ -53,61 +51,57 @@ pub fn check_document(
     ensures unchecked { IfErr result (λ e. (e ≡ NoMemory) ⊎ RefusesCheck input.now e) }
 {
     let doc = read_document(alloc, input)?;
-    let certs = match certificates(alloc, &doc) {
-        Ok(certs) => certs,
-        Err(TreeRefused::Memory) => return Err(Failure::Memory),
-        Err(TreeRefused::Tree { table, refused }) => return Err(Failure::Tree { table, refused }),
-    };
-    let tables = accept_all(rt, alloc, &doc, &certs)?;
+    match certificates(alloc, doc) {
+        Ok((frame, parts)) => accept_all(rt, alloc, frame, parts),
+        Err(TreeRefused::Memory) => Err(Failure::Memory),
+        Err(TreeRefused::Tree { table, refused }) => Err(Failure::Tree { table, refused }),
+    }
+}
+
+// The document, if each of its tables accepts its certificate.
+fn accept_all(
+    rt: &(impl Threads + Sync),
+    alloc: Global,
+    doc: Frame,
+    parts: Vec<Certified>,
+) -> Result<Checked, Failure>
+    requires formed { IsDoc doc }
+    requires trees { AreTrees doc (map (λ p. p.cert) parts.items) }
+    requires tables { map (λ p. record { table = p.table; after = p.after }) parts.items ≡ offers_of doc }
+    ensures document { IfOk result (λ c. c.doc ≡ doc) }
+    ensures offers { IfOk result (λ c. c.tables.items ≡ offers_of c.doc) }
+    ensures accepted { IfOk result (λ c. AreAccepted c.doc c.certs.items) }
+
+    ensures rejected { IfErr result (λ e. (e ≡ NoMemory) ⊎ IsRejected doc (map (λ p. p.cert) parts.items) e) }
+{
+    let mut certs = Vec::new(alloc);
+    let mut tables = Vec::new(alloc);
+    for Certified { table, after, cert } in parts {
+        let number = tables.len() as u32;
+        tables.push(accept_one(rt, alloc, number, table, after, &cert)?)?;
+        certs.push(cert)?;
+    }
     Ok(Checked { doc, certs, tables })
 }
 
-/// The tables of a document, if each accepts its certificate.
-pub(crate) fn accept_all(
+// One table of a document, which has this number, if it accepts its certificate.
+fn accept_one(
     rt: &(impl Threads + Sync),
     alloc: Global,
-    doc: &Doc,
-    certs: &[Cert],
-) -> Result<Vec<Accepted>, Failure>
-    requires { AreTrees doc.now certs.now }
-    ensures accepted { IfOk result (λ tables. AreAccepted doc.now certs.now) }
-    ensures offers { IfOk result (λ tables. tables.items ≡ offers_of doc.now) }
-
-    ensures rejected { IfErr result (λ e. (e ≡ NoMemory) ⊎ IsRejected doc.now certs.now e) }
-{
-    let mut tables = Vec::new(alloc);
-    for table in 0..tables_of(doc) {
-        tables.push(accept_at(rt, alloc, doc, certs, table)?)?;
-    }
-    Ok(tables)
-}
-
-// One table of a document, if it accepts its certificate.
-fn accept_at(
-    rt: &(impl Threads + Sync),
-    alloc: Global,
-    doc: &Doc,
-    certs: &[Cert],
-    table: u32,
+    number: u32,
+    table: Table,
+    after: u32,
+    cert: &Cert,
 ) -> Result<Accepted, Failure>
-    requires trees { AreTrees doc.now certs.now }
-    requires table { table < length doc.now.tables }
-    ensures accepted { IfOk result (λ a. Accepts (table_at doc.now table) (tree_at certs.now table)) }
-    ensures offer { IfOk result (λ a. a ≡ record { table = table_at doc.now table; after = (doc_table doc.now table).after }) }
+    ensures accepted { OnOk result (Accepts table cert.now) }
+    ensures offer { IfOk result (λ a. a ≡ record { table = table; after = after }) }
 
     ensures rejected { IfErr result (λ e. (e ≡ NoMemory)
-        ⊎ ((bad : BadValue) × (e ≡ BadCertificate table bad) × FirstBad (table_at doc.now table) (tree_at certs.now table) bad)) }
+        ⊎ ((bad : BadValue) × (e ≡ BadCertificate number bad) × FirstBad table cert.now bad)) }
 {
-    let copy = copy_table(alloc, table_of(doc, table))?;
-    match accept_par(
-        rt,
-        alloc,
-        copy,
-        after_of(doc, table),
-        &certs[table as usize],
-    ) {
+    match accept_par(rt, alloc, table, after, cert) {
         Ok(accepted) => Ok(accepted),
         Err((_, CheckFault::Memory)) => Err(Failure::Memory),
-        Err((_, CheckFault::Bad(bad))) => Err(Failure::Certificate { table, bad }),
+        Err((_, CheckFault::Bad(bad))) => Err(Failure::Certificate { table: number, bad }),
     }
 }

@@ -1,35 +1,30 @@
 // Runs of generated documents, and what is counted of them.
-ghost use Rattle.std.specs.Prelude.{◌≡◌, ◌⊎◌, ◌≤◌, length, IfOk, IfErr, string_bytes};
+ghost use Rattle.std.specs.Prelude.{◌≡◌, ◌⊎◌, ◌<◌, ◌≤◌, ℕ, length, IfOk, IfErr, string_bytes};
 ghost use Rattle.document_generator.specs.Generated.{generated};
-ghost use Rattle.layout_json.specs.Doc.{offers_of};
-ghost use Rattle.ats_run.specs.Certificates.{AreAccepted};
+ghost use Rattle.rail_model.specs.Move.{Live};
+ghost use Rattle.layout_json.specs.Doc.{offers_of, table_at};
 ghost use Rattle.ats_run.specs.Command.{RefusesMake, IsDrilledInput};
-ghost use Rattle.ats_run.specs.Generating.{IsDrilled, drill_text, full_budget};
+ghost use Rattle.ats_run.specs.Generating.{drill_text, full_budget};
 ghost use Rattle.ats_run.specs.Tasks.{TaskLeads, PrintsCounts};
 ghost use Rattle.plain_yard.specs.Keeps.{Keeps};
 ghost use Rattle.ats_run.specs.declared.failure.Failure.TheVariants.{Memory as NoMemory};
 
 use crate::Failure;
 use crate::check::nodes;
-use crate::checked::{Checked, accept_all};
+use crate::checked::Checked;
 use crate::generate::{FULL_BUDGET, generated_document};
 use crate::make::make_all;
 use crate::tasks::Task;
+use cert_checker::Accepted;
 use cert_tree::Cert;
-use layout_json::{Doc, names_of, start_of, with_certificates};
+use layout_json::{Doc, tables_apart};
 use move_journal::Journal;
 use plain_yard::begin;
 use rail_model::PlainState;
 use std::alloc::{AllocError, Global};
-use std::thread::Threads;
 
 /// The run of a generated document, at its start.
-pub(crate) fn begin_drill(
-    rt: &(impl Threads + Sync),
-    alloc: Global,
-    seed: u32,
-    trains: u32,
-) -> Result<Task, Failure>
+pub(crate) fn begin_drill(alloc: Global, seed: u32, trains: u32) -> Result<Task, Failure>
     requires { trains ≤ 32 }
     ensures leads { IfOk result (TaskLeads PrintsCounts (λ crew written. IsDrilledInput crew (generated seed trains) written)) }
 
@@ -37,27 +32,29 @@ pub(crate) fn begin_drill(
 {
     let doc = generated_document(alloc, seed, trains)?;
     let certs = make_all(alloc, &doc, FULL_BUDGET)?;
-    let doc = with_certificates(alloc, doc, &certs)?;
-    begin_document(rt, alloc, doc, certs)
+    let checked = with_live_tables(alloc, doc, certs)?;
+    let from = begin(alloc, checked.doc.start())?;
+    Ok(Task::Goes { checked, from })
 }
 
-// The run of a document whose one table accepts its certificate, at its start. The only error is that there is no memory.
-fn begin_document(
-    rt: &(impl Threads + Sync),
-    alloc: Global,
-    doc: Doc,
-    certs: Vec<Cert>,
-) -> Result<Task, Failure>
-    requires one_table { length doc.tables ≡ 1 }
-    requires accepted { AreAccepted doc certs.items }
-    ensures leads { IfOk result (TaskLeads PrintsCounts (λ crew written. IsDrilled doc crew written)) }
-
-    ensures memory { IfErr result (λ e. e ≡ NoMemory) }
+// A document, each of whose tables is live, with these certificates. The only error is that there is no memory.
+fn with_live_tables(alloc: Global, doc: Doc, certs: Vec<Cert>) -> Result<Checked, AllocError>
+    requires { (t : ℕ) → t < length doc.tables → Live (table_at doc t) }
+    ensures document { IfOk result (λ c. c.doc ≡ doc) }
+    ensures certs { IfOk result (λ c. c.certs.items ≡ certs.items) }
+    ensures offers { IfOk result (λ c. c.tables.items ≡ offers_of c.doc) }
 {
-    let tables = accept_all(rt, alloc, &doc, &certs)?;
-    let from = begin(alloc, start_of(&doc))?;
-    let checked = Checked { doc, certs, tables };
-    Ok(Task::Goes { checked, from })
+    let (frame, apart) = tables_apart(alloc, doc)?;
+    let mut tables = Vec::new(alloc);
+    for table in apart {
+        let after = frame.after(tables.len() as u32);
+        tables.push(Accepted::live(table, after))?;
+    }
+    Ok(Checked {
+        doc: frame,
+        certs,
+        tables,
+    })
 }
 
 /// The line that counts a run of a document.
@@ -70,7 +67,7 @@ pub(crate) fn counts_of_run(
     requires few { length checked.now.certs.items ≤ 16 }
     ensures { IfOk result (λ text. PrintsCounts checked.now.doc checked.now.certs.items end text.items) }
 {
-    let trains = names_of(&checked.doc).trains();
+    let trains = checked.doc.names().trains();
     let (_, lines) = end.into_parts();
     let journal = Journal::from_lines(lines);
     let line = drilled_line(alloc, trains, &journal, nodes(&checked.certs))?;

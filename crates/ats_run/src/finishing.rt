@@ -9,7 +9,7 @@ ghost use Rattle.ats_run.specs.Headline.{Ends};
 use crate::run::finish_from;
 use ats_io::Gate;
 use cert_checker::Accepted;
-use layout_json::{Doc, layout_of};
+use layout_json::Frame;
 use rail_model::PlainState;
 use shared_run::{Crew, work};
 use std::alloc::{AllocError, Global};
@@ -18,7 +18,7 @@ use std::thread::Threads;
 
 /// The state and the lines in which a run ends that one thread goes on with. It waits for nobody.
 pub(crate) fn finish_alone(
-    doc: &Doc,
+    doc: &Frame,
     tables: &[Accepted],
     from: PlainState,
 ) -> Result<PlainState, AllocError>
@@ -34,7 +34,7 @@ pub(crate) fn finish_alone(
 pub(crate) fn finish_by<R: Threads + Wait + Sync, G: Gate>(
     rt: &R,
     alloc: Global,
-    doc: &Doc,
+    doc: &Frame,
     tables: &[Accepted],
     from: PlainState,
     crew: Crew,
@@ -46,6 +46,6 @@ pub(crate) fn finish_by<R: Threads + Wait + Sync, G: Gate>(
     ensures ends { IfOk result (Ends doc.now crew from) }
     ensures keeps { IfOk result (λ end. Keeps (offers_of doc.now) end.yard end.lines) }
 {
-    let worked = work(rt, alloc, layout_of(doc), tables, from, crew, gate)?;
+    let worked = work(rt, alloc, doc.layout(), tables, from, crew, gate)?;
     finish_from(doc, tables, worked)
 }

@@ -15,7 +15,7 @@ use crate::Failure;
 use crate::checked::read_document;
 use cert_maker::{Made, make as make_certificate};
 use cert_tree::Cert;
-use layout_json::{Doc, table_of, tables_of, write_certified, write_replaced};
+use layout_json::{Doc, Frame, table_of, tables_of, write_certified, write_replaced};
 use rail_model::Table;
 use std::alloc::Global;
 
@@ -103,7 +103,11 @@ pub fn make_each(
 }
 
 /// The text of a document with these tables and certificates in place of its own.
-pub fn text_of_parts(alloc: Global, doc: &Doc, parts: &[(Table, Cert)]) -> Result<Vec<u8>, Failure>
+pub fn text_of_parts(
+    alloc: Global,
+    doc: &Frame,
+    parts: &[(Table, Cert)],
+) -> Result<Vec<u8>, Failure>
     requires one_each { length parts.now ≡ length doc.now.tables }
     requires taken { IsTaken (replaced doc.now parts.now) }
     ensures printed { IfOk result (λ text. text.items ≡ written (replaced doc.now parts.now)) }

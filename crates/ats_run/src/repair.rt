@@ -13,8 +13,8 @@ use crate::checked::read_document;
 use crate::make::text_of_parts;
 use crate::starting::check_start;
 use cert_tree::Cert;
-use layout_json::{Doc, layout_of, start_of, table_of, tables_of};
-use rail_model::{Layout, Table, connections_of, copy_missions};
+use layout_json::{Doc, Frame, table_of, tables_apart, tables_of};
+use rail_model::{Layout, Table, connections_of};
 use section_repair::{Repair, repair as repair_missions};
 use std::alloc::Global;
 
@@ -29,8 +29,8 @@ pub fn repair(alloc: Global, input: &[u8], budget: u32, rounds: u32) -> Result<V
 {
     let doc = read_document(alloc, input)?;
     check_connections(&doc)?;
-    let parts = repair_all(alloc, &doc, budget, rounds)?;
-    text_of_parts(alloc, &doc, &parts)
+    let (frame, parts) = repair_all(alloc, doc, budget, rounds)?;
+    text_of_parts(alloc, &frame, &parts)
 }
 
 // Refuses the first table with a connection.
@@ -47,56 +47,55 @@ fn check_connections(doc: &Doc) -> Result<(), Failure>
     Ok(())
 }
 
-// Each table of a document with the sections that its repair makes, and its certificate.
+// Each table of a document with the sections that its repair makes, and its certificate; and the document without its
+// tables.
 fn repair_all(
     alloc: Global,
-    doc: &Doc,
+    doc: Doc,
     budget: u32,
     rounds: u32,
-) -> Result<Vec<(Table, Cert)>, Failure>
+) -> Result<(Frame, Vec<(Table, Cert)>), Failure>
     requires some { 1 ≤ budget }
     requires most { budget ≤ 1000000 }
-    requires unconnected { IsUnconnected doc.now (length doc.now.tables) }
-    ensures repaired { IfOk result (λ parts. AreRepaired doc.now budget rounds (length doc.now.tables) parts.items) }
+    requires unconnected { IsUnconnected doc (length doc.tables) }
+    ensures document { IfOk result (λ r. r.0 ≡ doc) }
+    ensures repaired { IfOk result (λ r. AreRepaired doc budget rounds (length doc.tables) r.1.items) }
 
-    ensures unrepaired { IfErr result (λ e. (e ≡ NoMemory) ⊎ FailsToRepair doc.now budget rounds e) }
+    ensures unrepaired { IfErr result (λ e. (e ≡ NoMemory) ⊎ FailsToRepair doc budget rounds e) }
 {
+    let (frame, tables) = tables_apart(alloc, doc)?;
     let mut parts = Vec::new(alloc);
-    for table in 0..tables_of(doc) {
-        parts.push(repair_at(alloc, doc, table, budget, rounds)?)?;
+    for table in tables {
+        let number = parts.len() as u32;
+        parts.push(repair_at(alloc, &frame, number, table, budget, rounds)?)?;
     }
-    Ok(parts)
+    Ok((frame, parts))
 }
 
-// One table of a document so. Where it is the first, the start is judged under its new sections.
+// One table of a document so, which has this number. Where it is the first, the start is judged under its new sections.
 fn repair_at(
     alloc: Global,
-    doc: &Doc,
-    table: u32,
+    doc: &Frame,
+    number: u32,
+    table: Table,
     budget: u32,
     rounds: u32,
 ) -> Result<(Table, Cert), Failure>
     requires some { 1 ≤ budget }
     requires most { budget ≤ 1000000 }
-    requires table { table < length doc.now.tables }
-    ensures repaired { IfOk result (λ p. IsRepairedAs (table_at doc.now table) budget rounds p.0 p.1) }
-    ensures start { IfOk result (λ p. table ≡ 0 → Legal p.0 doc.now.start) }
+    requires number { number < length doc.now.tables }
+    requires table { table ≡ table_at doc.now number }
+    ensures repaired { IfOk result (λ p. IsRepairedAs (table_at doc.now number) budget rounds p.0 p.1) }
+    ensures start { IfOk result (λ p. number ≡ 0 → Legal p.0 doc.now.start) }
 
-    ensures unrepaired { IfErr result (λ e. (e ≡ NoMemory) ⊎ RepairsNone (table_at doc.now table) table budget rounds e
-        ⊎ ((table ≡ 0) × IsRefusedStart (table_at doc.now table) doc.now.start budget rounds e)) }
+    ensures unrepaired { IfErr result (λ e. (e ≡ NoMemory) ⊎ RepairsNone (table_at doc.now number) number budget rounds e
+        ⊎ ((number ≡ 0) × IsRefusedStart (table_at doc.now number) doc.now.start budget rounds e)) }
 {
-    let part = repair_one(
-        alloc,
-        layout_of(doc),
-        table_of(doc, table),
-        table,
-        budget,
-        rounds,
-    )?;
-    if table > 0 {
+    let part = repair_one(alloc, doc.layout(), number, table, budget, rounds)?;
+    if number > 0 {
         return Ok(part);
     }
-    check_start(&part.0, start_of(doc))?;
+    check_start(&part.0, doc.start())?;
     Ok(part)
 }
 
@@ -104,20 +103,19 @@ fn repair_at(
 fn repair_one(
     alloc: Global,
     layout: &Layout,
-    table: &Table,
     number: u32,
+    table: Table,
     budget: u32,
     rounds: u32,
 ) -> Result<(Table, Cert), Failure>
     requires some { 1 ≤ budget }
     requires most { budget ≤ 1000000 }
-    ensures repaired { IfOk result (λ p. IsRepairedAs table.now budget rounds p.0 p.1) }
-    ensures dooms { IfOk result (λ p. (n : ℕ) → DoomsAlike table.now.missions (Done p.0 p.1 n)) }
+    ensures repaired { IfOk result (λ p. IsRepairedAs table budget rounds p.0 p.1) }
+    ensures dooms { IfOk result (λ p. (n : ℕ) → DoomsAlike table.missions (Done p.0 p.1 n)) }
 
-    ensures none { IfErr result (λ e. (e ≡ NoMemory) ⊎ RepairsNone table.now number budget rounds e) }
+    ensures none { IfErr result (λ e. (e ≡ NoMemory) ⊎ RepairsNone table number budget rounds e) }
 {
-    let missions = copy_missions(alloc, table)?;
-    match repair_missions(alloc, layout, missions, budget, rounds)? {
+    match repair_missions(alloc, layout, table.into_missions(), budget, rounds)? {
         Repair::Done { table, cert, .. } => Ok((table, cert)),
         Repair::Spent { nodes, .. } => Err(Failure::Spent {
             table: number,

@@ -18,7 +18,7 @@ use crate::journals::cut;
 use crate::tasks::Task;
 use crate::verify::verify_lines;
 use cert_checker::Accepted;
-use layout_json::{Doc, names_of, start_of};
+use layout_json::Frame;
 use move_journal::{Journal, Part, read_prefix, replay};
 use rail_model::PlainState;
 use std::alloc::Global;
@@ -48,20 +48,20 @@ pub(crate) fn resume(
 }
 
 // The journal, or its front, whose text the bytes are.
-fn read_part(alloc: Global, doc: &Doc, given: &[u8]) -> Result<Part, Failure>
+fn read_part(alloc: Global, doc: &Frame, given: &[u8]) -> Result<Part, Failure>
     ensures part { IfOk result (IsPart (names_of doc.now) given.now) }
 
     ensures formed { IsDoc doc.now }
 
     ensures fault { IfErr result (λ e. (e ≡ NoMemory) ⊎ IsPartFault (names_of doc.now) given.now e) }
 {
-    Ok(read_prefix(alloc, names_of(doc), given)?)
+    Ok(read_prefix(alloc, doc.names(), given)?)
 }
 
 // A whole text again.
 fn keep(
     alloc: Global,
-    doc: &Doc,
+    doc: &Frame,
     tables: &[Accepted],
     journal: &Journal,
     given: &[u8],
@@ -80,7 +80,7 @@ fn keep(
 // The state that a front leads to.
 fn replay_front(
     alloc: Global,
-    doc: &Doc,
+    doc: &Frame,
     tables: &[Accepted],
     front: &Journal,
 ) -> Result<PlainState, Failure>
@@ -93,5 +93,5 @@ fn replay_front(
 
     ensures refused { IfErr result (λ e. (e ≡ NoMemory) ⊎ IsFrontFault (offers_of doc.now) (opening doc.now.start) front.now e) }
 {
-    Ok(replay(alloc, tables, start_of(doc), front)?)
+    Ok(replay(alloc, tables, doc.start(), front)?)
 }

@@ -14,7 +14,7 @@ use crate::Failure;
 use crate::checked::check_document;
 use crate::tasks::Task;
 use cert_checker::Accepted;
-use layout_json::{Doc, names_of, start_of};
+use layout_json::Frame;
 use move_journal::{Journal, text};
 use plain_yard::{PlainYard, begin};
 use rail_model::PlainState;
@@ -32,13 +32,13 @@ pub(crate) fn begin_run(
     ensures unchecked { IfErr result (λ e. (e ≡ NoMemory) ⊎ RefusesCheck input.now e) }
 {
     let checked = check_document(rt, alloc, input)?;
-    let from = begin(alloc, start_of(&checked.doc))?;
+    let from = begin(alloc, checked.doc.start())?;
     Ok(Task::Goes { checked, from })
 }
 
 /// The state and the lines in which the round robin from a state of a document's run ends.
 pub fn finish_from(
-    doc: &Doc,
+    doc: &Frame,
     tables: &[Accepted],
     state: PlainState,
 ) -> Result<PlainState, AllocError>
@@ -57,11 +57,11 @@ pub fn finish_from(
 }
 
 /// The text of the lines that a run of a document has.
-pub fn text_of_run(alloc: Global, doc: &Doc, state: PlainState) -> Result<Vec<u8>, AllocError>
+pub fn text_of_run(alloc: Global, doc: &Frame, state: PlainState) -> Result<Vec<u8>, AllocError>
     requires { Keeps (offers_of doc.now) state.yard state.lines }
     ensures { IfOk result (λ text. text.items ≡ text_of (names_of doc.now) (with_counts state.lines)) }
 {
-    let names = names_of(doc);
+    let names = doc.names();
     let (_, lines) = state.into_parts();
     text(alloc, names, &Journal::from_lines(lines))
 }

@@ -15,7 +15,7 @@ ghost use Rattle.ats_run.specs.declared.failure.Failure.TheVariants.{Memory as N
 use crate::Failure;
 use crate::checked::check_document;
 use cert_checker::Accepted;
-use layout_json::{Doc, names_of, start_of, times_of};
+use layout_json::Frame;
 use move_journal::{Journal, push_line};
 use plain_yard::{PlainYard, begin};
 use rail_model::{Line, Names};
@@ -35,7 +35,7 @@ pub fn simulate(rt: &(impl Threads + Sync), alloc: Global, input: &[u8]) -> Resu
 }
 
 // The timed journal of a document under its tables, each of which accepts its certificate.
-fn simulate_checked(alloc: Global, doc: &Doc, tables: &[Accepted]) -> Result<Vec<u8>, AllocError>
+fn simulate_checked(alloc: Global, doc: &Frame, tables: &[Accepted]) -> Result<Vec<u8>, AllocError>
     requires { tables.now ≡ offers_of doc.now }
     ensures simulated { IfOk result (λ text. (trees : List Tree) → AreAccepted doc.now trees → IsSimulated doc.now text.items) }
 {
@@ -44,7 +44,7 @@ fn simulate_checked(alloc: Global, doc: &Doc, tables: &[Accepted]) -> Result<Vec
 }
 
 // What the simulation of a document reports.
-fn report_of(alloc: Global, doc: &Doc, tables: &[Accepted]) -> Result<SimReport, AllocError>
+fn report_of(alloc: Global, doc: &Frame, tables: &[Accepted]) -> Result<SimReport, AllocError>
     requires { tables.now ≡ offers_of doc.now }
     ensures formed { IsDoc doc.now }
     ensures simulates { IfOk result (λ r. Simulates (offers_of doc.now) (times_of doc.now) (opening doc.now.start) []
@@ -55,7 +55,7 @@ fn report_of(alloc: Global, doc: &Doc, tables: &[Accepted]) -> Result<SimReport,
     ensures one_each { IfOk result (λ r. length r.ticks.items ≡ length r.state.lines) }
 {
     let yard = begin_run(alloc, doc, tables)?;
-    let Ok(report) = simulate_yard(alloc, yard, times_of(doc)) else {
+    let Ok(report) = simulate_yard(alloc, yard, doc.times()) else {
         return Err(AllocError);
     };
     Ok(report)
@@ -64,7 +64,7 @@ fn report_of(alloc: Global, doc: &Doc, tables: &[Accepted]) -> Result<SimReport,
 // The yard at a document's start.
 fn begin_run<'a>(
     alloc: Global,
-    doc: &Doc,
+    doc: &Frame,
     tables: &'a [Accepted],
 ) -> Result<PlainYard<'a, Accepted>, AllocError>
     requires { tables.now ≡ offers_of doc.now }
@@ -72,7 +72,7 @@ fn begin_run<'a>(
     ensures run { IfOk result (λ run. run
         ≡ record { tables = offers_of doc.now; yard = opening doc.now.start; lines = []; room = run.room }) }
 {
-    let begun = begin(alloc, start_of(doc))?;
+    let begun = begin(alloc, doc.start())?;
     let Ok(yard) = PlainYard::new(tables, begun) else {
         return Err(AllocError);
     };
@@ -80,7 +80,7 @@ fn begin_run<'a>(
 }
 
 // The text of a report.
-fn text_of_report(alloc: Global, doc: &Doc, report: SimReport) -> Result<Vec<u8>, AllocError>
+fn text_of_report(alloc: Global, doc: &Frame, report: SimReport) -> Result<Vec<u8>, AllocError>
     requires one_each { length report.ticks.items ≡ length report.state.lines }
     requires keeps { Keeps (offers_of doc.now) report.state.yard report.state.lines }
     ensures { IfOk result (λ text. text.items
@@ -88,7 +88,7 @@ fn text_of_report(alloc: Global, doc: &Doc, report: SimReport) -> Result<Vec<u8>
 {
     let (_, lines) = report.state.into_parts();
     let mut out = String::new(alloc);
-    push_timed(&mut out, names_of(doc), &report.ticks, &lines)?;
+    push_timed(&mut out, doc.names(), &report.ticks, &lines)?;
     push_last(&mut out, &Journal::from_lines(lines), report.last_tick)?;
     Ok(out.into_bytes())
 }

@@ -12,7 +12,7 @@ use crate::Failure;
 use crate::checked::check_document;
 use crate::journals::cut;
 use cert_checker::Accepted;
-use layout_json::{Doc, names_of, start_of};
+use layout_json::Frame;
 use move_journal::{Journal, read, verify as verify_journal};
 use std::alloc::{AllocError, Global};
 use std::thread::Threads;
@@ -34,20 +34,20 @@ pub fn verify(rt: &(impl Threads + Sync), alloc: Global, input: &[u8]) -> Result
 }
 
 // The journal of a document whose text the bytes are.
-fn read_given(alloc: Global, doc: &Doc, given: &[u8]) -> Result<Journal, Failure>
+fn read_given(alloc: Global, doc: &Frame, given: &[u8]) -> Result<Journal, Failure>
     ensures text { IfOk result (λ journal. IsTextOf (names_of doc.now) given.now journal) }
 
     ensures formed { IsDoc doc.now }
 
     ensures fault { IfErr result (λ e. (e ≡ NoMemory) ⊎ IsTextFault (names_of doc.now) given.now e) }
 {
-    Ok(read(alloc, names_of(doc), given)?)
+    Ok(read(alloc, doc.names(), given)?)
 }
 
 /// Whether a journal is whole under the tables of a document.
 pub fn verify_lines(
     alloc: Global,
-    doc: &Doc,
+    doc: &Frame,
     tables: &[Accepted],
     journal: &Journal,
 ) -> Result<(), Failure>
@@ -57,7 +57,7 @@ pub fn verify_lines(
 
     ensures lacks { IfErr result (λ e. (e ≡ NoMemory) ⊎ IsLineFault (offers_of doc.now) (opening doc.now.start) journal.now e) }
 {
-    Ok(verify_journal(alloc, tables, start_of(doc), journal)?)
+    Ok(verify_journal(alloc, tables, doc.start(), journal)?)
 }
 
 fn verified_line(alloc: Global, journal: &Journal) -> Result<String, AllocError>

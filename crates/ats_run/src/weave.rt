@@ -17,7 +17,7 @@ use crate::checked::check_document;
 use crate::run::{finish_from, text_of_run};
 use cert_checker::Accepted;
 use document_generator::Draws;
-use layout_json::{Doc, layout_of, start_of};
+use layout_json::Frame;
 use rail_model::{HasTable, PlainState, trains_of};
 use std::alloc::{AllocError, Global};
 use std::thread::Threads;
@@ -45,7 +45,7 @@ pub fn weave(
 // The same of a document under its tables, each of which accepts its certificate.
 fn weave_checked(
     alloc: Global,
-    doc: &Doc,
+    doc: &Frame,
     tables: &[Accepted],
     seed: u32,
     turns: u32,
@@ -63,7 +63,7 @@ fn weave_checked(
 // The state and the lines after the drawn turns.
 fn state_after(
     alloc: Global,
-    doc: &Doc,
+    doc: &Frame,
     tables: &[Accepted],
     seed: u32,
     turns: u32,
@@ -76,9 +76,9 @@ fn state_after(
 {
     let mut core = Core::new(
         alloc,
-        layout_of(doc),
+        doc.layout(),
         tables,
-        start_of(doc),
+        doc.start(),
         u64::from(turns),
     )?;
     make_turns(&mut core, trains_of(tables[0].table()), seed, turns);

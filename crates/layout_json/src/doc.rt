@@ -53,6 +53,12 @@ impl Untimed {
         &self.nodes
     }
 
+    pub(crate) fn into_table(self) -> Table
+        ensures { result ≡ self.table }
+    {
+        self.table
+    }
+
     /// The table and the nodes, by value.
     pub(crate) fn into_parts(self) -> (Table, Vec<Node>)
         ensures table { result.0 ≡ self.table }
@@ -207,6 +213,15 @@ pub fn nodes_of(doc: &Doc, table: u32) -> &[Node]
     untimed_of(doc, table).nodes()
 }
 
+fn alone(alloc: Global, tables: Vec<Untimed>) -> Result<Vec<Table>, AllocError>
+    ensures { IfOk result (λ alone. alone.items ≡ map (λ t. t.table) tables.items) }
+{
+    tables
+        .into_iter()
+        .map(|untimed| untimed.into_table())
+        .collect(alloc)
+}
+
 /// The frame of a document, and its tables by value. The nodes of their certificates are dropped. The only error is that
 /// there is no memory.
 pub fn tables_apart(alloc: Global, doc: Doc) -> Result<(Frame, Vec<Table>), AllocError>
@@ -215,9 +230,5 @@ pub fn tables_apart(alloc: Global, doc: Doc) -> Result<(Frame, Vec<Table>), Allo
     ensures formed { IsDoc doc }
 {
     let (frame, tables) = doc.into_parts();
-    let tables = tables
-        .into_iter()
-        .map(|untimed| untimed.into_parts().0)
-        .collect(alloc)?;
-    Ok((frame, tables))
+    Ok((frame, alone(alloc, tables)?))
 }

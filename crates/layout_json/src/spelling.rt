@@ -1,5 +1,5 @@
 // The certificates of a document.
-ghost use Rattle.std.specs.Prelude.{◌≡◌, ◌<◌, length, map, IfOk, IfErr};
+ghost use Rattle.std.specs.Prelude.{◌≡◌, ◌≤◌, length, map, IfOk, IfErr, OnOk};
 ghost use Rattle.rail_model.specs.Certificate.{preorder};
 ghost use Rattle.cert_tree.specs.declared.reading.CertRefused.{CertRefused as Cause};
 ghost use Rattle.cert_tree.specs.Refused.{IsRefused};
@@ -67,6 +67,7 @@ fn certify(number: u32, untimed: Untimed) -> Result<Certified, TreeRefused>
     ensures table { IfOk result (λ t. t.table ≡ untimed.table) }
     ensures after { IfOk result (λ t. t.after ≡ untimed.after) }
     ensures spelled { IfOk result (λ t. preorder t.cert ≡ untimed.nodes) }
+    ensures few { OnOk result (length untimed.nodes ≤ most_nodes) }
 
     ensures refused { IfErr result (λ e. (cause : Cause) × (e ≡ NoTree number cause) × IsRefused untimed.nodes cause) }
 {

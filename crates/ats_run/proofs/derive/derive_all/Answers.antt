@@ -1,13 +1,32 @@
-use Rattle.std.proofs.Common.{◌<◌, length, ◌∙◌, ap, subst, arith, below_more}
-use Rattle.ats_run.specs.Deriving.{derived_table, HasFewRings}
-use Rattle.ats_run.proofs.Derived.{derived_more}
+use Rattle.std.proofs.Common.{◌≡◌, ◌⊎◌, ℕ, ◌+◌, ◌<◌, ◌∷◌, [], ◌++◌, length, take, sym, ◌∙◌, ap, subst, arith, length-append, below_more}
+use Rattle.std.specs.Vec.Iter.{into_iter_items}
+use Rattle.std.proofs.lemmas.Grind.{common_steps}
+use Rattle.layout_json.specs.Doc.{table_at}
+use Rattle.layout_json.proofs.Refusals.{refused-so}
+use Rattle.ats_run.specs.Deriving.{derived_table, derived, HasFewRings}
+use Rattle.ats_run.specs.Making.{tables_in}
+use Rattle.ats_run.proofs.Derived.{derived_more, many_here}
+use Rattle.ats_run.proofs.Made.{doc_behind, doc_table_behind}
 use Rattle.ats_run.proofs.derive.derive_all.Goals as goal
 
 pub loop-table-preserved : goal.loop-table-preserved
 loop-table-preserved c =
-    let lt : c.loop-table.table < length c.args.doc.now.tables = omega (arith, c.loop-table-test.true, c.loop-table.auto.table-end, c.tables_of-table-end.ensures.count) in
-    let is = c.in_ok-derive_one.ensures.table ∙ ap (derived_table c.args.most) c.table_of.ensures.table in
-    let few = subst (HasFewRings c.args.most) c.table_of.ensures.table c.in_ok-derive_one.ensures.few in (
-      derived_more c.args.doc.now c.args.most c.loop-table.table c.in_ok-derive_one.field-0 c.loop-table.tables.items _ lt c.loop-table.invariant.0 is c.in_ok-push.ensures.items,
-      below_more _ _ c.loop-table.invariant.1 few,
+    let D = c.args.doc in
+    let most = c.args.most in
+    let done = c.loop-table.yielded in
+    let rest = into_iter_items c.next.new.self in
+    let T = c.in-Some.table in
+    let whole : tables_in D ≡ done ++ T ∷ rest = grind (arith, common_steps, c.in-Some.ensures.steps) in
+    let at = doc_table_behind D done rest T whole in
+    let size : length (done ++ T ∷ []) ≡ length done + 1 = length-append done (T ∷ []) in
+    let marked = c.in_ok-derive_one.field-0 in (
+      tt,
+      tt,
+      grind (arith, common_steps, whole),
+      ap length c.in_ok-push.ensures.items ∙ length-append c.loop-table.marked.items (marked ∷ []) ∙ ap (λ n. n + 1) c.loop-table.invariant.3 ∙ sym size,
+      subst (λ n. c.push.new.self.items ≡ take n (derived D most)) (sym size)
+          (derived_more D most (length done) marked c.loop-table.marked.items _ (doc_behind D done rest T whole) c.loop-table.invariant.4
+          (c.in_ok-derive_one.ensures.table ∙ ap (derived_table most) at) c.in_ok-push.ensures.items),
+      subst (λ n. (u : ℕ) → u < n → HasFewRings most (table_at D u)) (sym size)
+          (below_more _ _ c.loop-table.invariant.5 (subst (HasFewRings most) at c.in_ok-derive_one.ensures.few)),
     )

@@ -1,9 +1,15 @@
-use Rattle.std.proofs.Common.{◌≡◌, ℕ, ◌<◌, take}
+use Rattle.std.proofs.Common.{◌≡◌, ◌++◌, ℕ, ◌<◌, length, take}
+use Rattle.std.specs.Vec.Iter.{into_iter_items}
 use Rattle.layout_json.specs.Doc.{table_at}
 use Rattle.ats_run.specs.Deriving.{derived, HasFewRings}
+use Rattle.ats_run.specs.Making.{tables_in}
 use Rattle.ats_run.proofs.derive.derive_all.Given as goal
 
 abbrev pub invariant-loop-table : goal.invariant-loop-table
 invariant-loop-table l =
-    (l.tables.items ≡ take l.table (derived l.doc l.most))
-    × ((u : ℕ) → u < l.table → HasFewRings l.most (table_at l.doc u))
+    (goal.iterator-loop-table).can_next l.table-iterator
+    × (goal.iterator-loop-table).is_finite l.table-iterator
+    × (tables_in l.fn.doc ≡ l.yielded ++ into_iter_items l.table-iterator)
+    × (length l.marked.items ≡ length l.yielded)
+    × (l.marked.items ≡ take (length l.yielded) (derived l.fn.doc l.most))
+    × ((u : ℕ) → u < length l.yielded → HasFewRings l.most (table_at l.fn.doc u))

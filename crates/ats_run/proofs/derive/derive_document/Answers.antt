@@ -15,8 +15,8 @@ returns-in_err-check_start-clause-underived c =
     let D = c.args.doc.now in
     let e = c.in_err-check_start.field-0.0 in
     let bad =
-    of_first D c.args.most (λ T p. IsBadStart T p e) c.in_ok-tables.tables.items c.index.result.now c.start_of.result.now c.start_of.ensures.formed c.in_ok-tables.ensures.tables
-    c.index.ensures c.start_of.ensures.start c.in_err-check_start.ensures.bad in
+    of_first D c.args.most (λ T p. IsBadStart T p e) c.in_ok-tables.tables.items c.index.result.now c.start.result.now c.start.ensures.formed c.in_ok-tables.ensures.tables
+    c.index.ensures c.start.ensures.start c.in_err-check_start.ensures.bad in
     let got = err_from_is_err_and c.from_residual-in_err-check_start.result c.from_residual-in_err-check_start.ensures.1 in
     subst (λ r. IfErr r (λ e. (e ≡ NoMemory) ⊎ FailsToDerive D c.args.most c.args.budget e)) (sym got.1)
     (subst (λ (e : Failure). (e ≡ NoMemory) ⊎ FailsToDerive D c.args.most c.args.budget e) (sym got.2) (inr (inr (inl (c.in_ok-tables.ensures.few, bad)))))
@@ -25,17 +25,17 @@ pub text_of_parts-requires-clause-taken : goal.text_of_parts-requires-clause-tak
 text_of_parts-requires-clause-taken c =
     let D = c.args.doc.now in
     let start =
-    of_first D c.args.most Legal c.in_ok-tables.tables.items c.index.result.now c.start_of.result.now c.start_of.ensures.formed c.in_ok-tables.ensures.tables c.index.ensures
-    c.start_of.ensures.start c.in_ok-check_start.ensures.legal in
-    still_taken D c.args.most c.args.budget c.in_ok-tables.tables.items c.in_ok-parts.parts.items c.deref.result.now c.start_of.ensures.formed c.requires.taken
+    of_first D c.args.most Legal c.in_ok-tables.tables.items c.index.result.now c.start.result.now c.start.ensures.formed c.in_ok-tables.ensures.tables c.index.ensures
+    c.start.ensures.start c.in_ok-check_start.ensures.legal in
+    still_taken D c.args.most c.args.budget c.in_ok-tables.tables.items c.in_ok-parts.parts.items c.deref.result.now c.start.ensures.formed c.requires.taken
     c.in_ok-tables.ensures.few start c.in_ok-tables.ensures.tables c.in_ok-parts.ensures.made c.deref.ensures.value
 
 pub returns-clause-derived : goal.returns-clause-derived
 returns-clause-derived c =
     let D = c.args.doc.now in
     let start =
-    of_first D c.args.most Legal c.in_ok-tables.tables.items c.index.result.now c.start_of.result.now c.start_of.ensures.formed c.in_ok-tables.ensures.tables c.index.ensures
-    c.start_of.ensures.start c.in_ok-check_start.ensures.legal in
+    of_first D c.args.most Legal c.in_ok-tables.tables.items c.index.result.now c.start.result.now c.start.ensures.formed c.in_ok-tables.ensures.tables c.index.ensures
+    c.start.ensures.start c.in_ok-check_start.ensures.legal in
     on_both c.text_of_parts.result _ _ _
     (λ text printed reads.
     derived_is D c.args.most c.args.budget c.in_ok-tables.tables.items c.in_ok-parts.parts.items c.deref.result.now text.items c.requires.enough

@@ -1,7 +1,9 @@
-use Rattle.ats_run.proofs.Repaired.{repaired_more}
+use Rattle.std.proofs.Common.{◌≡◌, ◌∷◌, [], ◌++◌, ◌+◌, length, sym, ◌∙◌, subst, arith, length-append}
+use Rattle.std.specs.Vec.Iter.{into_iter_items}
+use Rattle.std.proofs.lemmas.Grind.{common_steps}
+use Rattle.layout_json.proofs.Refusals.{refused-so}
+use Rattle.ats_run.specs.Making.{tables_in}
+use Rattle.ats_run.specs.Repairing.{AreRepaired}
+use Rattle.ats_run.proofs.Made.{doc_behind, doc_table_behind}
+use Rattle.ats_run.proofs.Repaired.{repaired_more, failed_here}
 use Rattle.ats_run.proofs.repair.repair_all.Goals as goal
-
-pub loop-table-preserved : goal.loop-table-preserved
-loop-table-preserved c =
-    repaired_more c.args.doc.now c.args.budget c.args.rounds c.loop-table.table c.loop-table.parts.items c.push.new.self.items c.in_ok-repair_at.field-0
-    c.loop-table.invariant c.in_ok-push.ensures.items c.in_ok-repair_at.ensures.repaired c.in_ok-repair_at.ensures.start

@@ -9,9 +9,9 @@ use Rattle.ats_run.proofs.simulate.report_of.Goals as goal
 pub simulate-requires : goal.simulate-requires
 simulate-requires c =
     let D = c.args.doc.now in
-    subst (HaveTimes c.in_ok-yard.yard.tables) (sym c.times_of.ensures.times)
+    subst (HaveTimes c.in_ok-yard.yard.tables) (sym c.times.ensures.times)
     (subst (λ (tables : List Offer). HaveTimes tables (times_of D)) (sym (ap (λ (run : PlainRun). run.tables) c.in_ok-yard.ensures.run))
-    (have_times D c.times_of.ensures.formed))
+    (have_times D c.times.ensures.formed))
 
 pub returns-clause-soon : goal.returns-clause-soon
 returns-clause-soon c =
@@ -20,5 +20,5 @@ returns-clause-soon c =
     let tables = offers_of c.args.doc.now in
     let all : moves - 0 ≡ moves = omega arith in
     subst (λ (m : ℕ). IsSoon tables (times_of c.args.doc.now) m tick) all
-    (subst (λ (times : List (List (List ℕ))). IsSoon tables times (moves - 0) tick) c.times_of.ensures.times
-    (subst (λ (run : PlainRun). IsSoon run.tables c.times_of.result.now (moves - run.yard.moves) tick) c.in_ok-yard.ensures.run c.in-Ok.ensures.soon))
+    (subst (λ (times : List (List (List ℕ))). IsSoon tables times (moves - 0) tick) c.times.ensures.times
+    (subst (λ (run : PlainRun). IsSoon run.tables c.times.result.now (moves - run.yard.moves) tick) c.in_ok-yard.ensures.run c.in-Ok.ensures.soon))

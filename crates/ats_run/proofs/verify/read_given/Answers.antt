@@ -12,4 +12,4 @@ returns-in_err-read-clause-fault c =
     let N = names_of c.args.doc.now in
     let got = err_from_is_err_and c.from_residual.result c.from_residual.ensures.1 in
     subst (λ r. IfErr r (λ e. (e ≡ NoMemory) ⊎ IsTextFault N c.args.given.now e)) (sym got.1)
-    (text_fault N _ c.args.given.now c.in_err-read.field-0.0 got.0 c.names_of.ensures.names c.in_err-read.ensures.exact got.2)
+    (text_fault N _ c.args.given.now c.in_err-read.field-0.0 got.0 c.names.ensures.names c.in_err-read.ensures.exact got.2)

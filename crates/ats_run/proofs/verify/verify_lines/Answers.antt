@@ -15,4 +15,4 @@ returns-in_err-verify-clause-lacks c =
     let got = err_from_is_err_and c.from_residual.result c.from_residual.ensures.1 in
     subst (λ r. IfErr r (λ e. (e ≡ NoMemory) ⊎ IsLineFault (offers_of c.args.doc.now) start c.args.journal.now e)) (sym got.1)
     (line_fault (offers_of c.args.doc.now) _ start _ c.args.journal.now c.in_err-verify.field-0.0 got.0
-    (map-id c.args.tables.now ∙ c.requires) (ap opening c.start_of.ensures.start) c.in_err-verify.ensures got.2)
+    (map-id c.args.tables.now ∙ c.requires) (ap opening c.start.ensures.start) c.in_err-verify.ensures got.2)

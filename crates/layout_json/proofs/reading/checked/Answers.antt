@@ -26,7 +26,7 @@ returns-in_err-start c =
     Answers-err Memory (λ d. d) c.from_residual-in_err-start.result (doc_from m) c.in_err-start.field-0.0 c.from_residual-in_err-start.ensures.1
     (doc-refused m _ _ _ _ c.in_ok-tables-2.ensures.each_timed tabled c.table.result.now c.index.result.now c.in_err-start.field-0.0 c.table.ensures c.index.ensures c.in_err-start.ensures.start)
 
-made : (c : goal.After-from)
+made : (c : goal.After-from-times)
     → doc_from (seen_document c.args.members) ≡ Ok (doc_of_parts c.args.members.version c.in_ok-layout.layout c.in_ok-names.names c.in_ok-tables-2.tables.items c.in_ok-tables-2.times.items c.in_ok-start.start)
 made c =
     let m = seen_document c.args.members in
@@ -43,10 +43,10 @@ new-requires c =
     let start = c.in_ok-start.start in
     let formed = formed-from (seen_document c.args.members) (doc_of_parts version L N ts c.in_ok-tables-2.times.items start) c.requires (made c) in
     let named = c.in_ok-names.ensures ∙ ap (λ (n : Names). record { points = point_names L; trains = n.trains }) (sym c.in_ok-names.ensures) in
-    subst (λ (times : List (List (List ℕ))). Keeps version L N ts times start) (sym c.from.ensures)
+    subst (λ (times : List (List (List ℕ))). Keeps version L N ts times start) (sym c.from-times.ensures)
     (record { first = formed.first; last = formed.last; named = named; each_timed = c.in_ok-tables-2.ensures.each_timed; is = formed.is; taken = formed.taken })
 
 pub returns : goal.returns
 returns c =
     let parts = doc_of_parts c.args.members.version c.in_ok-layout.layout c.in_ok-names.names c.in_ok-tables-2.tables.items in
-    made c.before.before ∙ ap (λ (times : List (List (List ℕ))). Ok (parts times c.in_ok-start.start)) (sym c.from.ensures) ∙ ap Ok (sym c.new.ensures)
+    made c.before.before.before.before ∙ ap (λ (times : List (List (List ℕ))). Ok (parts times c.in_ok-start.start)) (sym c.from-times.ensures) ∙ ap Ok (sym c.in_ok-new.ensures)
