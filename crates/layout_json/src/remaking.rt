@@ -63,7 +63,14 @@ fn replaced_tables(
     let mut found = Vec::new(alloc);
     for number in 0..frame.tables() {
         let (table, cert) = &parts[number as usize];
-        found.push(table_with(alloc, frame.version(), frame, number, table, cert.as_slice())?)?;
+        found.push(table_with(
+            alloc,
+            frame.version(),
+            frame,
+            number,
+            table,
+            cert.as_slice(),
+        )?)?;
     }
     Ok(found)
 }
