@@ -1,7 +1,7 @@
 // What a document calls its trains, points, sections and links, whether or not `ats` takes the document.
 
-use document_shapes::{DocMembers, SectionMembers, ShapeRefused, TableMembers, read_document};
-use rail_model::{Connection, Node};
+use document_shapes::{DocMembers, ShapeRefused, TableMembers, read_document};
+use rail_model::{Connection, Node, Section};
 use std::alloc::{AllocError, Global};
 
 /// The members of a document, if it has all of them in their shapes.
@@ -53,7 +53,7 @@ impl<'a> Names<'a> {
 pub(crate) struct Rows<'a> {
     pub missions: &'a [Vec<String>],
     pub exits: &'a [bool],
-    pub sections: &'a [SectionMembers],
+    pub sections: &'a [Section],
     pub connections: &'a [Connection],
     pub nodes: &'a [Node],
 }

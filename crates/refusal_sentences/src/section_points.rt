@@ -23,8 +23,8 @@ fn push_section_points<'a>(
     let Some(section) = rows.sections.get(section as usize) else {
         return Ok(());
     };
-    for (changes, mission) in section.changes.iter().zip(rows.missions) {
-        push_points(points, changes, mission)?;
+    for (changes, mission) in section.all_changes().iter().zip(rows.missions) {
+        push_points(points, changes.as_slice(), mission)?;
     }
     Ok(())
 }
