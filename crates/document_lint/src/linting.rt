@@ -8,8 +8,9 @@ use crate::shares::{add_shares, look_like_shares};
 use crate::subject::subject_of;
 use crate::trains::{add_connections, add_trains};
 use crate::unused::add_layout;
-use document_shapes::{SectionMembers, ShapeRefused, read_document};
+use document_shapes::{ShapeRefused, read_document};
 use layout_json::{Doc, DocRefused, document, start_of, tables_of, version};
+use rail_model::Section;
 use refusal_lines::push_document;
 use std::alloc::{AllocError, Global};
 
@@ -51,13 +52,14 @@ fn add_refused(remarks: &mut Remarks, place: &str, refused: &DocRefused) -> Resu
 fn add_suspects(
     remarks: &mut Remarks,
     table: usize,
-    sections: &[SectionMembers],
+    sections: &[Section],
     most: i32,
 ) -> Result<(), AllocError> {
     let alloc = remarks.alloc();
-    for (section, members) in sections.iter().enumerate().take(MAX_SECTIONS) {
-        let place = format!(in alloc; "tables[{table}].sections[{section}]")?;
-        for (train, numbers) in members.changes.iter().enumerate().take(MAX_TRAINS) {
+    for (number, section) in sections.iter().enumerate().take(MAX_SECTIONS) {
+        let place = format!(in alloc; "tables[{table}].sections[{number}]")?;
+        for (train, changes) in section.all_changes().iter().enumerate().take(MAX_TRAINS) {
+            let numbers = changes.as_slice();
             if look_like_shares(numbers, most) {
                 add_shares(remarks, &place, train, numbers)?;
             }
