@@ -74,13 +74,7 @@ fn state_after(
     ensures plain { IfOk result (λ state. state ≡ plain_of (core_of doc.now turns) [] (woven doc.now seed turns)) }
     ensures legal { IfOk result (λ _. IsHistory (offers_of doc.now) (opening doc.now.start) (woven doc.now seed turns).history) }
 {
-    let mut core = Core::new(
-        alloc,
-        doc.layout(),
-        tables,
-        doc.start(),
-        u64::from(turns),
-    )?;
+    let mut core = Core::new(alloc, doc.layout(), tables, doc.start(), u64::from(turns))?;
     make_turns(&mut core, trains_of(tables[0].table()), seed, turns);
     core.plain(alloc)
 }

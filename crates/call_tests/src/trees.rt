@@ -102,7 +102,9 @@ fn a_table_is_accepted_or_comes_back(rt: HostRuntime) -> Result<(), Fail> {
     let doc = read(alloc, "passing-loop")?;
     let cert = cert_of(alloc, &doc)?;
     assert_eq!(rt; offered(alloc, &doc, &cert)?, (2, Some(3)));
-    let leaf = tree(Vec::from_slice(alloc, &[Node::Arrived])?).ok().ok_or("a tree")?;
+    let leaf = tree(Vec::from_slice(alloc, &[Node::Arrived])?)
+        .ok()
+        .ok_or("a tree")?;
     assert_eq!(rt; offered(alloc, &doc, &leaf)?, (2, None));
     Ok(())
 }
