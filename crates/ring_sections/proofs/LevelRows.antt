@@ -94,7 +94,7 @@ are_levels = record { goal = goal; steps = steps }
     steps (suc (suc i), k) a b some lt from to = absurd (omega (arith, lt))
 
 is_chart : IsChart uneven (standing uneven 7) levels (0, 1)
-is_chart = record { points = points; places = refl; levels = are_levels }
+is_chart = record { trains = lit≤ tt; points = points; places = refl; levels = are_levels }
   where
     points : (i k q : ℕ) → point (unmarked uneven) i k ≡ Some q → q < 7
     points zero k q e = low_points (0 ∷ 1 ∷ 2 ∷ 3 ∷ []) 7 k q refl e

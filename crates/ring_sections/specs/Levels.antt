@@ -36,8 +36,9 @@ pub record AreLevels (M : List Mission) (first : Pair) (levels : List ℕ) : Typ
   pub steps : (w : Pair) (a b : ℕ) → first.0 < w.0 → w.0 < length M → point_at M w ≡ Some a → next_point M w ≡ Some b
       → slice_index levels a ≤ slice_index levels b + 1
 
--- What a search from a first pair looks at: all points have a level, and of each it is known which pairs are there.
+-- What a search from a first pair looks at: few trains, of which all points have a level, and of each it is known which pairs are there.
 pub record IsChart (M : List Mission) (here : List (List Pair)) (high : List ℕ) (first : Pair) : Type 0 where
+  pub trains : length M ≤ 32
   pub points : ArePointsBelow M (length high)
   pub places : here ≡ standing M (length high)
   pub levels : AreLevels M first high

@@ -1,5 +1,5 @@
 // Whether pairs can lead back to the first: what a search for circular waits goes on for.
-ghost use Rattle.std.specs.Prelude.{◌≡◌, ◌≢◌, ℕ, ◌<◌, ◌^◌, ◌++◌, ◌∷◌, [], All, IfOk, IfSome, length, false, true};
+ghost use Rattle.std.specs.Prelude.{◌≡◌, ◌≢◌, ℕ, ◌<◌, ◌≤◌, ◌^◌, ◌++◌, ◌∷◌, [], All, IfOk, IfSome, length, false, true};
 ghost use Rattle.std.specs.Int.Bits.{bit_and};
 ghost use Rattle.ring_sections.specs.Ring.{pair_at, point_at};
 ghost use Rattle.ring_sections.specs.Search.{IsPair, rings_from};
@@ -85,13 +85,12 @@ fn onward(
     next: (u32, u32),
 ) -> Option<Reach>
     requires some { 0 < length way.now }
+    requires trains { length chart.now.missions.now ≤ 32 }
     requires next { IsPair chart.now.missions.now next }
     requires left { 0 < from.left }
     ensures behind { IfSome result (λ behind. IsBehind chart.now.missions.now from next behind) }
     ensures none { (shut : ℕ) → result ≡ None → IsLostBy chart.now.missions.now way.now shut from next }
 {
-    // This read gives the proof that there are at most 32 trains.
-    let _trains = chart.missions.len();
     if !fits(way, next) || from.used.has(next.0) {
         return None;
     }
@@ -164,8 +163,6 @@ pub(crate) fn may_follow(
     let Some(point) = next_point_of(chart.missions, next) else {
         return Ok(false);
     };
-    // This read gives the proof that there are at most 32 trains.
-    let _trains = chart.missions.len();
     let used = TrainSet::none().with(next.0);
     let from = Reach { point, left, used };
     may_lead(chart, way, shut, from, lost)

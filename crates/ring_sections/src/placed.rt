@@ -19,9 +19,8 @@ pub(crate) fn next_point_of(missions: &Missions, pair: (u32, u32)) -> Option<u32
     requires { IsPair missions.now pair }
     ensures { result ≡ next_point missions.now pair }
 {
-    // This read gives the proof that a train has at most 127 places.
-    let _trains = missions.len();
-    missions.mission(pair.0).point(pair.1 + 1)
+    let points = missions.mission(pair.0).as_slice();
+    points.get(pair.1 as usize + 1).copied()
 }
 
 // Whether a pair wants the point of another.

@@ -107,6 +107,7 @@ fn add_from(
     most: u32,
     found: &mut Vec<Ring>,
 ) -> Result<(), Rings>
+    requires trains { length missions.now ≤ 32 }
     requires points { ArePointsBelow missions.now (length standing.now) }
     requires standing { standing.now ≡ standing_at_all missions.now (length standing.now) }
     requires steps { AreSteps missions.now (length standing.now) steps.now }

@@ -214,6 +214,7 @@ fn above_points(points: &[u32], least: usize) -> usize
 pub(crate) fn size_of(missions: &Missions) -> usize
     ensures points { ArePointsBelow missions.now result }
     ensures most { result ≤ 512 }
+    ensures trains { length missions.now ≤ 32 }
 {
     let mut bound = 0;
     for train in 0..missions.len() as u32 {
