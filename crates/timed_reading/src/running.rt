@@ -1,7 +1,7 @@
 // The run that timed lines tell.
 ghost use Rattle.std.specs.Prelude.{◌≡◌, ◌++◌, ◌<◌, IsTrue, OnOk, IfOk, flat_map, slice_index};
 ghost use Rattle.rail_model.specs.Journal.{after_line};
-ghost use Rattle.rail_model.specs.Table.{trains};
+ghost use Rattle.rail_model.specs.Table.{point, trains};
 ghost use Rattle.rail_model.specs.Times.{time};
 ghost use Rattle.rail_model.specs.Yard.{moved, opening};
 ghost use Rattle.layout_json.specs.Doc.{table_at, times_of as doc_times};
@@ -22,30 +22,22 @@ const MOST: u32 = 1_000_000_000;
 pub(crate) fn starts_of(alloc: Global, doc: &Doc) -> Result<Vec<Option<u32>>, AllocError>
     ensures { IfOk result (λ starts. starts.items ≡ starts_in doc.now) }
 {
+    let places = start_of(doc).as_slice();
+    let table = table_of(doc, 0);
     let mut starts = Vec::new(alloc);
-    for train in 0..trains_of(first_table(doc)) {
-        starts.push(start_point(doc, train))?;
+    for train in 0..trains_of(table) {
+        starts.push(start_point(table, places, train))?;
     }
     Ok(starts)
 }
 
 // The point at which a train begins.
-fn start_point(doc: &Doc, train: u32) -> Option<u32>
-    requires { train < trains (table_at doc.now 0) }
-    ensures { result ≡ spec.start_point doc.now train }
+fn start_point(table: &Table, places: &[u32], train: u32) -> Option<u32>
+    requires { train < trains table.now }
+    ensures { result ≡ point table.now train (slice_index places.now train) }
 {
-    let places = start_of(doc).as_slice();
     let place = places.get(train as usize).copied().unwrap_or(0);
-    point_of(first_table(doc), train, place)
-}
-
-// The table in force at the start.
-fn first_table(doc: &Doc) -> &Table
-    ensures { result.now ≡ table_at doc.now 0 }
-{
-    // Read for the proof: there is a table.
-    let _start = start_of(doc);
-    table_of(doc, 0)
+    point_of(table, train, place)
 }
 
 /// The tables that took over, with their ticks.
