@@ -1,3 +1,4 @@
+pub mod Cells
 pub mod Clash
 pub mod Counts
 pub mod Each
@@ -8,6 +9,7 @@ pub mod Joins
 pub mod Own
 pub mod Room
 pub mod Searched
+pub mod Single
 pub mod Summed
 pub mod Tight
 pub mod Growing

@@ -1,11 +1,11 @@
-// Rows: for each section the least and the greatest share of one train at the places of a span.
-ghost use Rattle.std.specs.Prelude.{◌≡◌, ℕ, ◌+◌, ◌<◌, length, IfOk, slice_index_or};
-ghost use Rattle.rail_model.specs.Table.{IsTable, trains, last};
-ghost use Rattle.range_sums.specs.Extremes.{nothing, joined as joined_of, IsRow, IsJoinedRow};
+// Cells: for each section the least and the greatest share of one train at the places of a span.
+ghost use Rattle.std.specs.Prelude.{◌≡◌, ℕ, ◌+◌, ◌*◌, ◌<◌, ◌/◌, ◌%◌, pos, ◌≤ℤ◌, length, IfOk};
+ghost use Rattle.rail_model.specs.Table.{trains, last, share};
+ghost use Rattle.range_sums.specs.Cells.{AreSingle};
+ghost use Rattle.range_sums.specs.Extremes.{IsJoinedRow};
 
-use rail_model::{Table, change_at, sections_of, share_at};
+use rail_model::{Table, change_at, last_of, sections_of};
 use std::alloc::{AllocError, Global};
-use std::marker::Model;
 
 /// The least and the greatest of some shares. Shares are small, and rows of them are to be short.
 #[derive(Clone, Copy)]
@@ -41,84 +41,52 @@ impl Extremes {
     }
 }
 
-/// One cell per section.
-#[derive(Drop)]
-pub struct Row {
-    cells: Vec<Extremes>,
-}
-
-impl Model for Row {
-    ghost use Rattle.std.specs.Prelude.{List};
-    ghost use Rattle.range_sums.specs.declared.extremes.Extremes.{Extremes as Cell};
-
-    ghost Value = { List Cell };
-
-    ghost view = { λ r. r.cells.items };
-}
-
-impl Row {
-    ghost use Rattle.range_sums.specs.Extremes.{nothing};
-
-    /// The cells, one per section.
-    pub fn cells(&self) -> &[Extremes]
-        ensures { result.now ≡ self.now }
-    {
-        &self.cells
-    }
-
-    pub fn cell(&self, section: u32) -> Extremes
-        requires { section < length self.now }
-        ensures { result ≡ slice_index_or self.now section nothing }
-    {
-        self.cells[section as usize]
-    }
-}
-
-/// The row of a train's first place.
-pub fn first_row(alloc: Global, table: &Table, train: u32) -> Result<Row, AllocError>
-    requires { train < trains table.now }
-    ensures { IfOk result (IsRow table.now train 0 0) }
-{
-    let sections = sections_of(table);
-    let mut cells = Vec::with_capacity(alloc, sections as usize)?;
-    for section in 0..sections {
-        let share = share_at(table, train, section, 0);
-        cells.push(Extremes::single(share))?;
-    }
-    Ok(Row { cells })
-}
-
-/// The row of the place after one.
-pub fn next_row(
-    alloc: Global,
-    table: &Table,
-    train: u32,
-    place: u32,
-    row: &Row,
-) -> Result<Row, AllocError>
+// The share after those that are listed place by place, at each place section by section.
+fn next_share(table: &Table, train: u32, cells: &[Extremes]) -> i32
     requires train { train < trains table.now }
-    requires place { place < last table.now train }
-    requires row { IsRow table.now train place 0 row.now }
-    ensures { IfOk result (IsRow table.now train (place + 1) 0) }
+    requires cells { AreSingle table.now train cells.now }
+    requires more { length cells.now < (last table.now train + 1) * length table.now.sections }
+    ensures share { result ≡ share table.now train (length cells.now % length table.now.sections) (length cells.now / length table.now.sections) }
+    ensures low { pos 0 ≤ℤ result }
+    ensures high { result ≤ℤ pos 4 }
 {
-    let sections = sections_of(table);
-    let mut cells = Vec::with_capacity(alloc, sections as usize)?;
-    for section in 0..sections {
-        let before = i32::from(row.cell(section).least);
-        let share = before + change_at(table, train, section, place + 1);
-        cells.push(Extremes::single(share))?;
+    let sections = sections_of(table) as usize;
+    let place = (cells.len() / sections) as u32;
+    let section = (cells.len() % sections) as u32;
+    let change = change_at(table, train, section, place);
+    if place == 0 {
+        return change;
     }
-    Ok(Row { cells })
+    i32::from(cells[cells.len() - sections].least) + change
 }
 
-/// The row of two spans together.
-pub fn joined_row(alloc: Global, first: &Row, second: &Row) -> Result<Row, AllocError>
-    requires { length second.now ≡ length first.now }
-    ensures { IfOk result (IsJoinedRow first.now second.now) }
+/// The shares of a train, place by place, at each place section by section.
+pub fn single_cells(alloc: Global, table: &Table, train: u32) -> Result<Vec<Extremes>, AllocError>
+    requires { train < trains table.now }
+    ensures single { IfOk result (λ cells. AreSingle table.now train cells.items) }
+    ensures many { IfOk result (λ cells. length cells.items ≡ (last table.now train + 1) * length table.now.sections) }
 {
-    let mut cells = Vec::with_capacity(alloc, first.cells.len())?;
-    for section in 0..first.cells.len() {
-        cells.push(first.cells[section].joined(second.cells[section]))?;
+    let many = (last_of(table, train) + 1) as usize * sections_of(table) as usize;
+    let mut cells = Vec::with_capacity(alloc, many)?;
+    for _ in 0..many {
+        let share = next_share(table, train, &cells);
+        cells.push(Extremes::single(share))?;
     }
-    Ok(Row { cells })
+    Ok(cells)
+}
+
+/// Cell by cell the extremes of two spans together.
+pub fn joined_cells(
+    alloc: Global,
+    first: &[Extremes],
+    second: &[Extremes],
+) -> Result<Vec<Extremes>, AllocError>
+    requires { length second.now ≡ length first.now }
+    ensures { IfOk result (λ cells. IsJoinedRow first.now second.now cells.items) }
+{
+    let mut cells = Vec::with_capacity(alloc, first.len())?;
+    for at in 0..first.len() {
+        cells.push(first[at].joined(second[at]))?;
+    }
+    Ok(cells)
 }

@@ -4,25 +4,31 @@ ghost use Rattle.rail_model.specs.Sums.{greatest};
 ghost use Rattle.rail_model.specs.Table.{IsTable, trains, last, share};
 ghost use Rattle.range_sums.specs.Extremes.{IsExtremes, IsRow, IsLevel, IsLevels, IsPick, AreShared, IsTrainShares, IsShares, level_at, no_shares, reach};
 
-use crate::extremes::{Extremes, Row, first_row, joined_row, next_row};
+use crate::extremes::{Extremes, joined_cells, single_cells};
 use crate::ranges::Span;
 use rail_model::{Table, last_of, sections_of, trains_of};
 use std::alloc::{AllocError, Global};
 use std::marker::Model;
 
-/// The rows of all spans of this many places of one train, by the first place.
+/// The rows of all spans of this many places of one train, by the first place: row after row, one cell per section.
 #[derive(Drop)]
 pub struct Level {
     width: u32,
-    rows: Vec<Row>,
+    rows: u32,
+    sections: u32,
+    cells: Vec<Extremes>,
 }
 
 impl Model for Level {
+    ghost use Rattle.std.specs.Prelude.{◌≡◌, ◌*◌, length};
+    ghost use Rattle.range_sums.specs.Cells.{rows_of};
     ghost use Rattle.range_sums.specs.Extremes.{Level as LevelValue};
 
     ghost Value = { LevelValue };
 
-    ghost view = { λ l. record { width = l.width; rows = l.rows.items } };
+    ghost view = { λ l. record { width = l.width; rows = rows_of l.rows l.sections l.cells.items } };
+
+    ghost invariant = { λ l. length l.cells.items ≡ l.rows * l.sections };
 }
 
 impl Level {
@@ -32,11 +38,13 @@ impl Level {
         self.width
     }
 
-    fn row(&self, place: u32) -> &Row
+    fn row(&self, place: u32) -> &[Extremes]
         requires { place < length self.now.rows }
         ensures { result.now ≡ slice_index_or self.now.rows place [] }
     {
-        &self.rows[place as usize]
+        let sections = self.sections as usize;
+        let start = place as usize * sections;
+        &self.cells[start..start + sections]
     }
 }
 
@@ -46,14 +54,13 @@ fn first_level(alloc: Global, table: &Table, train: u32) -> Result<Level, AllocE
     ensures level { IfOk result (IsLevel table.now train) }
     ensures width { IfOk result (λ level. level.width ≡ 1) }
 {
-    let last = last_of(table, train);
-    let mut rows = Vec::with_capacity(alloc, last as usize + 1)?;
-    rows.push(first_row(alloc, table, train)?)?;
-    for place in 0..last {
-        let row = next_row(alloc, table, train, place, &rows[place as usize])?;
-        rows.push(row)?;
-    }
-    Ok(Level { width: 1, rows })
+    let cells = single_cells(alloc, table, train)?;
+    Ok(Level {
+        width: 1,
+        rows: last_of(table, train) + 1,
+        sections: sections_of(table),
+        cells,
+    })
 }
 
 // The rows of spans of twice as many places.
@@ -61,21 +68,20 @@ fn next_level(alloc: Global, table: &Table, train: u32, level: &Level) -> Result
     requires train { train < trains table.now }
     requires level { IsLevel table.now train level.now }
     requires fits { 2 * level.now.width ≤ last table.now train + 1 }
+    requires few { last table.now train ≤ 127 }
     ensures level { IfOk result (IsLevel table.now train) }
     ensures width { IfOk result (λ next. next.width ≡ 2 * level.now.width) }
 {
-    let last = last_of(table, train);
-    let width = level.width();
-    let count = last + 2 - 2 * width;
-    let mut rows = Vec::with_capacity(alloc, count as usize)?;
-    for place in 0..count {
-        let first = level.row(place);
-        let second = level.row(place + width);
-        rows.push(joined_row(alloc, first, second)?)?;
-    }
+    let sections = level.sections as usize;
+    let rows = level.rows - level.width;
+    let first = &level.cells[..rows as usize * sections];
+    let second = &level.cells[level.width as usize * sections..];
+    let cells = joined_cells(alloc, first, second)?;
     Ok(Level {
-        width: 2 * width,
+        width: 2 * level.width,
         rows,
+        sections: level.sections,
+        cells,
     })
 }
 
@@ -128,7 +134,7 @@ fn all_extremes(table: &Table, levels: &[Level], train: u32, section: u32) -> Ex
     let level = widest(levels);
     let front = level.row(0);
     let back = level.row(last_of(table, train) + 1 - level.width());
-    front.cell(section).joined(back.cell(section))
+    front[section as usize].joined(back[section as usize])
 }
 
 // Whether a train has a share of a section at some place.
@@ -255,11 +261,11 @@ impl TrainShares {
     {
         let front = self.front(table, train, span);
         let back = self.back(table, train, span);
-        front.cell(section).joined(back.cell(section))
+        front[section as usize].joined(back[section as usize])
     }
 
     /// The row of the first places of a span.
-    pub fn front(&self, table: &Table, train: u32, span: Span) -> &Row
+    pub fn front(&self, table: &Table, train: u32, span: Span) -> &[Extremes]
         requires shares { IsTrainShares table.now train self.now }
         requires some { span.lo ≤ span.hi }
         requires in_range { span.hi ≤ last table.now train }
@@ -269,7 +275,7 @@ impl TrainShares {
     }
 
     /// The row of the last places of a span, as many as in front.
-    pub fn back(&self, table: &Table, train: u32, span: Span) -> &Row
+    pub fn back(&self, table: &Table, train: u32, span: Span) -> &[Extremes]
         requires shares { IsTrainShares table.now train self.now }
         requires some { span.lo ≤ span.hi }
         requires in_range { span.hi ≤ last table.now train }

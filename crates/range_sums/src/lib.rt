@@ -14,7 +14,7 @@ mod shares;
 mod sums;
 mod ways;
 
-pub use extremes::{Extremes, Row};
+pub use extremes::Extremes;
 pub use firsts::{first_away, first_holder, is_at_end};
 pub use levels::{Shares, TrainShares};
 pub use lists::Lists;

@@ -84,14 +84,10 @@ fn move_sums(
 {
     let rows = shares.train(train);
     let old = ranges.span(train);
-    let old_front = rows.front(table, train, old);
-    let old_first = old_front.cells();
-    let old_back = rows.back(table, train, old);
-    let old_last = old_back.cells();
-    let front = rows.front(table, train, span);
-    let first = front.cells();
-    let back = rows.back(table, train, span);
-    let last = back.cells();
+    let old_first = rows.front(table, train, old);
+    let old_last = rows.back(table, train, old);
+    let first = rows.front(table, train, span);
+    let last = rows.back(table, train, span);
     let sections = rows.sections();
     for &section in sections {
         let at = section as usize;

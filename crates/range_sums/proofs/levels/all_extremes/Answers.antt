@@ -26,5 +26,5 @@ returns c =
     (is_level.each_row.1 (end + 1 - w) (omega (arith, some, fits))) in
     subst (IsExtremes f 0 end) (sym c.joined.ensures)
     (extremes_join f 0 end (end + 1 - w) (w - 1) (w - 1) _ _ (omega (arith, some, fits)) (omega arith) (omega (arith, some, wide)) (omega (arith, some, fits))
-    (subst (IsExtremes f 0 (w - 1)) (sym c.cell.ensures) (first.1 s c.requires.section))
-    (subst (IsExtremes f (end + 1 - w) (w - 1)) (sym c.cell-2.ensures) (second.1 s c.requires.section)))
+    (first.1 s c.requires.section)
+    (second.1 s c.requires.section))

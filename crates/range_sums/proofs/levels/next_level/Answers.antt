@@ -1,25 +1,37 @@
-use Rattle.std.proofs.Common.{ℕ, ◌≡◌, ◌+◌, ◌-◌, ◌*◌, ◌∙◌, [], get_or, ap, sym, subst, arith}
-use Rattle.range_sums.specs.Each.{IsEach}
-use Rattle.range_sums.specs.Extremes.{IsRow}
-use Rattle.range_sums.proofs.Each.{each_push}
-use Rattle.range_sums.proofs.Joins.{row_join}
+use Rattle.std.proofs.Common.{ap, sym, subst, arith}
+use Rattle.range_sums.specs.Extremes.{Level, IsLevel}
+use Rattle.range_sums.proofs.Cells.{level_many, width_within, cut_many, level_next}
 use Rattle.range_sums.proofs.levels.next_level.Goals as goal
 
-pub loop-place-preserved : goal.loop-place-preserved
-loop-place-preserved c =
-    let T = c.args.table.now in
-    let i = c.args.train in
-    let lo = c.loop-place.place in
-    let w = c.args.level.now.width in
-    let rows = c.requires.level.each_row in
-    let some = c.requires.level.some_places in
-    let w_is = c.width-width.ensures in
-    let end = c.last_of-last.ensures.last in
-    let first = subst (IsRow T i lo (w - 1)) (sym c.row-first.ensures) (rows.1 lo (omega (arith, some, w_is, end))) in
-    let there : lo + c.width-width.result ≡ lo + w = omega (arith, w_is) in
-    let second = subst (IsRow T i (lo + w) (w - 1)) (sym (c.row-second.ensures ∙ ap (λ (k : ℕ). get_or c.args.level.now.rows k []) there))
-    (rows.1 (lo + w) (omega (arith, some, w_is, end))) in
-    subst (IsEach (λ lo row. IsRow T i lo (2 * w - 1) row) (lo + 1) []) (sym c.in_ok-push.ensures.items)
-    (each_push (λ lo row. IsRow T i lo (2 * w - 1) row) lo [] _ _ c.loop-place.invariant
-    (row_join T i lo (2 * w - 1) (lo + w) (w - 1) (w - 1) _ _ _ (omega (arith, some)) (omega arith) (omega (arith, some)) (omega (arith, some)) first second
-    c.in_ok-joined_row.ensures))
+pub overflow_sub-rows : goal.overflow_sub-rows
+overflow_sub-rows c =
+    let level = subst (IsLevel c.args.table.now c.args.train) (sym c.level.view_is) c.requires.level in
+    let many = level_many c.args.table.now c.args.train _ _ _ _ level in
+    let width = ap (λ (l : Level). l.width) c.level.view_is in
+    omega (arith, many, width, c.requires.fits)
+
+pub slice_bounds-second-count : goal.slice_bounds-second-count
+slice_bounds-second-count c =
+    let level = subst (IsLevel c.args.table.now c.args.train) (sym c.level.view_is) c.requires.level in
+    let width = ap (λ (l : Level). l.width) c.level.view_is in
+    width_within c.args.table.now c.args.train _ _ _ _ _ c.deref-2.ensures.value c.level.invariant level (omega (arith, width, c.requires.fits))
+
+pub slice_bounds-second-start : goal.slice_bounds-second-start
+slice_bounds-second-start c =
+    let level = subst (IsLevel c.args.table.now c.args.train) (sym c.level.view_is) c.requires.level in
+    let width = ap (λ (l : Level). l.width) c.level.view_is in
+    width_within c.args.table.now c.args.train _ _ _ _ _ c.deref-2.ensures.value c.level.invariant level (omega (arith, width, c.requires.fits))
+
+pub joined_cells-requires : goal.joined_cells-requires
+joined_cells-requires c =
+    let level = subst (IsLevel c.args.table.now c.args.train) (sym c.level.view_is) c.requires.level in
+    let many = level_many c.args.table.now c.args.train _ _ _ _ level in
+    let width = ap (λ (l : Level). l.width) c.level.view_is in
+    cut_many _ _ _ _ _ _ (omega (arith, many, width, c.requires.fits)) c.level.invariant c.deref.ensures.value c.deref-2.ensures.value
+
+pub returns-clause-level : goal.returns-clause-level
+returns-clause-level c =
+    let level = subst (IsLevel c.args.table.now c.args.train) (sym c.level.view_is) c.requires.level in
+    let width = ap (λ (l : Level). l.width) c.level.view_is in
+    level_next c.args.table.now c.args.train _ _ _ _ _ _ _ c.deref.ensures.value c.deref-2.ensures.value c.level.invariant level
+    (omega (arith, width, c.requires.fits)) c.in_ok-cells.ensures

@@ -1,16 +1,12 @@
-use Rattle.std.proofs.Common.{◌≡◌, ◌-◌, ◌+◌, List, drop, get_or, sym, ap, subst, arith, ℕ}
+use Rattle.std.proofs.Common.{◌-◌, ◌+◌, List, ℕ, drop, get_or, refl, sym, subst, arith}
 use Rattle.std.proofs.lemmas.List.{drop_all, drop_more}
 use Rattle.rail_model.specs.Table.{share}
 use Rattle.rail_model.specs.Certificate.{Range}
-use Rattle.range_sums.specs.declared.extremes.Extremes.{Extremes}
-use Rattle.range_sums.specs.Extremes.{nothing, IsExtremes, IsTrainShares}
+use Rattle.range_sums.specs.Extremes.{IsExtremes, IsTrainShares}
 use Rattle.range_sums.specs.Sums.{no_sum}
 use Rattle.range_sums.proofs.Shared.{IsNarrowing, section_next, narrowing_next, narrowed}
 use Rattle.range_sums.proofs.Summed.{sum_small, sum_moved, extremes_few, some_span, row_spanned}
 use Rattle.range_sums.proofs.sums.move_sums.Goals as goal
-
-cell_at : (s : ℕ) {xs ys : List Extremes} → xs ≡ ys → get_or xs s nothing ≡ get_or ys s nothing
-cell_at s same = ap (λ (zs : List Extremes). get_or zs s nothing) same
 
 pub moved-requires-clause-sum : goal.moved-requires-clause-sum
 moved-requires-clause-sum c =
@@ -34,7 +30,7 @@ moved-requires-clause-old c =
     let next = section_next T B i c.args.span c.requires.boxed c.requires.train c.requires.some c.requires.in_range (get_or xs k 0) (drop (k + 1) xs) c.loop-section.sums
     (subst (λ (later : List ℕ). IsNarrowing T B i c.args.span later c.loop-section.sums) (drop_more xs k 0 c.loop-section-test.true) c.loop-section.invariant) in
     extremes_few T i (get_or xs k 0) _ _ _ rows.formed next.0 c.requires.train span.0 span.1
-    (row_spanned T i (get_or xs k 0) _ _ _ _ _ _ _ _ span.0 span.1 rows next.0 c.front-old_front.ensures c.back-old_back.ensures (cell_at (get_or xs k 0) c.cells-old_first.ensures) (cell_at (get_or xs k 0) c.cells-old_last.ensures) c.joined-before.ensures)
+    (row_spanned T i (get_or xs k 0) _ _ _ _ _ _ _ _ span.0 span.1 rows next.0 c.front-old_first.ensures c.back-old_last.ensures refl refl c.joined-before.ensures)
 
 pub moved-requires-clause-new : goal.moved-requires-clause-new
 moved-requires-clause-new c =
@@ -47,7 +43,7 @@ moved-requires-clause-new c =
     let next = section_next T B i c.args.span c.requires.boxed c.requires.train c.requires.some c.requires.in_range (get_or xs k 0) (drop (k + 1) xs) c.loop-section.sums
     (subst (λ (later : List ℕ). IsNarrowing T B i c.args.span later c.loop-section.sums) (drop_more xs k 0 c.loop-section-test.true) c.loop-section.invariant) in
     extremes_few T i (get_or xs k 0) _ _ _ rows.formed next.0 c.requires.train c.requires.some c.requires.in_range
-    (row_spanned T i (get_or xs k 0) _ _ _ _ _ _ _ _ c.requires.some c.requires.in_range rows next.0 c.front-front.ensures c.back-back.ensures (cell_at (get_or xs k 0) c.cells-first.ensures) (cell_at (get_or xs k 0) c.cells-last.ensures) c.joined-after.ensures)
+    (row_spanned T i (get_or xs k 0) _ _ _ _ _ _ _ _ c.requires.some c.requires.in_range rows next.0 c.front-first.ensures c.back-last.ensures refl refl c.joined-after.ensures)
 
 pub loop-section-preserved : goal.loop-section-preserved
 loop-section-preserved c =
@@ -61,8 +57,8 @@ loop-section-preserved c =
     let span = some_span T B i _ c.requires.boxed c.requires.train c.span-old.ensures in
     let here = subst (λ (later : List ℕ). IsNarrowing T B i c.args.span later c.loop-section.sums) (drop_more xs k 0 c.loop-section-test.true) c.loop-section.invariant in
     let next = section_next T B i c.args.span c.requires.boxed c.requires.train c.requires.some c.requires.in_range s (drop (k + 1) xs) c.loop-section.sums here in
-    let before = row_spanned T i s _ _ _ _ _ _ _ _ span.0 span.1 rows next.0 c.front-old_front.ensures c.back-old_back.ensures (cell_at (get_or xs k 0) c.cells-old_first.ensures) (cell_at (get_or xs k 0) c.cells-old_last.ensures) c.joined-before.ensures in
-    let after = row_spanned T i s _ _ _ _ _ _ _ _ c.requires.some c.requires.in_range rows next.0 c.front-front.ensures c.back-back.ensures (cell_at (get_or xs k 0) c.cells-first.ensures) (cell_at (get_or xs k 0) c.cells-last.ensures) c.joined-after.ensures in
+    let before = row_spanned T i s _ _ _ _ _ _ _ _ span.0 span.1 rows next.0 c.front-old_first.ensures c.back-old_last.ensures refl refl c.joined-before.ensures in
+    let after = row_spanned T i s _ _ _ _ _ _ _ _ c.requires.some c.requires.in_range rows next.0 c.front-first.ensures c.back-last.ensures refl refl c.joined-after.ensures in
     narrowing_next T B i c.args.span c.requires.boxed c.requires.train c.requires.some c.requires.in_range s (drop (k + 1) xs) c.loop-section.sums c.moved.result here
     (sum_moved T B i s c.args.span (get_or c.loop-section.sums s no_sum) c.moved.result _ _ c.requires.train c.requires.boxed.one_each
     (next.1.kept s (omega arith) next.0)
