@@ -8,7 +8,7 @@ use crate::CheckFault;
 use crate::walk::visit_tree;
 use cert_tree::Cert;
 use rail_model::Table;
-use range_sums::{Lists, RangeSums};
+use state_boxes::{Lists, RangeSums};
 use std::alloc::Global;
 
 /// Whether each node of the certificate is good in its box.

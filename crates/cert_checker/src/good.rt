@@ -1,11 +1,11 @@
 // Whether a node is good in a box, by its sums and by what is listed of the table.
 ghost use Rattle.std.specs.Prelude.{◌<◌, ◌↔◌, IsTrue};
 ghost use Rattle.rail_model.specs.Certificate.{IsGood};
-ghost use Rattle.range_sums.specs.Sums.{AreLists, AreSums};
+ghost use Rattle.state_boxes.specs.Sums.{AreLists, AreSums};
 
 use crate::places::{clashes, splits};
 use rail_model::{Node, Table, sections_of, trains_of};
-use range_sums::{Lists, RangeSums, first_away, is_overfull, surely_moves};
+use state_boxes::{Lists, RangeSums, first_away, is_overfull, surely_moves};
 
 /// Whether a node is good in the box.
 pub(crate) fn is_good(table: &Table, lists: &Lists, sums: &RangeSums, node: Node) -> bool

@@ -2,7 +2,7 @@
 ghost use Rattle.std.specs.Prelude.{◌≡◌, ◌<◌, length, IfOk};
 ghost use Rattle.rail_model.specs.Certificate.{range, left_half, right_half};
 
-use range_sums::{Ranges, Span};
+use state_boxes::{Ranges, Span};
 use std::alloc::{AllocError, Global};
 
 /// A box parted at a place of a train.

@@ -4,13 +4,13 @@ ghost use Rattle.rail_model.specs.declared.types.Node.TheVariants.{Move as MoveN
 ghost use Rattle.rail_model.specs.Table.{IsTable, trains, last};
 ghost use Rattle.rail_model.specs.Move.{IsFirstOrNone};
 ghost use Rattle.rail_model.specs.Certificate.{range, IsBox, MayBlock, MayBeFull, MayBeHeld};
-ghost use Rattle.range_sums.specs.Places.{IsAway};
+ghost use Rattle.state_boxes.specs.Places.{IsAway};
 ghost use Rattle.cert_checker.specs.Faults.{Judges};
 
 use crate::places::{clashes, may_be_full, may_block, splits};
 use crate::shares::least_count;
 use rail_model::{Bad, Node, Table, last_of, limit_of, sections_of, trains_of};
-use range_sums::{Ranges, first_away, first_holder};
+use state_boxes::{Ranges, first_away, first_holder};
 
 // The first train that may block a train's move.
 fn first_blocker(table: &Table, ranges: &Ranges, train: u32) -> Option<u32>

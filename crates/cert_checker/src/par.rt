@@ -5,7 +5,7 @@ ghost use Rattle.rail_model.specs.Table.{IsTable};
 ghost use Rattle.rail_model.specs.Certificate.{Accepts};
 ghost use Rattle.cert_checker.specs.Cut.{IsPart, IsChecked, IsLoad, IsLoadChecked, first_fault as first_fault_of};
 ghost use Rattle.cert_checker.specs.Faults.{HasFault};
-ghost use Rattle.range_sums.specs.Sums.{AreLists};
+ghost use Rattle.state_boxes.specs.Sums.{AreLists};
 
 use crate::CheckFault;
 use crate::checks::check;
@@ -14,8 +14,8 @@ use crate::parts::{Part, cut};
 use crate::walk::visit_tree;
 use cert_tree::Cert;
 use rail_model::{Node, Table};
-use range_sums::{Lists, RangeSums};
 use rayon::prelude::*;
+use state_boxes::{Lists, RangeSums};
 use std::alloc::{AllocError, Global};
 use std::thread::Threads;
 

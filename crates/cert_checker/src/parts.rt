@@ -9,7 +9,7 @@ use crate::ends::ends_of;
 use crate::halves::halves;
 use crate::places::splits;
 use rail_model::{Node, Table};
-use range_sums::{Ranges, full_box};
+use state_boxes::{Ranges, full_box};
 use std::alloc::{AllocError, Global};
 
 /// A part that is a split is divided if it has more than this share of the nodes.

@@ -2,12 +2,12 @@
 ghost use Rattle.std.specs.Prelude.{◌≡◌, ◌≢◌, ℕ, ◌+◌, ◌<◌, ◌≤◌, Some, length, IsTrue, ◌↔◌};
 ghost use Rattle.rail_model.specs.Table.{IsTable, trains, last, point};
 ghost use Rattle.rail_model.specs.Certificate.{range, IsIn, IsBox, IsSplit, IsClash, MayBlock, MayBeFull};
-ghost use Rattle.range_sums.specs.Places.{IsAhead};
+ghost use Rattle.state_boxes.specs.Places.{IsAhead};
 ghost use Rattle.cert_checker.specs.Places.{Passes};
 
 use crate::shares::others_count;
 use rail_model::{Table, change_at, has_point, limit_of, point_of, share_at, trains_of};
-use range_sums::{Ranges, Span, stays_at};
+use state_boxes::{Ranges, Span, stays_at};
 
 // Whether a train has the point at some place of a span.
 fn passes(table: &Table, train: u32, span: Span, at: u32) -> bool

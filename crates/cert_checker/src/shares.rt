@@ -4,7 +4,7 @@ ghost use Rattle.rail_model.specs.Table.{IsTable, trains, share};
 ghost use Rattle.rail_model.specs.Certificate.{IsBox, least_count as least_count_of, most_with};
 
 use rail_model::{Table, trains_of};
-use range_sums::{Ranges, greatest_share, least_share};
+use state_boxes::{Ranges, greatest_share, least_share};
 
 // The sum of the least shares.
 fn least_sum(table: &Table, ranges: &Ranges, section: u32) -> i32

@@ -2,7 +2,7 @@
 ghost use Rattle.std.specs.Prelude.{◌≡◌, List, ◌∷◌, [], ◌+◌, ◌<◌, ◌≤◌, length, reverse, drop, slice_set, All, IfErr, OnOk, IsTrue, Some, false, true};
 ghost use Rattle.rail_model.specs.Table.{trains};
 ghost use Rattle.rail_model.specs.Certificate.{Range, range, IsGood};
-ghost use Rattle.range_sums.specs.Sums.{AreLists, AreSums};
+ghost use Rattle.state_boxes.specs.Sums.{AreLists, AreSums};
 ghost use Rattle.cert_tree.specs.Open.{opened};
 ghost use Rattle.cert_checker.specs.Walked.{IsStep, IsRefusal, next_train, shown, waiting, walked, StopsAt};
 
@@ -10,7 +10,7 @@ use crate::CheckFault;
 use crate::good::is_good;
 use crate::leaves::check_node;
 use rail_model::{Node, Table};
-use range_sums::{Lists, RangeSums, Ranges, Span};
+use state_boxes::{Lists, RangeSums, Ranges, Span};
 use std::alloc::{AllocError, Global};
 
 /// A range that a train is given, and whether the box is to be visited then.

@@ -4,7 +4,7 @@ ghost use Rattle.cert_maker.specs.Draft.{IsDraft};
 
 use crate::Made;
 use rail_model::{Node, Table};
-use range_sums::Lists;
+use state_boxes::Lists;
 use std::alloc::{AllocError, Global};
 use std::marker::Model;
 

@@ -1,7 +1,7 @@
 // Sections under other numbers, and the sections that come or go.
 ghost use Rattle.std.specs.Prelude.{◌≡◌, ℕ, ◌+◌, ◌<◌, ◌≤◌, length, All, IfOk, IfSome, OnOk, MatchOption, None, Some, IsTrue, ◌↔◌, slice_get, unwrap_or};
 ghost use Rattle.rail_model.specs.Certificate.{IsBox};
-ghost use Rattle.range_sums.specs.Sums.{AreLists};
+ghost use Rattle.state_boxes.specs.Sums.{AreLists};
 ghost use Rattle.cert_maker.specs.Slack.{IsSlack};
 ghost use Rattle.cert_maker.specs.Renumber.{number_in, Renumbers};
 ghost use Rattle.cert_maker.specs.Numbers.{HasAll, IsGone, IsNew};
@@ -9,7 +9,7 @@ ghost use Rattle.cert_maker.specs.Numbers.{HasAll, IsGone, IsNew};
 use crate::same::is_same_section;
 use crate::slack::is_slack;
 use rail_model::{Node, Section, Table, sections_of};
-use range_sums::{Lists, Ranges};
+use state_boxes::{Lists, Ranges};
 use std::alloc::{AllocError, Global};
 
 /// For each section of a former table its number in another, if it is there, and the sections that only one of them has.
@@ -23,7 +23,7 @@ pub(crate) struct Numbers {
 impl Numbers {
     ghost use Rattle.std.specs.Prelude.{◌≡◌, IfOk, IsTrue, ◌↔◌, unwrap_or};
     ghost use Rattle.rail_model.specs.Certificate.{IsBox};
-    ghost use Rattle.range_sums.specs.Sums.{AreLists};
+    ghost use Rattle.state_boxes.specs.Sums.{AreLists};
     ghost use Rattle.cert_maker.specs.Renumber.{number_in, DifferBySlack, renumbered as renumbered_node};
     ghost use Rattle.cert_maker.specs.Numbers.{AreNumbers};
 

@@ -3,11 +3,11 @@ ghost use Rattle.std.specs.Prelude.{◌≡◌, ◌+◌, ◌-◌, ℕ, ◌<◌, �
 ghost use Rattle.rail_model.specs.Sums.{greatest};
 ghost use Rattle.rail_model.specs.Table.{IsTable, trains, last, limit, share};
 ghost use Rattle.rail_model.specs.Certificate.{range, most_with, IsBox, MayBeFull};
-ghost use Rattle.range_sums.specs.Sums.{AreLists, greatest_count};
+ghost use Rattle.state_boxes.specs.Sums.{AreLists, greatest_count};
 ghost use Rattle.cert_maker.specs.Slack.{IsSlack};
 
 use rail_model::{Table, last_of, limit_of};
-use range_sums::{Lists, Ranges, Span};
+use state_boxes::{Lists, Ranges, Span};
 
 // The greatest share of a train in a span.
 fn greatest_in(table: &Table, lists: &Lists, train: u32, span: Span, section: u32) -> i32

@@ -5,7 +5,7 @@ ghost use Rattle.rail_model.specs.Table.{IsTable, trains, last, share};
 ghost use Rattle.document_lint.specs.Sections.{most as most_of, end, end_count, NeverBinds, IsUnused, IsOverfullAtEnd, OverfillsAlone, EndTogether};
 
 use rail_model::{Table, last_of, limit_of, point_of, share_at, trains_of};
-use range_sums::{Span, greatest_share};
+use state_boxes::{Span, greatest_share};
 
 /// The greatest share of a section that a train has anywhere.
 pub(crate) fn most(table: &Table, section: u32, train: u32) -> i32

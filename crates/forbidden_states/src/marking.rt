@@ -5,7 +5,7 @@ ghost use Rattle.forbidden_states.specs.Forbid.{AreStays, stay_of as stay_of_tra
 
 use crate::{Stay, Stays};
 use rail_model::{Changes, Mission, Missions, Section, Table};
-use range_sums::Span;
+use state_boxes::Span;
 use std::alloc::{AllocError, Global};
 
 // The first stay of a train.

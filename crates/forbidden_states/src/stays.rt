@@ -1,7 +1,7 @@
 // Stays: trains, each in a span of its places.
 ghost use Rattle.std.specs.Prelude.{◌≡◌};
 
-use range_sums::Span;
+use state_boxes::Span;
 use std::marker::Model;
 
 /// A train, and a span of its places.

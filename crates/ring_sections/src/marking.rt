@@ -6,7 +6,7 @@ ghost use Rattle.ring_sections.specs.Marking.{stays as stays_of_ring, ring_table
 use crate::Ring;
 use forbidden_states::{Stay, Stays, marked};
 use rail_model::{Missions, Table};
-use range_sums::Span;
+use state_boxes::Span;
 use std::alloc::{AllocError, Global};
 
 // The trains of a circular wait, each at its place alone.

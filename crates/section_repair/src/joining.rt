@@ -6,7 +6,7 @@ ghost use Rattle.section_repair.specs.Joining.{stays_of as stays_of_trains, is_s
 use crate::groups::Group;
 use forbidden_states::{Stay, Stays};
 use rail_model::State;
-use range_sums::Span;
+use state_boxes::Span;
 use std::alloc::{AllocError, Global};
 
 /// The trains of a group, each at its place alone.

@@ -1,6 +1,6 @@
 use Rattle.std.proofs.Common.{◌≡◌, reverse, vec_len}
 use Rattle.std.specs.Prelude.{All}
-use Rattle.range_sums.specs.Sums.{AreSums}
+use Rattle.state_boxes.specs.Sums.{AreSums}
 use Rattle.cert_checker.specs.Walked.{IsStep, waiting}
 use Rattle.cert_checker.proofs.walk.advance.Given as goal
 

@@ -1,6 +1,6 @@
 use Rattle.std.proofs.Common.{arith}
 use Rattle.std.proofs.lemmas.Int.{ints}
-use Rattle.range_sums.proofs.Summed.{extremes_few}
+use Rattle.state_boxes.proofs.Summed.{extremes_few}
 use Rattle.cert_maker.proofs.slack.greatest_in.Goals as goal
 
 pub returns-clause-low : goal.returns-clause-low

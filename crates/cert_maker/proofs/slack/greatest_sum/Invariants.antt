@@ -1,7 +1,7 @@
 use Rattle.std.proofs.Common.{drop}
 use Rattle.rail_model.specs.Table.{trains}
 use Rattle.rail_model.specs.Certificate.{greatest_share}
-use Rattle.range_sums.specs.Extremes.{IsQuiet}
+use Rattle.state_boxes.specs.Extremes.{IsQuiet}
 use Rattle.cert_maker.proofs.Listed.{IsSummed}
 use Rattle.cert_maker.proofs.slack.greatest_sum.Given as goal
 

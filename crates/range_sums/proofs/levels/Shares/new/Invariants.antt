@@ -1,6 +1,0 @@
-use Rattle.range_sums.specs.Each.{IsEach}
-use Rattle.range_sums.specs.Extremes.{IsTrainShares, no_shares}
-use Rattle.range_sums.proofs.levels.Shares.new.Given as goal
-
-abbrev pub invariant-loop-train : goal.invariant-loop-train
-invariant-loop-train l = IsEach (λ i S. IsTrainShares l.table i S) l.train no_shares l.trains.items

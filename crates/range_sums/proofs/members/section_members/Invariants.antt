@@ -1,5 +1,0 @@
-use Rattle.range_sums.specs.Extremes.{AreMembers}
-use Rattle.range_sums.proofs.members.section_members.Given as goal
-
-abbrev pub invariant-loop-train : goal.invariant-loop-train
-invariant-loop-train l = AreMembers l.table l.section 0 l.train l.members.items

@@ -1,6 +1,0 @@
-use Rattle.std.proofs.Common.{◌≡◌}
-use Rattle.range_sums.specs.Sums.{rises_at}
-use Rattle.range_sums.proofs.rises.place_rises.Given as goal
-
-abbrev pub invariant-loop-section : goal.invariant-loop-section
-invariant-loop-section l = l.items.items ≡ rises_at l.table l.train l.place l.section

@@ -1,6 +1,0 @@
-use Rattle.range_sums.specs.Each.{IsEach}
-use Rattle.range_sums.specs.Sums.{IsSum, no_sum}
-use Rattle.range_sums.proofs.sums.all_sums.Given as goal
-
-abbrev pub invariant-loop-section : goal.invariant-loop-section
-invariant-loop-section l = IsEach (IsSum l.table l.ranges) l.section no_sum l.sums.items

@@ -1,7 +1,0 @@
-use Rattle.std.proofs.Common.{◌≡◌, drop}
-use Rattle.std.specs.Prelude.{find}
-use Rattle.range_sums.specs.Ways.{is_rival}
-use Rattle.range_sums.proofs.ways.first_covered.Given as goal
-
-abbrev pub invariant-loop-spot : goal.invariant-loop-spot
-invariant-loop-spot l = find (is_rival l.ranges l.train) l.spots ≡ find (is_rival l.ranges l.train) (drop l.spot-index l.spots)
