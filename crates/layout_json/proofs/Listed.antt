@@ -11,7 +11,7 @@ use Rattle.rail_model.specs.Certificate.{Tree, preorder}
 use Rattle.rail_model.specs.Yard.{Offer}
 use Rattle.layout_json.specs.declared.spelling.Certified.{Certified}
 use Rattle.layout_json.specs.declared.spelling.TreeRefused.{TreeRefused}
-use Rattle.layout_json.specs.declared.spelling.TreeRefused.TheVariants.{Memory, Tree as NoTree}
+use Rattle.layout_json.specs.declared.spelling.TreeRefused.TheVariants.{Tree as NoTree}
 use Rattle.layout_json.specs.Doc.{Doc, doc_table, nodes_at, offers_of}
 use Rattle.layout_json.specs.Keeps.{Untimed, untimed}
 use Rattle.layout_json.specs.Trees.{tree_at, IsTreeOf, AreTrees, TreesRefused}

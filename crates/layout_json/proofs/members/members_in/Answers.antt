@@ -1,4 +1,4 @@
-use Rattle.std.proofs.Common.{◌∙◌, ap}
+use Rattle.std.proofs.Common.{◌∙◌}
 use Rattle.std.proofs.lemmas.Result.{IfOk-weaker}
 use Rattle.layout_json.specs.Members.{members_in, with_tables}
 use Rattle.layout_json.proofs.members.members_in.Goals as goal

@@ -1,7 +1,4 @@
-use Rattle.std.proofs.Common.{sym, subst}
 use Rattle.std.proofs.lemmas.Result.{IfOk-weaker}
-use Rattle.document_shapes.specs.Raw.{DocMembers, IsRead}
-use Rattle.layout_json.specs.Keeps.{AreMembersOf}
 use Rattle.layout_json.specs.Replaced.{each_with, exchanged, replaced}
 use Rattle.layout_json.proofs.NamedLemmas.{own-are-read}
 use Rattle.layout_json.proofs.Remade.{parts-named, members-of}

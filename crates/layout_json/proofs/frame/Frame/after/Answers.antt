@@ -1,7 +1,6 @@
-use Rattle.std.proofs.Common.{◌≡◌, ◌∙◌, ◌<◌, List, ℕ, length, map, get_or, sym, ap, arith}
+use Rattle.std.proofs.Common.{◌≡◌, ◌∙◌, List, ℕ, length, map, get_or, sym, ap, arith}
 use Rattle.std.specs.Prelude.{vec_len}
 use Rattle.std.proofs.lemmas.List.{length-map, get_or-map}
-use Rattle.layout_json.specs.Doc.{doc_table}
 use Rattle.layout_json.proofs.FormedDoc.{no_table}
 use Rattle.layout_json.proofs.Timed.{length-timed, afters-timed}
 use Rattle.layout_json.proofs.frame.Frame.after.Goals as goal
