@@ -1,5 +1,7 @@
--- What each command is called.
-use Rattle.std.specs.Prelude.{ℕ, List, codes}
+-- What each command is called, and what it has of the values of its options.
+use Rattle.std.specs.Prelude.{◌≡◌, ℕ, Bool, true, false, List, codes, Option, Some, None, option_map, unwrap_or, IsSomeAnd}
+use Rattle.clap.specs.Words.{Row, Text, first_of, one_of, subcommand_of}
+use Rattle.planner_words.specs.Line.{planner}
 use Rattle.planner_words.specs.declared.orders.Order.{Order}
 use Rattle.planner_words.specs.declared.orders.Order.TheVariants.{Plan, ExplainState, ExplainLine, Lint, Timetable, Graph, Layout}
 
@@ -12,3 +14,29 @@ name_of (Lint before) = codes "lint"
 name_of (Timetable csv) = codes "timetable"
 name_of (Graph train) = codes "graph"
 name_of (Layout table at) = codes "layout"
+
+-- the table that is named, or the first one
+abbrev pub table_in : List Row → Text
+table_in given = unwrap_or (first_of (codes "table") given) (codes "0")
+
+-- The flag is up where clap has "true" for it, and down where it has "false".
+abbrev pub IsFlag : Option Text → Bool → Type 0
+IsFlag found flag = (found ≡ Some (codes "true") → flag ≡ true) × (found ≡ Some (codes "false") → flag ≡ false)
+
+-- The order has the values that clap found for the options of its command.
+abbrev pub HasValues : List Row → Order → Type 0
+HasValues given Plan = Unit {0}
+HasValues given (ExplainState table at) = (table.now ≡ table_in given) × (Some at.now ≡ first_of (codes "at") given)
+HasValues given (ExplainLine line) = (None ≡ first_of (codes "at") given) × (Some line.now ≡ first_of (codes "line") given)
+HasValues given (Lint before) = option_map (λ s. s.now) before ≡ first_of (codes "before") given
+HasValues given (Timetable csv) = IsFlag (one_of (codes "csv") given) csv
+HasValues given (Graph train) = option_map (λ s. s.now) train ≡ first_of (codes "train") given
+HasValues given (Layout table at) = (table.now ≡ table_in given) × (option_map (λ s. s.now) at ≡ first_of (codes "at") given)
+
+-- The subcommand of this name, with what was found for its options, asks for the order.
+abbrev pub AsksFor : Order → Text × List Row → Type 0
+AsksFor order called = (name_of order ≡ called.0) × HasValues called.1 order
+
+-- The words ask for the order, as clap reads them.
+abbrev pub IsAsked : List Text → Order → Type 0
+IsAsked words order = IsSomeAnd (subcommand_of planner words) (AsksFor order)

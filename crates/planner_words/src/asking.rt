@@ -1,4 +1,9 @@
 // The command as clap takes it.
+ghost use Rattle.std.specs.Prelude.{◌≡◌, false, IfOk, map};
+ghost use Rattle.clap.specs.Words.{app_of, rule_of, with_subcommand};
+ghost use Rattle.planner_words.specs.Line as spec;
+ghost use Rattle.planner_words.specs.Line.{IsBuiltAs, IsLocal};
+
 use clap::{Arg, ArgAction, Command};
 use std::alloc::{AllocError, Global};
 
@@ -65,7 +70,9 @@ const AT_OR_START: Choice = Choice {
 };
 
 /// The whole command.
-pub(crate) fn command<'a>(alloc: Global) -> Result<Command<'a>, AllocError> {
+pub(crate) fn command<'a>(alloc: Global) -> Result<Command<'a>, AllocError>
+    ensures { IfOk result (IsBuiltAs spec.planner) }
+{
     let about = "Reads a plan (TOML) and writes its document, for `ats make`";
     let command = with_subcommand(alloc, start(alloc), "plan", about, &[])?;
     let about = "Reads a document and explains a state, or a line of `ats`, by names";
@@ -76,7 +83,9 @@ pub(crate) fn command<'a>(alloc: Global) -> Result<Command<'a>, AllocError> {
 }
 
 // The command before any subcommand.
-fn start<'a>(alloc: Global) -> Command<'a> {
+fn start<'a>(alloc: Global) -> Command<'a>
+    ensures { IsBuiltAs spec.start result }
+{
     Command::new(alloc, "planner")
         .version("1.0.0")
         .about(ABOUT)
@@ -85,7 +94,10 @@ fn start<'a>(alloc: Global) -> Command<'a> {
         .disable_help_subcommand(true)
 }
 
-fn with_pictures<'a>(alloc: Global, command: Command<'a>) -> Result<Command<'a>, AllocError> {
+fn with_pictures<'a>(alloc: Global, command: Command<'a>) -> Result<Command<'a>, AllocError>
+    requires { IsLocal command }
+    ensures { IfOk result (IsBuiltAs (spec.with_all spec.pictures (app_of command.entry))) }
+{
     let about =
         "Reads a document, a line `journal` and what `ats sim` wrote; writes when each train arrives, leaves and waits";
     let command = with_subcommand(alloc, command, "timetable", about, &[CSV])?;
@@ -102,7 +114,10 @@ fn with_subcommand<'a>(
     name: &'static str,
     about: &'static str,
     choices: &[Choice],
-) -> Result<Command<'a>, AllocError> {
+) -> Result<Command<'a>, AllocError>
+    requires { IsLocal command }
+    ensures { IfOk result (IsBuiltAs (with_subcommand (app_of command.entry) (spec.leaf name.entry.now (map spec.rule_for choices.now)))) }
+{
     command.subcommand(leaf(alloc, name, about, choices)?)
 }
 
@@ -112,7 +127,9 @@ fn leaf<'a>(
     name: &'static str,
     about: &'static str,
     choices: &[Choice],
-) -> Result<Command<'a>, AllocError> {
+) -> Result<Command<'a>, AllocError>
+    ensures { IfOk result (spec.IsLeaf name.entry.now choices.now) }
+{
     let mut command = Command::new(alloc, name).about(about);
     for choice in choices {
         command = command.arg(option(alloc, choice)?)?;
@@ -120,7 +137,9 @@ fn leaf<'a>(
     Ok(command)
 }
 
-fn option<'a>(alloc: Global, choice: &Choice) -> Result<Arg<'a>, AllocError> {
+fn option<'a>(alloc: Global, choice: &Choice) -> Result<Arg<'a>, AllocError>
+    ensures { IfOk result (λ arg. (rule_of arg ≡ spec.rule_for choice.now) × (arg.global ≡ false)) }
+{
     let arg = Arg::new(alloc, choice.name)
         .long(choice.name)
         .help(choice.help);

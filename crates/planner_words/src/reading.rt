@@ -1,6 +1,8 @@
 // Reading the words.
-ghost use Rattle.std.specs.Prelude.{◌≡◌, IfOk, codes};
-ghost use Rattle.planner_words.specs.Named.{name_of};
+ghost use Rattle.std.specs.Prelude.{◌≡◌, IfOk, IsSomeAnd, codes, map, string_bytes};
+ghost use Rattle.clap.specs.Words.{found_of, kind_of, rows_of, subcommand_rows_of};
+ghost use Rattle.planner_words.specs.Answered.{IsAnswer};
+ghost use Rattle.planner_words.specs.Named.{AsksFor, IsAsked, table_in};
 
 use crate::asking::command;
 use crate::{Order, WordsAnswered};
@@ -15,7 +17,9 @@ const NO_COMMAND: &str = "planner: no such command\n";
 /// # Errors
 ///
 /// A text to show, for help and the version; a text that says what is wrong with the words; out of memory.
-pub fn words<'a>(alloc: Global, words: &'a [String]) -> Result<Order<'a>, WordsAnswered> {
+pub fn words<'a>(alloc: Global, words: &'a [String]) -> Result<Order<'a>, WordsAnswered>
+    ensures { IfOk result (IsAsked (map string_bytes words.now)) }
+{
     let Ok(command) = command(alloc) else {
         return Err(WordsAnswered::Memory);
     };
@@ -26,7 +30,9 @@ pub fn words<'a>(alloc: Global, words: &'a [String]) -> Result<Order<'a>, WordsA
 }
 
 // What is written for words that are no order.
-fn answer_to(alloc: Global, error: &Error) -> WordsAnswered {
+fn answer_to(alloc: Global, error: &Error) -> WordsAnswered
+    ensures { IsAnswer (kind_of error.now) result }
+{
     if error.kind() == ErrorKind::OutOfMemory {
         return WordsAnswered::Memory;
     }
@@ -40,7 +46,9 @@ fn answer_to(alloc: Global, error: &Error) -> WordsAnswered {
     }
 }
 
-fn order_of<'a>(alloc: Global, matches: &ArgMatches<'a>) -> Result<Order<'a>, WordsAnswered> {
+fn order_of<'a>(alloc: Global, matches: &ArgMatches<'a>) -> Result<Order<'a>, WordsAnswered>
+    ensures { IfOk result (λ order. IsSomeAnd (subcommand_rows_of matches.now) (AsksFor order)) }
+{
     match matches.subcommand() {
         Some((name, inner)) => order_called(alloc, name, inner),
         None => refused(alloc, NO_COMMAND),
@@ -62,7 +70,7 @@ fn order_called<'a>(
     name: &str,
     matches: &ArgMatches<'a>,
 ) -> Result<Order<'a>, WordsAnswered>
-    ensures { IfOk result (λ order. name_of order ≡ name.now) }
+    ensures { IfOk result (λ order. AsksFor order (name.now, rows_of (found_of matches.now))) }
 {
     match name {
         "plan" => Ok(Order::Plan),
@@ -85,12 +93,14 @@ fn order_called<'a>(
 }
 
 // The table that is named, as it was written, or the first one.
-fn table_in<'a>(matches: &ArgMatches<'a>) -> &'a str {
+fn table_in<'a>(matches: &ArgMatches<'a>) -> &'a str
+    ensures { result.now ≡ table_in (rows_of (found_of matches.now)) }
+{
     matches.get_str("table").unwrap_or("0")
 }
 
 fn explain<'a>(alloc: Global, matches: &ArgMatches<'a>) -> Result<Order<'a>, WordsAnswered>
-    ensures { IfOk result (λ order. name_of order ≡ codes "explain") }
+    ensures { IfOk result (λ order. AsksFor order (codes "explain", rows_of (found_of matches.now))) }
 {
     match (matches.get_str("at"), matches.get_str("line")) {
         (Some(at), _) => Ok(Order::ExplainState {

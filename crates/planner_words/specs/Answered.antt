@@ -1,0 +1,16 @@
+-- How words that are no order are answered.
+use Rattle.std.specs.Prelude.{◌≡◌, ◌≢◌, ◌⊎◌}
+use Rattle.clap.specs.declared.error.ErrorKind.{ErrorKind}
+use Rattle.clap.specs.declared.error.ErrorKind.TheVariants.{DisplayHelp, DisplayVersion, OutOfMemory}
+use Rattle.planner_words.specs.declared.orders.WordsAnswered.{WordsAnswered}
+use Rattle.planner_words.specs.declared.orders.WordsAnswered.TheVariants.{Shown, Refused, Memory}
+
+-- What clap gives an error of this kind for is help or the version.
+abbrev pub IsHelp : ErrorKind → Type 0
+IsHelp kind = (kind ≡ DisplayHelp) ⊎ (kind ≡ DisplayVersion)
+
+-- Help and the version are shown, and any other words are refused, unless there was no memory.
+abbrev pub IsAnswer : ErrorKind → WordsAnswered → Type 0
+IsAnswer kind (Shown text) = IsHelp kind
+IsAnswer kind (Refused text) = (IsHelp kind → ⊥) × (kind ≢ OutOfMemory)
+IsAnswer kind Memory = Unit {0}
