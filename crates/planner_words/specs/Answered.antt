@@ -10,7 +10,7 @@ abbrev pub IsHelp : ErrorKind → Type 0
 IsHelp kind = (kind ≡ DisplayHelp) ⊎ (kind ≡ DisplayVersion)
 
 -- Help and the version are shown, and any other words are refused, unless there was no memory.
-abbrev pub IsAnswer : ErrorKind → WordsAnswered → Type 0
-IsAnswer kind (Shown text) = IsHelp kind
-IsAnswer kind (Refused text) = (IsHelp kind → ⊥) × (kind ≢ OutOfMemory)
-IsAnswer kind Memory = Unit {0}
+abbrev pub AnswersWords : ErrorKind → WordsAnswered → Type 0
+AnswersWords kind (Shown text) = IsHelp kind
+AnswersWords kind (Refused text) = (IsHelp kind → ⊥) × (kind ≢ OutOfMemory)
+AnswersWords kind Memory = Unit {0}

@@ -1,10 +1,10 @@
 -- The command as clap takes it: its subcommands and their options.
-use Rattle.std.specs.Prelude.{◌≡◌, List, [], ◌∷◌, codes, fold, map, true, false, Some, if◌then◌else◌}
+use Rattle.std.specs.Prelude.{◌≡◌, List, [], ◌∷◌, codes, fold, map, true, Some, if◌then◌else◌}
 use Rattle.clap.specs.Words.{App, Rule, Shape, Text, app_of, new_app, new_rule, with_subcommand}
 use Rattle.clap.specs.Walk.{is_empty}
 use Rattle.clap.specs.declared.Command.{Command}
-use Rattle.clap.specs.declared.Command.TheViews.{out-Command}
 use Rattle.clap.specs.declared.builder.action.ArgAction.TheVariants.{Set, SetTrue}
+use Rattle.command_words.specs.Built.{IsLocal}
 use Rattle.planner_words.specs.declared.asking.Choice.{Choice}
 
 -- an option with one value
@@ -63,14 +63,6 @@ pictures = timetable ∷ graph ∷ layout ∷ []
 -- the whole command
 abbrev pub planner : App
 planner = with_all pictures (with_all (plan ∷ explain ∷ lint ∷ []) start)
-
--- The command has no argument that its subcommands share.
-abbrev pub IsLocal : Command → Type 0
-IsLocal command = (out-Command command).has_globals ≡ false
-
--- What a parse reads of the command is `app`.
-abbrev pub IsBuiltAs : App → Command → Type 0
-IsBuiltAs app command = (app_of command ≡ app) × IsLocal command
 
 -- The command is a subcommand with these options.
 abbrev pub IsLeaf : Text → List Choice → Command → Type 0

@@ -1,8 +1,8 @@
 // The command as clap takes it.
 ghost use Rattle.std.specs.Prelude.{◌≡◌, false, IfOk, map};
 ghost use Rattle.clap.specs.Words.{app_of, rule_of, with_subcommand};
+ghost use Rattle.command_words.specs.Built.{IsBuiltAs, IsLocal};
 ghost use Rattle.planner_words.specs.Line as spec;
-ghost use Rattle.planner_words.specs.Line.{IsBuiltAs, IsLocal};
 
 use clap::{Arg, ArgAction, Command};
 use std::alloc::{AllocError, Global};

@@ -1,7 +1,7 @@
 // Reading the words.
 ghost use Rattle.std.specs.Prelude.{◌≡◌, IfOk, IsSomeAnd, codes, map, string_bytes};
 ghost use Rattle.clap.specs.Words.{found_of, kind_of, rows_of, subcommand_rows_of};
-ghost use Rattle.planner_words.specs.Answered.{IsAnswer};
+ghost use Rattle.planner_words.specs.Answered.{AnswersWords};
 ghost use Rattle.planner_words.specs.Named.{AsksFor, IsAsked, table_in};
 
 use crate::asking::command;
@@ -31,7 +31,7 @@ pub fn words<'a>(alloc: Global, words: &'a [String]) -> Result<Order<'a>, WordsA
 
 // What is written for words that are no order.
 fn answer_to(alloc: Global, error: &Error) -> WordsAnswered
-    ensures { IsAnswer (kind_of error.now) result }
+    ensures { AnswersWords (kind_of error.now) result }
 {
     if error.kind() == ErrorKind::OutOfMemory {
         return WordsAnswered::Memory;

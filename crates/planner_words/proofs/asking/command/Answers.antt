@@ -1,6 +1,7 @@
 use Rattle.std.proofs.Common.{◌∙◌, ap, subst, IfOk}
 use Rattle.clap.specs.Words.{with_subcommand}
-use Rattle.planner_words.specs.Line.{IsBuiltAs, with_all, plan, explain, lint, pictures}
+use Rattle.command_words.specs.Built.{IsBuiltAs}
+use Rattle.planner_words.specs.Line.{with_all, plan, explain, lint, pictures}
 use Rattle.planner_words.proofs.asking.command.Goals as goal
 
 pub returns : goal.returns

@@ -1,6 +1,7 @@
 use Rattle.std.proofs.Common.{◌∙◌, ap, subst, IfOk}
 use Rattle.clap.specs.Words.{with_subcommand}
-use Rattle.planner_words.specs.Line.{IsBuiltAs, graph, layout}
+use Rattle.command_words.specs.Built.{IsBuiltAs}
+use Rattle.planner_words.specs.Line.{graph, layout}
 use Rattle.planner_words.proofs.asking.with_pictures.Goals as goal
 
 pub returns : goal.returns
