@@ -1,5 +1,5 @@
 -- A document whose tables accept their certificates is refused for nothing.
-use Rattle.std.proofs.Common.{◌≡◌, ◌⊎◌, ℕ, List, sym, ◌∙◌, subst, inl, inr}
+use Rattle.std.proofs.Common.{◌≡◌, ℕ, List, sym, ◌∙◌, subst}
 use Rattle.std.specs.Prelude.{Ok}
 use Rattle.rail_model.specs.Certificate.{Tree, FirstBad}
 use Rattle.rail_model.proofs.FirstBads.{not_both}
@@ -10,7 +10,7 @@ use Rattle.layout_json.specs.Trees.{tree_at, IsNoTree}
 use Rattle.layout_json.specs.Reading.{doc_of}
 use Rattle.ats_run.specs.declared.failure.Failure.{Failure}
 use Rattle.ats_run.specs.declared.failure.Failure.TheVariants as failure
-use Rattle.ats_run.specs.Certificates.{AreAccepted, IsRejected, IsBadTable}
+use Rattle.ats_run.specs.Certificates.{IsBadTable}
 use Rattle.ats_run.specs.Command.{RefusesCheck}
 use Rattle.ats_run.specs.Complete.{IsAcceptedInput}
 
@@ -33,13 +33,3 @@ not_unchecked input good (failure.Certificate t bad) h =
     not_both (table_at good.0 t) (tree_at good.2.0 t) bad
     (subst (λ (c : Tree). FirstBad (table_at good.0 t) c bad) same bad_table.2.first_bad) (accepted.accepted t within)
 not_unchecked input good e h = h
-
--- no certificate that is accepted is rejected
-not_rejected : (D : Doc) (trees : List Tree) → AreAccepted D trees → (e : Failure) → IsRejected D trees e → ⊥
-not_rejected D trees good (failure.Certificate t bad) h = not_both (table_at D t) (tree_at trees t) bad h.first_bad (good.accepted t h.in_range)
-not_rejected D trees good e h = h
-
--- so its refusal is out of memory
-pub only_memory : (D : Doc) (trees : List Tree) → AreAccepted D trees → (e : Failure) → (e ≡ failure.Memory) ⊎ IsRejected D trees e → e ≡ failure.Memory
-only_memory D trees good e (inl memory) = memory
-only_memory D trees good e (inr h) = absurd (not_rejected D trees good e h)

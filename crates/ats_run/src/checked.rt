@@ -76,7 +76,8 @@ fn accept_all(
 {
     let mut certs = Vec::new(alloc);
     let mut tables = Vec::new(alloc);
-    for Certified { table, after, cert } in parts {
+    for part in parts {
+        let Certified { table, after, cert } = part;
         let number = tables.len() as u32;
         tables.push(accept_one(rt, alloc, number, table, after, &cert)?)?;
         certs.push(cert)?;

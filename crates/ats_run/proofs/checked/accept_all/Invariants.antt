@@ -3,9 +3,9 @@ use Rattle.std.specs.Vec.Iter.{into_iter_items}
 use Rattle.ats_run.proofs.Accepting.{AreTaken}
 use Rattle.ats_run.proofs.checked.accept_all.Given as goal
 
-abbrev pub invariant-loop-table : goal.invariant-loop-table
-invariant-loop-table g l =
-    (goal.iterator-loop-table g).can_next l.table-iterator
-    × (goal.iterator-loop-table g).is_finite l.table-iterator
-    × (l.fn.parts.items ≡ l.yielded ++ into_iter_items l.table-iterator)
+abbrev pub invariant-loop-part : goal.invariant-loop-part
+invariant-loop-part g l =
+    (goal.iterator-loop-part g).can_next l.part-iterator
+    × (goal.iterator-loop-part g).is_finite l.part-iterator
+    × (l.fn.parts.items ≡ l.yielded ++ into_iter_items l.part-iterator)
     × AreTaken l.fn.doc l.fn.parts.items l.yielded l.tables.items l.certs.items
