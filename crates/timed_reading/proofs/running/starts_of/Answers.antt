@@ -5,8 +5,8 @@ use Rattle.std.proofs.lemmas.List.FromFn.{map-range_with_len_more}
 use Rattle.timed_reading.specs.Runs.{start_point}
 use Rattle.timed_reading.proofs.running.starts_of.Goals as goal
 
-pub table_of-requires : goal.table_of-requires
-table_of-requires c = rw length-map at c.start_of.ensures.formed.tables.some
+pub table_of-table-requires : goal.table_of-table-requires
+table_of-table-requires c = rw length-map at c.start_of.ensures.formed.tables.some
 
 pub loop-train-preserved : goal.loop-train-preserved
 loop-train-preserved c =
