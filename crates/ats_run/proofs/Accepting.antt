@@ -1,6 +1,5 @@
 -- Tables of a document that are accepted one after another.
-use Rattle.std.proofs.Common.{◌≡◌, ◌⊎◌, ◌∙◌, ℕ, ◌+◌, ◌<◌, List, [], ◌∷◌, ◌++◌, length, map, get_or, sym, ap, ap₂, subst, arith, inl, inr}
-use Rattle.std.proofs.lemmas.Bool.{cases_eq}
+use Rattle.std.proofs.Common.{◌≡◌, ◌⊎◌, ◌∙◌, ℕ, ◌<◌, List, [], ◌∷◌, ◌++◌, length, map, get_or, sym, ap, ap₂, subst, arith, inl, inr}
 use Rattle.std.proofs.lemmas.List.{get_or-map, length-map, map-append, length-append}
 use Rattle.std.proofs.Math.Seq.{get_or-append_seam}
 use Rattle.rail_model.specs.declared.types.Bad.{Bad}
@@ -10,11 +9,16 @@ use Rattle.rail_model.specs.Yard.{Offer, offer}
 use Rattle.layout_json.specs.declared.spelling.Certified.{Certified}
 use Rattle.layout_json.specs.Doc.{Doc, table_at, offers_of}
 use Rattle.layout_json.specs.Trees.{tree_at, AreTrees}
-use Rattle.layout_json.proofs.Listed.{certified_offer, certs_of}
 use Rattle.layout_json.proofs.Offered.{offer_count, table_offered, accepts_more}
 use Rattle.ats_run.specs.Certificates.{AreAccepted, IsRejected}
 use Rattle.ats_run.specs.declared.failure.Failure.{Failure}
 use Rattle.ats_run.specs.declared.failure.Failure.TheVariants.{Memory as NoMemory, Certificate as BadCertificate}
+
+abbrev pub certified_offer : Certified → Offer
+certified_offer t = record { table = t.table; after = t.after }
+
+abbrev pub certs_of : List Certified → List Tree
+certs_of = map (λ t. t.cert)
 
 -- The first tables are accepted, and were put down with their certificates.
 pub record AreTaken (D : Doc) (parts done : List Certified) (tables : List Offer) (certs : List Tree) : Type 0 where

@@ -5,14 +5,13 @@ use Rattle.rail_model.specs.Certificate.{Tree}
 use Rattle.rail_model.specs.Journal.{IsRight, IsDone}
 use Rattle.rail_model.specs.Move.{Live}
 use Rattle.rail_model.specs.Plain.{Plain}
-use Rattle.rail_model.specs.Table.{Table}
 use Rattle.rail_model.specs.Yard.{Offer}
 use Rattle.rail_model.proofs.Sound.{live}
 use Rattle.plain_yard.specs.Keeps.{Keeps}
 use Rattle.shared_run.specs.declared.crews.Crew.{Crew}
 use Rattle.shared_run.specs.Shared.{setup, IsAddedBy}
 use Rattle.document_generator.specs.Generated.{generated}
-use Rattle.layout_json.specs.Doc.{Doc, DocTable, IsDoc, table_at, offers_of}
+use Rattle.layout_json.specs.Doc.{Doc, DocTable, table_at, offers_of}
 use Rattle.layout_json.specs.Reading.{doc_of}
 use Rattle.layout_json.specs.Replaced.{each_with, recertified, certified}
 use Rattle.layout_json.specs.Trees.{tree_at}

@@ -9,7 +9,7 @@ use Rattle.ats_run.specs.Deriving.{derived_table, derived, HasFewRings, HasManyR
 use Rattle.ats_run.specs.declared.failure.Failure.TheVariants.{Memory as NoMemory}
 use Rattle.ats_run.specs.Making.{tables_in}
 use Rattle.ats_run.proofs.Derived.{derived_more, many_here}
-use Rattle.ats_run.proofs.Made.{doc_behind, doc_table_behind}
+use Rattle.ats_run.proofs.Made.{table_count, doc_behind, doc_table_behind}
 use Rattle.ats_run.proofs.derive.derive_all.Goals as goal
 
 pub loop-table-preserved : goal.loop-table-preserved
@@ -58,3 +58,8 @@ returns-in_err-derive_one-clause-many c =
     refused-so (λ e. (e ≡ NoMemory) ⊎ HasManyRings D most e) c.from_residual-in_err-derive_one.result e c.from_residual-in_err-derive_one.ensures.1
     (many_here D most (length done) c.len-number.result T e (doc_behind D done rest T whole) (doc_table_behind D done rest T whole) number c.loop-table.invariant.5
     c.in_err-derive_one.ensures.many)
+
+pub returns-clause-few : goal.returns-clause-few
+returns-clause-few c t lt =
+    let all : tables_in c.args.doc ≡ c.loop-table.yielded = grind (arith, common_steps, c.in-None.ensures.steps) in
+    c.loop-table.invariant.5 t (omega (arith, lt, ap length all, table_count c.args.doc))

@@ -2,11 +2,12 @@ use Rattle.std.proofs.Common.{◌≡◌, ◌⊎◌, ◌<◌, ◌∷◌, [], ◌+
 use Rattle.std.specs.Prelude.{vec_len}
 use Rattle.std.specs.Vec.Iter.{into_iter_items}
 use Rattle.std.proofs.lemmas.Grind.{common_steps}
+use Rattle.rail_model.specs.State.{Legal}
 use Rattle.layout_json.specs.Doc.{Doc, table_at}
 use Rattle.layout_json.proofs.Offered.{offer_count}
 use Rattle.layout_json.proofs.Refusals.{refused-so}
 use Rattle.ats_run.specs.Making.{tables_in}
-use Rattle.ats_run.specs.Repairing.{AreRepaired, RepairsNone, IsRefusedStart, FailsToRepair}
+use Rattle.ats_run.specs.Repairing.{AreRepaired, IsRepairedAs, RepairsNone, IsRefusedStart, FailsToRepair}
 use Rattle.ats_run.specs.declared.failure.Failure.TheVariants.{Memory as NoMemory}
 use Rattle.ats_run.proofs.Made.{doc_behind, doc_table_behind}
 use Rattle.ats_run.proofs.Repaired.{repaired_more, failed_here}
@@ -22,9 +23,13 @@ loop-table-preserved c =
     let size : length (done ++ T ∷ []) ≡ length done + 1 = length-append done (T ∷ []) in
     let counted : vec_len c.loop-table.parts ≡ length c.loop-table.parts.items = c.loop-table.parts.ok.0 in
     let number : c.len-number.result ≡ length done = c.len-number.ensures ∙ counted ∙ c.loop-table.invariant.3.one_each in
-    let more = repaired_more D c.args.budget c.args.rounds c.len-number.result c.loop-table.parts.items c.push.new.self.items c.in_ok-repair_at.field-0
+    let p = c.in_ok-repair_at.field-0 in
+    let same = c.in_ok-frame.ensures.frame in
+    let repaired = subst (λ (E : Doc). IsRepairedAs (table_at E c.len-number.result) c.args.budget c.args.rounds p.0 p.1) same c.in_ok-repair_at.ensures.repaired in
+    let start = subst (λ (E : Doc). c.len-number.result ≡ 0 → Legal p.0 E.start) same c.in_ok-repair_at.ensures.start in
+    let more = repaired_more D c.args.budget c.args.rounds c.len-number.result c.loop-table.parts.items c.push.new.self.items p
     (subst (λ n. AreRepaired D c.args.budget c.args.rounds n c.loop-table.parts.items) (sym number) c.loop-table.invariant.3) c.in_ok-push.ensures.items
-    c.in_ok-repair_at.ensures.repaired c.in_ok-repair_at.ensures.start in (
+    repaired start in (
       tt,
       tt,
       grind (arith, common_steps, whole),
