@@ -1,5 +1,5 @@
 -- The command as clap takes it: its subcommands and their options.
-use Rattle.std.specs.Prelude.{◌≡◌, List, [], ◌∷◌, codes, fold, map, true, Some, if◌then◌else◌}
+use Rattle.std.specs.Prelude.{◌≡◌, List, [], ◌∷◌, codes, fold, map, true, false, Some, if◌then◌else◌}
 use Rattle.clap.specs.Words.{App, Rule, Shape, Text, app_of, new_app, new_rule, with_subcommand}
 use Rattle.clap.specs.Walk.{is_empty}
 use Rattle.clap.specs.declared.Command.{Command}
