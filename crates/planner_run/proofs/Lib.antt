@@ -1,1 +1,2 @@
+mod Suits
 mod Weaker

@@ -1,5 +1,5 @@
 -- What the answers to orders are.
-use Rattle.std.specs.Prelude.{◌≡◌, ℕ, List, Ok, Some, string_bytes}
+use Rattle.std.specs.Prelude.{◌≡◌, ℕ, List, Ok, Option, Some, None, string_bytes}
 use Rattle.decimal_number.specs.Decimal.{number_of}
 use Rattle.document_shapes.specs.Written.{text_of}
 use Rattle.rail_model.specs.State.{Legal}
@@ -26,6 +26,7 @@ use Rattle.planner_run.specs.declared.answer.Answer.{Answer}
 use Rattle.planner_run.specs.declared.answer.Answer.TheVariants.{Text, Remarks, Wrong}
 use Rattle.planner_run.specs.declared.top.Status.{Status}
 use Rattle.planner_run.specs.declared.top.Status.TheVariants.{Done, Faulty, Failed}
+use denote.Ref.{Bor}
 
 -- The text reads as a document.
 abbrev pub ReadsAsDocument : List ℕ → Type 0
@@ -72,20 +73,31 @@ pub record IsGraphText (text : List ℕ) : Type 0 where
   pub is_graph : IsGraph run picture
   pub is_text : text ≡ svg_text picture
 
--- The text is a picture of a document's layout, and of its trains in a legal state of a table.
-pub record IsLayoutOf (D : Doc) (text : List ℕ) : Type 0 where
-  pub table : ℕ
-  pub places : List ℕ
+-- The places are those that the words name; without words, those at the start.
+abbrev pub AreAsked : Doc → Option (Bor (List ℕ)) → List ℕ → Type 0
+AreAsked D (Some words) places = words.now ≡ places_words places
+AreAsked D None places = places ≡ D.start
+
+-- The text is a picture of a document's layout under its table t, and of its trains at these places, which are legal there.
+pub record IsLayoutAt (D : Doc) (t : ℕ) (places text : List ℕ) : Type 0 where
   pub picture : Picture
-  pub legal : Legal (table_at D table) places
-  pub is_drawn : IsDrawn D.layout (table_at D table) places picture.groups
+  pub legal : Legal (table_at D t) places
+  pub is_drawn : IsDrawn D.layout (table_at D t) places picture.groups
   pub is_text : text ≡ svg_text picture
 
--- The input is a document, and the text is a picture of its layout.
-pub record IsLayoutText (input text : List ℕ) : Type 0 where
+-- The text is such a picture with the trains at the places asked for.
+pub record IsLayoutOf (D : Doc) (t : ℕ) (asked : Option (Bor (List ℕ))) (text : List ℕ) : Type 0 where
+  pub places : List ℕ
+  pub are_asked : AreAsked D asked places
+  pub is_layout : IsLayoutAt D t places text
+
+-- The input is a document, and the text is a picture of its layout under the table that the words name.
+pub record IsLayoutText (input table_words : List ℕ) (asked : Option (Bor (List ℕ))) (text : List ℕ) : Type 0 where
   pub document : Doc
+  pub table : ℕ
   pub is_read : doc_of input ≡ Ok document
-  pub is_layout : IsLayoutOf document text
+  pub is_table : number_of table_words ≡ Some table
+  pub is_layout : IsLayoutOf document table asked text
 
 -- The text is what an order comes to on an input.
 abbrev pub IsTextFor : Order → List ℕ → List ℕ → Type 0
@@ -95,13 +107,29 @@ IsTextFor (ExplainLine line) input text = ExplainsWords input line.now text
 IsTextFor (Lint before) input text = Unit {0}
 IsTextFor (Timetable csv) input text = Unit {0}
 IsTextFor (Graph train) input text = IsGraphText text
-IsTextFor (Layout table at) input text = IsLayoutText input text
+IsTextFor (Layout table at) input text = IsLayoutText input table.now at text
 
--- Where the answer is a text, this holds of it.
+-- The order asks for remarks.
+abbrev pub AsksForRemarks : Order → Type 0
+AsksForRemarks (Lint before) = Unit {0}
+AsksForRemarks OfPlan = ⊥
+AsksForRemarks (ExplainState table at) = ⊥
+AsksForRemarks (ExplainLine line) = ⊥
+AsksForRemarks (Timetable csv) = ⊥
+AsksForRemarks (Graph train) = ⊥
+AsksForRemarks (Layout table at) = ⊥
+
+-- The answer has no remarks, and where it is a text, this holds of it.
 abbrev pub IfText : (List ℕ → Type 0) → Answer → Type 0
 IfText Holds (Text text) = Holds text.items
-IfText Holds (Remarks lines) = Unit {0}
+IfText Holds (Remarks lines) = ⊥
 IfText Holds (Wrong lines) = Unit {0}
+
+-- The answer is what an order comes to on an input, with remarks only where it asks for them.
+abbrev pub IsAnswerTo : Order → List ℕ → Answer → Type 0
+IsAnswerTo order input (Text text) = IsTextFor order input text.items
+IsAnswerTo order input (Remarks lines) = AsksForRemarks order
+IsAnswerTo order input (Wrong lines) = Unit {0}
 
 -- the exit code of a status
 abbrev pub code_of : Status → ℕ

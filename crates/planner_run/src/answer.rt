@@ -1,6 +1,6 @@
 // What an order comes to.
 ghost use Rattle.std.specs.Prelude.{◌≡◌, IfOk};
-ghost use Rattle.planner_run.specs.Answered.{IfText, IsTextFor};
+ghost use Rattle.planner_run.specs.Answered.{IsAnswerTo};
 
 use crate::drawing::layout;
 use crate::explaining::{line as explain_line, state as explain_state};
@@ -22,13 +22,14 @@ pub enum Answer {
 }
 
 /// What an order comes to on this input. `former` is the former document, where the order names one.
+#[tactic(auto, using(crate::proofs::Suits::if_text_answers, crate::proofs::Suits::lint_answers))]
 pub fn answer_to(
     alloc: Global,
     order: &Order<'_>,
     input: &[u8],
     former: Option<&[u8]>,
 ) -> Result<Answer, AllocError>
-    ensures { IfOk result (IfText (IsTextFor order.now input.now)) }
+    ensures { IfOk result (IsAnswerTo order.now input.now) }
 {
     match order {
         Order::Plan => plan(alloc, input),

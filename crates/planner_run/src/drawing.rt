@@ -1,6 +1,6 @@
 // Pictures of layouts.
 ghost use Rattle.std.specs.Prelude.{◌≡◌, IfOk};
-ghost use Rattle.planner_run.specs.Answered.{IfText, IsLayoutText, IsLayoutOf};
+ghost use Rattle.planner_run.specs.Answered.{IfText, IsLayoutText, IsLayoutOf, IsLayoutAt};
 
 use crate::Answer;
 use crate::explaining::{NO_PLACES, NO_TABLE, wrong};
@@ -20,7 +20,7 @@ pub(crate) fn layout(
     table: &str,
     at: Option<&str>,
 ) -> Result<Answer, AllocError>
-    ensures { IfOk result (IfText (IsLayoutText input.now)) }
+    ensures { IfOk result (IfText (IsLayoutText input.now table.now at.entry)) }
 {
     let Some(table) = number_of(table.as_bytes()) else {
         return wrong(alloc, NO_TABLE);
@@ -34,7 +34,7 @@ pub(crate) fn layout(
 
 // The layout with the trains at these places or at the start.
 fn layout_at(alloc: Global, doc: &Doc, table: u32, at: Option<&str>) -> Result<Answer, AllocError>
-    ensures { IfOk result (IfText (IsLayoutOf doc.now)) }
+    ensures { IfOk result (IfText (IsLayoutOf doc.now table at.entry)) }
 {
     let Some(words) = at else {
         return picture_of(alloc, doc, table, start_of(doc));
@@ -47,7 +47,7 @@ fn layout_at(alloc: Global, doc: &Doc, table: u32, at: Option<&str>) -> Result<A
 
 // The layout with the trains in a state.
 fn picture_of(alloc: Global, doc: &Doc, table: u32, state: &State) -> Result<Answer, AllocError>
-    ensures { IfOk result (IfText (IsLayoutOf doc.now)) }
+    ensures { IfOk result (IfText (IsLayoutAt doc.now table state.now)) }
 {
     match layout_picture(alloc, doc, table, state)? {
         Drawn::Picture { picture } => Ok(Answer::Text(text(alloc, &picture)?)),

@@ -13,7 +13,9 @@ use timed_reading::{Timed, timed_run};
 use train_graph::train_graph;
 
 /// The timetable of a timed run.
-pub(crate) fn timetable(alloc: Global, input: &[u8], csv: bool) -> Result<Answer, AllocError> {
+pub(crate) fn timetable(alloc: Global, input: &[u8], csv: bool) -> Result<Answer, AllocError>
+    ensures { IfOk result (IfText (λ text. Unit {0})) }
+{
     let form = if csv { Form::Csv } else { Form::Text };
     match timed_run(alloc, input)? {
         Timed::Run { doc, run } => {

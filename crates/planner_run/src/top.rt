@@ -1,7 +1,7 @@
 // The top call.
 ghost use Rattle.std.specs.Prelude.{◌≡◌, ◌≢◌, ◌⊎◌, ℕ, List, IfSome};
 ghost use Rattle.ats_io.specs.Bytes.{Adds, AddsPrefix};
-ghost use Rattle.planner_run.specs.Answered.{IsTextFor, code_of};
+ghost use Rattle.planner_run.specs.Answered.{IsTextFor, AsksForRemarks, code_of};
 
 use crate::Answer;
 use crate::answer::answer_to;
@@ -88,6 +88,8 @@ pub fn serve<S: Source, K: Sink, E: Sink>(
     ensures done { result ≡ Status.Done → IfSome (S.left source.old) (λ all.
         (text : List ℕ) × IsTextFor order.now all text × Adds (K.taken out.old) (K.taken out.new) text) }
     ensures quiet { result ≡ Status.Done → E.taken err.new ≡ E.taken err.old }
+    // Where the input has faults, nothing is written to `out`, except remarks that were asked for.
+    ensures faulty { result ≡ Status.Faulty → AsksForRemarks order.now ⊎ (K.taken out.new ≡ K.taken out.old) }
 {
     match read_all(alloc, source, MOST_BYTES) {
         Ok(input) => respond(alloc, order, &input, former, out, err),
@@ -111,6 +113,7 @@ fn respond<K: Sink, E: Sink>(
 ) -> Status
     ensures done { result ≡ Status.Done → (text : List ℕ) × IsTextFor order.now input.now text × Adds (K.taken out.old) (K.taken out.new) text }
     ensures quiet { result ≡ Status.Done → E.taken err.new ≡ E.taken err.old }
+    ensures faulty { result ≡ Status.Faulty → AsksForRemarks order.now ⊎ (K.taken out.new ≡ K.taken out.old) }
 {
     match answer_to(alloc, order, input, former) {
         Ok(Answer::Text(text)) => print(&text, Status::Done, out, err),
