@@ -1,4 +1,7 @@
 // All remarks on a document.
+ghost use Rattle.std.specs.Prelude.{◌≡◌, [], IfOk};
+ghost use Rattle.document_lint.specs.Told.{AreDocument, IsReadAs, IsSaid};
+
 use crate::afters::add_afters;
 use crate::former::add_former;
 use crate::members::add_members;
@@ -40,7 +43,9 @@ fn add_taken(remarks: &mut Remarks, doc: &Doc) -> Result<(), AllocError> {
 }
 
 // Adds that a document is refused, and why.
-fn add_refused(remarks: &mut Remarks, place: &str, refused: &DocRefused) -> Result<(), AllocError> {
+fn add_refused(remarks: &mut Remarks, place: &str, refused: &DocRefused) -> Result<(), AllocError>
+    ensures { IfOk result (λ done. IsSaid remarks.new) }
+{
     let alloc = remarks.alloc();
     let mut words = String::from_str(alloc, "ats refuses it: ")?;
     push_document(&mut words, refused)?;
@@ -84,22 +89,28 @@ fn add_all_suspects(remarks: &mut Remarks, bytes: &[u8]) -> Result<(), AllocErro
     Ok(())
 }
 
-// Adds that a document is refused, why, and which of its changes may be the cause.
-fn add_refusal(
-    remarks: &mut Remarks,
-    bytes: &[u8],
-    refused: &DocRefused,
-) -> Result<(), AllocError> {
-    add_refused(remarks, "document", refused)?;
-    add_members(remarks, bytes)?;
-    match refused {
-        DocRefused::Marks { .. } => add_all_suspects(remarks, bytes),
-        _ => Ok(()),
+// Which members and changes of a document that is refused may be the cause.
+fn causes_of(alloc: Global, bytes: &[u8], refused: &DocRefused) -> Result<Remarks, AllocError> {
+    let mut causes = Remarks::new(alloc);
+    add_members(&mut causes, bytes)?;
+    if let DocRefused::Marks { .. } = refused {
+        add_all_suspects(&mut causes, bytes)?;
     }
+    Ok(causes)
+}
+
+// Adds that a document is refused, why, and which of its members and changes may be the cause.
+fn add_refusal(remarks: &mut Remarks, bytes: &[u8], refused: &DocRefused) -> Result<(), AllocError>
+    ensures { IfOk result (λ done. IsSaid remarks.new) }
+{
+    add_refused(remarks, "document", refused)?;
+    remarks.append(causes_of(remarks.alloc(), bytes, refused)?)
 }
 
 // Adds all remarks on a document, and gives it where `ats` takes it.
-fn add_all(remarks: &mut Remarks, bytes: &[u8]) -> Result<Option<Doc>, AllocError> {
+fn add_all(remarks: &mut Remarks, bytes: &[u8]) -> Result<Option<Doc>, AllocError>
+    ensures { IfOk result (IsReadAs bytes.now remarks.new) }
+{
     match document(remarks.alloc(), bytes) {
         Ok(doc) => {
             add_members(remarks, bytes)?;
@@ -115,7 +126,9 @@ fn add_all(remarks: &mut Remarks, bytes: &[u8]) -> Result<Option<Doc>, AllocErro
 }
 
 /// What a document says that has no effect or is likely a mistake; and if `ats` refuses it, why.
-pub fn lint(alloc: Global, bytes: &[u8]) -> Result<Vec<Remark>, AllocError> {
+pub fn lint(alloc: Global, bytes: &[u8]) -> Result<Vec<Remark>, AllocError>
+    ensures { IfOk result (λ remarks. remarks.items ≡ [] → AreDocument bytes.now) }
+{
     let mut remarks = Remarks::new(alloc);
     // Only the remarks are wanted, not the document.
     let _doc = add_all(&mut remarks, bytes)?;
@@ -123,7 +136,10 @@ pub fn lint(alloc: Global, bytes: &[u8]) -> Result<Vec<Remark>, AllocError> {
 }
 
 /// What [`lint`] says of a document, and then which sections of a former document are gone.
-pub fn lint_after(alloc: Global, bytes: &[u8], former: &[u8]) -> Result<Vec<Remark>, AllocError> {
+pub fn lint_after(alloc: Global, bytes: &[u8], former: &[u8]) -> Result<Vec<Remark>, AllocError>
+    ensures document { IfOk result (λ remarks. remarks.items ≡ [] → AreDocument bytes.now) }
+    ensures former { IfOk result (λ remarks. remarks.items ≡ [] → AreDocument former.now) }
+{
     let mut remarks = Remarks::new(alloc);
     let doc = add_all(&mut remarks, bytes)?;
     match document(alloc, former) {

@@ -1,6 +1,8 @@
 // Sections that have no effect, that a train overfills, or that are kept for good.
-ghost use Rattle.std.specs.Prelude.{◌<◌, length};
+ghost use Rattle.std.specs.Prelude.{◌<◌, ◌⊎◌, length};
 ghost use Rattle.rail_model.specs.Table.{trains};
+ghost use Rattle.document_lint.specs.Sections.{IsOverfullAtEnd, IsUnused, NeverBinds, OverfillsAlone};
+ghost use Rattle.document_lint.specs.Told.{SaysOnlyWhere};
 
 use crate::exact::{
     count_at_end, end_share, is_overfull_at_end, is_unused, most_together, never_binds,
@@ -35,6 +37,7 @@ fn add_overfilled(
 ) -> Result<(), AllocError>
     requires section { section < length subject.now.table.now.sections }
     requires train { train < trains subject.now.table.now }
+    ensures { SaysOnlyWhere (OverfillsAlone subject.now.table.now section train) remarks.old remarks.new }
 {
     if !overfills_alone(subject.table, section, train) {
         return Ok(());
@@ -90,6 +93,7 @@ fn add_overfull_at_end(
     section: u32,
 ) -> Result<(), AllocError>
     requires { section < length subject.now.table.now.sections }
+    ensures { SaysOnlyWhere (IsOverfullAtEnd subject.now.table.now section) remarks.old remarks.new }
 {
     if !is_overfull_at_end(subject.table, section) {
         return Ok(());
@@ -107,6 +111,7 @@ fn add_overfull_at_end(
 // Adds that a section has no effect, if it has none.
 fn add_idle(remarks: &mut Remarks, subject: &Subject, section: u32) -> Result<(), AllocError>
     requires { section < length subject.now.table.now.sections }
+    ensures { SaysOnlyWhere (IsUnused subject.now.table.now section ⊎ NeverBinds subject.now.table.now section) remarks.old remarks.new }
 {
     let alloc = remarks.alloc();
     let words = if is_unused(subject.table, section) {

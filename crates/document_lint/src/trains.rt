@@ -1,6 +1,8 @@
 // Trains that can't both arrive, and connections that hold nobody.
-ghost use Rattle.std.specs.Prelude.{◌<◌};
+ghost use Rattle.std.specs.Prelude.{◌<◌, IfSome};
 ghost use Rattle.rail_model.specs.Table.{trains};
+ghost use Rattle.document_lint.specs.Sections.{EndTogether};
+ghost use Rattle.document_lint.specs.Told.{EndsAsEarlier, SaysOnlyWhere};
 
 use crate::exact::end_together;
 use crate::remark::Remarks;
@@ -11,6 +13,7 @@ use std::alloc::AllocError;
 // The first train before another one that ends where it ends.
 fn first_partner(table: &Table, train: u32) -> Option<u32>
     requires { train < trains table.now }
+    ensures { IfSome result (λ first. (first < train) × EndTogether table.now first train) }
 {
     for first in 0..train {
         if end_together(table, first, train) {
@@ -23,6 +26,7 @@ fn first_partner(table: &Table, train: u32) -> Option<u32>
 // Adds that a train ends where an earlier one ends, if it does.
 fn add_train(remarks: &mut Remarks, subject: &Subject, train: u32) -> Result<(), AllocError>
     requires { train < trains subject.now.table.now }
+    ensures { SaysOnlyWhere (EndsAsEarlier subject.now.table.now train) remarks.old remarks.new }
 {
     let Some(first) = first_partner(subject.table, train) else {
         return Ok(());
