@@ -1,12 +1,12 @@
 -- Where the greatest share is, and that no share is above what all trains have together.
-use Rattle.std.proofs.Common.{◌≡◌, ◌≢◌, ℕ, zero, suc, ◌+◌, ◌<◌, ◌≤◌, ℤ, pos, ◌+ℤ◌, ◌≤ℤ◌, ◌<ℤ◌, ◌⊎◌, List, length, refl, ap, arith, inl, inr}
+use Rattle.std.proofs.Common.{◌≡◌, ℕ, zero, suc, ◌+◌, ◌<◌, ◌≤◌, ℤ, pos, ◌≤ℤ◌, ◌<ℤ◌, ◌⊎◌, List, length, ap, arith, inl, inr}
 use Rattle.std.proofs.lemmas.Bool.{cases_eq}
 use Rattle.std.proofs.lemmas.Int.{ints, clamps}
 use Rattle.rail_model.specs.Sums.{total_below, greatest}
 use Rattle.rail_model.specs.Table.{Table, IsTable, trains, last, limit, place, share, count}
 use Rattle.rail_model.specs.State.{Legal}
 use Rattle.rail_model.proofs.Sums.{total_mono, le_greatest}
-use Rattle.document_lint.specs.Sections.{most, NeverBinds, OverfillsAlone, EndTogether}
+use Rattle.document_lint.specs.Sections.{most}
 
 -- of two numbers one is at most the other
 either_way : (a b : ℤ) → (a ≤ℤ b) ⊎ (b <ℤ a)
