@@ -1,3 +1,3 @@
-mod Leaves
+pub mod Leaves
 mod Parses
 mod Rows

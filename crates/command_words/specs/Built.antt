@@ -1,9 +1,20 @@
 -- A command as it is built, piece by piece.
-use Rattle.std.specs.Prelude.{◌≡◌, ℕ, List, false, map}
-use Rattle.std.specs.Borrow.{Bor}
-use Rattle.clap.specs.Words.{App, Text, app_of}
+use Rattle.std.specs.Prelude.{◌≡◌, List, Some, fold, false}
+use Rattle.clap.specs.Words.{App, Rule, Shape, Text, app_of, new_app, new_rule, with_subcommand}
 use Rattle.clap.specs.declared.Command.{Command}
 use Rattle.clap.specs.declared.Command.TheViews.{out-Command}
+
+-- a long option of this name
+abbrev pub long_option : Text → Rule
+long_option name = record (new_rule name) { long = Some name }
+
+-- a subcommand of this name with these options
+unfoldable pub leaf : Text → List Rule → Shape
+leaf name rules = record (new_app name).top { rules = rules }
+
+-- the command with these subcommands more
+abbrev pub with_all : List Shape → App → App
+with_all more app = fold with_subcommand app more
 
 -- The command has no argument that its subcommands share.
 abbrev pub IsLocal : Command → Type 0
@@ -13,6 +24,6 @@ IsLocal command = (out-Command command).has_globals ≡ false
 abbrev pub IsBuiltAs : App → Command → Type 0
 IsBuiltAs app command = (app_of command ≡ app) × IsLocal command
 
--- the texts of a slice of them
-abbrev pub texts : List (Bor (List ℕ)) → List Text
-texts words = map (λ (word : Bor (List ℕ)). word.now) words
+-- What a parse reads of the command, as a subcommand, is `shape`.
+abbrev pub IsLeaf : Shape → Command → Type 0
+IsLeaf shape command = ((app_of command).top ≡ shape) × IsLocal command

@@ -1,4 +1,4 @@
+pub mod Built
 pub mod Options
 pub mod Subcommands
 pub mod Words
-pub mod Built

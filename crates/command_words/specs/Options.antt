@@ -1,8 +1,10 @@
 -- The options of the command line: each takes one whole number, and has a default where it isn't given.
 use Rattle.std.specs.Prelude.{ℕ, ◌≤◌, ◌&&◌, List, codes, nat_le, Option, Some, None, option_and_then, if◌then◌else◌}
 use Rattle.std.specs.Option.{option_map_or}
-use Rattle.clap.specs.Words.{Row, Text, first_of}
+use Rattle.clap.specs.Words.{Row, Rule, Text, first_of}
 use Rattle.decimal_number.specs.Decimal.{number_of}
+use Rattle.command_words.specs.Built.{long_option}
+use Rattle.command_words.specs.declared.options.NumberOption.{NumberOption as InCode}
 
 -- an option: its name, the numbers from `least` to `greatest` that it takes, and its default
 pub record NumberOption : Type 0 where
@@ -14,6 +16,14 @@ pub record NumberOption : Type 0 where
 -- the option of this name, least and greatest number, and default
 abbrev pub option : Text → ℕ → ℕ → ℕ → NumberOption
 option name least greatest default = record { name = name; least = least; greatest = greatest; default = default }
+
+-- an option of the code
+abbrev pub of : InCode → NumberOption
+of o = option o.name.now o.least o.greatest o.default
+
+-- what clap takes it for
+abbrev pub rule_for : InCode → Rule
+rule_for o = long_option o.name.now
 
 -- how many workers run the trains at once: 0, which is one thread alone
 abbrev pub workers : NumberOption

@@ -1,5 +1,5 @@
 -- The subcommands: the options of each, and what it asks for.
-use Rattle.std.specs.Prelude.{List, [], ◌∷◌, codes, Option, Some, option_and_then}
+use Rattle.std.specs.Prelude.{ℕ, List, [], ◌∷◌, codes, Option, Some, option_and_then}
 use Rattle.clap.specs.Words.{Row, Text}
 use Rattle.command_words.specs.Options.{NumberOption, TakesNumber, number, workers, rounds, block, budget, most, repair_rounds, seed, steps, trains}
 use Rattle.command_words.specs.declared.orders.Order.{Order}
@@ -16,111 +16,90 @@ pub record Subcommand : Type 0 where
   pub options : List NumberOption
   pub order : List Row → Option Order
 
+-- a subcommand with no option
+abbrev pub with_none : Text → Order → Subcommand
+with_none called asked = record { name = called; options = []; order = λ given. Some asked }
+
+-- a subcommand with one option, whose number the order has
+abbrev pub with_one : Text → NumberOption → (ℕ → Order) → Subcommand
+with_one called first asked = record {
+  name = called;
+  options = first ∷ [];
+  order = λ given. do
+    a ← number first given
+    Some (asked a);
+}
+
+-- a subcommand with two options, whose numbers the order has
+abbrev pub with_two : Text → NumberOption → NumberOption → (ℕ → ℕ → Order) → Subcommand
+with_two called first second asked = record {
+  name = called;
+  options = first ∷ second ∷ [];
+  order = λ given. do
+    a ← number first given
+    b ← number second given
+    Some (asked a b);
+}
+
+-- a subcommand with three options, whose numbers the order has
+abbrev pub with_three : Text → NumberOption → NumberOption → NumberOption → (ℕ → ℕ → ℕ → Order) → Subcommand
+with_three called first second third asked = record {
+  name = called;
+  options = first ∷ second ∷ third ∷ [];
+  order = λ given. do
+    a ← number first given
+    b ← number second given
+    c ← number third given
+    Some (asked a b c);
+}
+
 -- runs the trains of a document
 abbrev pub run : Subcommand
-run = record {
-  name = codes "run";
-  options = workers ∷ rounds ∷ block ∷ [];
-  order = λ given. do
-    w ← number workers given
-    r ← number rounds given
-    b ← number block given
-    Some (order.Run w r b);
-}
+run = with_three (codes "run") workers rounds block order.Run
 
 -- runs the trains of a document on from the beginning of a journal
 abbrev pub resume : Subcommand
-resume = record {
-  name = codes "resume";
-  options = workers ∷ rounds ∷ block ∷ [];
-  order = λ given. do
-    w ← number workers given
-    r ← number rounds given
-    b ← number block given
-    Some (order.Resume w r b);
-}
+resume = with_three (codes "resume") workers rounds block order.Resume
 
 -- checks the certificates of a document
 abbrev pub check : Subcommand
-check = record { name = codes "check"; options = []; order = λ given. Some order.Check }
+check = with_none (codes "check") order.Check
 
 -- checks a journal of a document
 abbrev pub verify : Subcommand
-verify = record { name = codes "verify"; options = []; order = λ given. Some order.Verify }
+verify = with_none (codes "verify") order.Verify
 
 -- brings a document of version 1 to version 2
 abbrev pub migrate : Subcommand
-migrate = record { name = codes "migrate"; options = []; order = λ given. Some order.Migrate }
+migrate = with_none (codes "migrate") order.Migrate
 
 -- makes the certificates of a document
 abbrev pub make : Subcommand
-make = record {
-  name = codes "make";
-  options = budget ∷ [];
-  order = λ given. do
-    b ← number budget given
-    Some (order.Make b);
-}
+make = with_one (codes "make") budget order.Make
 
 -- makes the sections of a document from rings of trains, and its certificates
 abbrev pub derive : Subcommand
-derive = record {
-  name = codes "derive";
-  options = most ∷ budget ∷ [];
-  order = λ given. do
-    m ← number most given
-    b ← number budget given
-    Some (order.Derive m b);
-}
+derive = with_two (codes "derive") most budget order.Derive
 
 -- makes the sections of a document from states that are stuck, and its certificates
 abbrev pub repair : Subcommand
-repair = record {
-  name = codes "repair";
-  options = budget ∷ repair_rounds ∷ [];
-  order = λ given. do
-    b ← number budget given
-    r ← number repair_rounds given
-    Some (order.Repair b r);
-}
+repair = with_two (codes "repair") budget repair_rounds order.Repair
 
 -- runs the trains of a document by the times that they take
 abbrev pub simulate : Subcommand
-simulate = record { name = codes "sim"; options = []; order = λ given. Some order.Simulate }
+simulate = with_none (codes "sim") order.Simulate
 
 -- makes a document from a seed
 abbrev pub generate : Subcommand
-generate = record {
-  name = codes "gen";
-  options = seed ∷ trains ∷ [];
-  order = λ given. do
-    s ← number seed given
-    n ← number trains given
-    Some (order.Generate s n);
-}
+generate = with_two (codes "gen") seed trains order.Generate
 
 -- makes a document from a seed, and runs its trains
 abbrev pub drill : Subcommand
-drill = record {
-  name = codes "drill";
-  options = seed ∷ trains ∷ workers ∷ [];
-  order = λ given. do
-    s ← number seed given
-    n ← number trains given
-    w ← number workers given
-    Some (order.Drill s n w);
-}
+drill = with_three (codes "drill") seed trains workers order.Drill
 
 -- makes turns of a document's trains and control, each by the one that is drawn, and finishes the run
 abbrev pub weave : Subcommand
-weave = record {
-  name = codes "weave";
-  options = seed ∷ steps ∷ [];
-  order = λ given. do
-    s ← number seed given
-    k ← number steps given
-    Some (order.Weave s k);
-}
+weave = with_two (codes "weave") seed steps order.Weave
 
 -- Each number of the order is one that its option takes.
 abbrev pub HasItsNumbers : Order → Type 0

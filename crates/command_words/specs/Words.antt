@@ -1,8 +1,10 @@
 -- What the words of a command line ask for: they are read by clap's definition of a command with one required
 -- subcommand and long options alone, which has no help words.
-use Rattle.std.specs.Prelude.{List, [], ◌∷◌, ◌++◌, codes, fold, map, true, Option, Some, None, find, option_and_then}
+use Rattle.std.specs.Prelude.{List, [], ◌∷◌, ◌++◌, codes, map, true, Option, None, find, option_and_then}
 use Rattle.std.specs.Str.{bytes_eq}
-use Rattle.clap.specs.Words.{App, Rule, Shape, Row, Text, Kinds, new_app, new_rule, with_rule, with_subcommand, fault_of, subcommand_of}
+use Rattle.clap.specs.Words.{App, Shape, Row, Text, Kinds, new_app, fault_of, subcommand_of}
+use Rattle.command_words.specs.Built.{long_option, with_all}
+unfoldable pub use Rattle.command_words.specs.Built.{leaf}
 use Rattle.command_words.specs.Subcommands as sub
 use Rattle.command_words.specs.Subcommands.{Subcommand}
 use Rattle.command_words.specs.declared.orders.Order.{Order}
@@ -23,33 +25,19 @@ trials = sub.simulate ∷ sub.generate ∷ sub.drill ∷ sub.weave ∷ []
 abbrev pub subcommands : List Subcommand
 subcommands = runs ++ makers ++ trials
 
--- a long option of this name, with one value
-abbrev pub rule : Text → Rule
-rule name = record (new_rule name) { long = Some name }
-
--- a subcommand of this name, with options of these names
-unfoldable pub leaf : Text → List Text → App
-leaf name options = fold (λ app option. with_rule app (rule option)) (new_app name) options
-
--- the command with this subcommand more
-abbrev pub with_one : App → Subcommand → App
-with_one app s = with_subcommand app (leaf s.name (map (λ o. o.name) s.options)).top
-
--- the command with these subcommands more
-abbrev pub with_all : List Subcommand → App → App
-with_all more app = fold with_one app more
-
--- the settings of the command itself
-abbrev pub as_top : Shape → Shape
-as_top s = record s { no_binary_name = true; subcommand_required = true; disable_help_flag = true; disable_help_subcommand = true }
+-- a subcommand as clap takes it
+abbrev pub shape_of : Subcommand → Shape
+shape_of s = leaf s.name (map (λ o. long_option o.name) s.options)
 
 -- the command before any subcommand: one is required, and there are no help words
 abbrev pub start : App
-start = let app = new_app (codes "ats") in record app { top = as_top app.top }
+start =
+    let app = new_app (codes "ats") in
+    record app { top = record app.top { no_binary_name = true; subcommand_required = true; disable_help_flag = true; disable_help_subcommand = true } }
 
 -- the whole command
 abbrev pub ats : App
-ats = with_all subcommands start
+ats = with_all (map shape_of subcommands) start
 
 -- what a subcommand of this name asks for
 abbrev pub order_of : Text × List Row → Option Order

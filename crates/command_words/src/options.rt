@@ -1,4 +1,4 @@
-// The number of each option, of what clap found.
+// The options of the command line, and the number of each, of what clap found.
 ghost use Rattle.std.specs.Prelude.{◌≡◌, ◌≤◌, IfSome};
 ghost use Rattle.clap.specs.Words.{found_of, rows_of};
 ghost use Rattle.command_words.specs.Options as spec;
@@ -6,108 +6,88 @@ ghost use Rattle.command_words.specs.Options as spec;
 use clap::ArgMatches;
 use decimal_number::number_of;
 
-const MOST_WORKERS: u32 = 16;
-
-const MOST_ROUNDS: u32 = 1_000_000;
-
-const DEFAULT_ROUNDS: u32 = 1000;
-
-const MOST_BLOCK: u32 = 4;
-
-const MOST_STEPS: u32 = 1_000_000;
-
-const MOST_NODES: u32 = 1_000_000;
-
-const LEAST_RING: u32 = 2;
-
-const GREATEST_RING: u32 = 8;
-
-const MOST_REPAIR_ROUNDS: u32 = 10_000;
-
-const MOST_TRAINS: u32 = 32;
-
-const DEFAULT_TRAINS: u32 = 2;
-
-pub(crate) fn workers(matches: &ArgMatches<'_>) -> Option<u32>
-    ensures exact { result ≡ spec.number spec.workers (rows_of (found_of matches.now)) }
-    ensures within { IfSome result (spec.TakesNumber spec.workers) }
-{
-    number(matches, "workers", 0, MOST_WORKERS, 0)
-}
-
-pub(crate) fn rounds(matches: &ArgMatches<'_>) -> Option<u32>
-    ensures exact { result ≡ spec.number spec.rounds (rows_of (found_of matches.now)) }
-    ensures within { IfSome result (spec.TakesNumber spec.rounds) }
-{
-    number(matches, "rounds", 0, MOST_ROUNDS, DEFAULT_ROUNDS)
-}
-
-pub(crate) fn block(matches: &ArgMatches<'_>) -> Option<u32>
-    ensures exact { result ≡ spec.number spec.block (rows_of (found_of matches.now)) }
-    ensures within { IfSome result (spec.TakesNumber spec.block) }
-{
-    number(matches, "block", 1, MOST_BLOCK, 1)
-}
-
-pub(crate) fn steps(matches: &ArgMatches<'_>) -> Option<u32>
-    ensures exact { result ≡ spec.number spec.steps (rows_of (found_of matches.now)) }
-    ensures within { IfSome result (spec.TakesNumber spec.steps) }
-{
-    number(matches, "steps", 0, MOST_STEPS, 0)
-}
-
-pub(crate) fn budget(matches: &ArgMatches<'_>) -> Option<u32>
-    ensures exact { result ≡ spec.number spec.budget (rows_of (found_of matches.now)) }
-    ensures within { IfSome result (spec.TakesNumber spec.budget) }
-{
-    number(matches, "budget", 1, MOST_NODES, MOST_NODES)
-}
-
-pub(crate) fn most(matches: &ArgMatches<'_>) -> Option<u32>
-    ensures exact { result ≡ spec.number spec.most (rows_of (found_of matches.now)) }
-    ensures within { IfSome result (spec.TakesNumber spec.most) }
-{
-    number(matches, "most", LEAST_RING, GREATEST_RING, LEAST_RING)
-}
-
-pub(crate) fn repair_rounds(matches: &ArgMatches<'_>) -> Option<u32>
-    ensures exact { result ≡ spec.number spec.repair_rounds (rows_of (found_of matches.now)) }
-    ensures within { IfSome result (spec.TakesNumber spec.repair_rounds) }
-{
-    number(matches, "rounds", 0, MOST_REPAIR_ROUNDS, DEFAULT_ROUNDS)
-}
-
-pub(crate) fn seed(matches: &ArgMatches<'_>) -> Option<u32>
-    ensures exact { result ≡ spec.number spec.seed (rows_of (found_of matches.now)) }
-    ensures within { IfSome result (spec.TakesNumber spec.seed) }
-{
-    number(matches, "seed", 0, u32::MAX, 0)
-}
-
-pub(crate) fn trains(matches: &ArgMatches<'_>) -> Option<u32>
-    ensures exact { result ≡ spec.number spec.trains (rows_of (found_of matches.now)) }
-    ensures within { IfSome result (spec.TakesNumber spec.trains) }
-{
-    number(matches, "trains", 0, MOST_TRAINS, DEFAULT_TRAINS)
-}
-
-// The number of the option, or its default where it isn't given.
-fn number(
-    matches: &ArgMatches<'_>,
-    name: &str,
+/// An option: its name, the numbers from `least` to `greatest` that it takes, and the one that it has where it isn't given.
+#[derive(Clone, Copy)]
+pub(crate) struct NumberOption {
+    pub(crate) name: &'static str,
     least: u32,
     greatest: u32,
     default: u32,
-) -> Option<u32>
-    requires not_low { least ≤ default }
-    requires not_high { default ≤ greatest }
-    ensures exact { result ≡ spec.number (spec.option name.now least greatest default)
-        (rows_of (found_of matches.now)) }
-    ensures within { IfSome result (λ n. (least ≤ n) × (n ≤ greatest)) }
+}
+
+pub(crate) const WORKERS: NumberOption = NumberOption {
+    name: "workers",
+    least: 0,
+    greatest: 16,
+    default: 0,
+};
+
+pub(crate) const ROUNDS: NumberOption = NumberOption {
+    name: "rounds",
+    least: 0,
+    greatest: 1_000_000,
+    default: 1000,
+};
+
+pub(crate) const BLOCK: NumberOption = NumberOption {
+    name: "block",
+    least: 1,
+    greatest: 4,
+    default: 1,
+};
+
+pub(crate) const STEPS: NumberOption = NumberOption {
+    name: "steps",
+    least: 0,
+    greatest: 1_000_000,
+    default: 0,
+};
+
+pub(crate) const BUDGET: NumberOption = NumberOption {
+    name: "budget",
+    least: 1,
+    greatest: 1_000_000,
+    default: 1_000_000,
+};
+
+pub(crate) const MOST: NumberOption = NumberOption {
+    name: "most",
+    least: 2,
+    greatest: 8,
+    default: 2,
+};
+
+pub(crate) const REPAIR_ROUNDS: NumberOption = NumberOption {
+    name: "rounds",
+    least: 0,
+    greatest: 10_000,
+    default: 1000,
+};
+
+pub(crate) const SEED: NumberOption = NumberOption {
+    name: "seed",
+    least: 0,
+    greatest: u32::MAX,
+    default: 0,
+};
+
+pub(crate) const TRAINS: NumberOption = NumberOption {
+    name: "trains",
+    least: 0,
+    greatest: 32,
+    default: 2,
+};
+
+/// The number of the option, or its default where it isn't given.
+pub(crate) fn number(matches: &ArgMatches<'_>, option: &NumberOption) -> Option<u32>
+    requires not_low { option.now.least ≤ option.now.default }
+    requires not_high { option.now.default ≤ option.now.greatest }
+    ensures exact { result ≡ spec.number (spec.of option.now) (rows_of (found_of matches.now)) }
+    ensures within { IfSome result (spec.TakesNumber (spec.of option.now)) }
 {
-    match matches.get_str(name) {
-        Some(text) => number_between(least, greatest, text),
-        None => Some(default),
+    match matches.get_str(option.name) {
+        Some(text) => number_between(option.least, option.greatest, text),
+        None => Some(option.default),
     }
 }
 

@@ -4,7 +4,9 @@ ghost use Rattle.clap.specs.Words.{found_of, rows_of, subcommand_rows_of};
 ghost use Rattle.command_words.specs.Subcommands as sub;
 ghost use Rattle.command_words.specs.Words as spec;
 
-use crate::options::{block, budget, most, repair_rounds, rounds, seed, steps, trains, workers};
+use crate::options::{
+    BLOCK, BUDGET, MOST, REPAIR_ROUNDS, ROUNDS, SEED, STEPS, TRAINS, WORKERS, number,
+};
 use crate::orders::{Order, WordsRefused};
 use crate::table::command;
 use clap::ArgMatches;
@@ -69,9 +71,9 @@ fn run(matches: &ArgMatches<'_>) -> Option<Order>
     ensures exact { result ≡ sub.run.order (rows_of (found_of matches.now)) }
     ensures within { IfSome result sub.HasItsNumbers }
 {
-    let workers = workers(matches)?;
-    let rounds = rounds(matches)?;
-    let block = block(matches)?;
+    let workers = number(matches, &WORKERS)?;
+    let rounds = number(matches, &ROUNDS)?;
+    let block = number(matches, &BLOCK)?;
     Some(Order::Run {
         workers,
         rounds,
@@ -83,9 +85,9 @@ fn resume(matches: &ArgMatches<'_>) -> Option<Order>
     ensures exact { result ≡ sub.resume.order (rows_of (found_of matches.now)) }
     ensures within { IfSome result sub.HasItsNumbers }
 {
-    let workers = workers(matches)?;
-    let rounds = rounds(matches)?;
-    let block = block(matches)?;
+    let workers = number(matches, &WORKERS)?;
+    let rounds = number(matches, &ROUNDS)?;
+    let block = number(matches, &BLOCK)?;
     Some(Order::Resume {
         workers,
         rounds,
@@ -97,7 +99,7 @@ fn make(matches: &ArgMatches<'_>) -> Option<Order>
     ensures exact { result ≡ sub.make.order (rows_of (found_of matches.now)) }
     ensures within { IfSome result sub.HasItsNumbers }
 {
-    let budget = budget(matches)?;
+    let budget = number(matches, &BUDGET)?;
     Some(Order::Make { budget })
 }
 
@@ -105,8 +107,8 @@ fn derive(matches: &ArgMatches<'_>) -> Option<Order>
     ensures exact { result ≡ sub.derive.order (rows_of (found_of matches.now)) }
     ensures within { IfSome result sub.HasItsNumbers }
 {
-    let most = most(matches)?;
-    let budget = budget(matches)?;
+    let most = number(matches, &MOST)?;
+    let budget = number(matches, &BUDGET)?;
     Some(Order::Derive { most, budget })
 }
 
@@ -114,8 +116,8 @@ fn repair(matches: &ArgMatches<'_>) -> Option<Order>
     ensures exact { result ≡ sub.repair.order (rows_of (found_of matches.now)) }
     ensures within { IfSome result sub.HasItsNumbers }
 {
-    let budget = budget(matches)?;
-    let rounds = repair_rounds(matches)?;
+    let budget = number(matches, &BUDGET)?;
+    let rounds = number(matches, &REPAIR_ROUNDS)?;
     Some(Order::Repair { budget, rounds })
 }
 
@@ -123,8 +125,8 @@ fn generate(matches: &ArgMatches<'_>) -> Option<Order>
     ensures exact { result ≡ sub.generate.order (rows_of (found_of matches.now)) }
     ensures within { IfSome result sub.HasItsNumbers }
 {
-    let seed = seed(matches)?;
-    let trains = trains(matches)?;
+    let seed = number(matches, &SEED)?;
+    let trains = number(matches, &TRAINS)?;
     Some(Order::Generate { seed, trains })
 }
 
@@ -132,9 +134,9 @@ fn drill(matches: &ArgMatches<'_>) -> Option<Order>
     ensures exact { result ≡ sub.drill.order (rows_of (found_of matches.now)) }
     ensures within { IfSome result sub.HasItsNumbers }
 {
-    let seed = seed(matches)?;
-    let trains = trains(matches)?;
-    let workers = workers(matches)?;
+    let seed = number(matches, &SEED)?;
+    let trains = number(matches, &TRAINS)?;
+    let workers = number(matches, &WORKERS)?;
     Some(Order::Drill {
         seed,
         trains,
@@ -146,7 +148,7 @@ fn weave(matches: &ArgMatches<'_>) -> Option<Order>
     ensures exact { result ≡ sub.weave.order (rows_of (found_of matches.now)) }
     ensures within { IfSome result sub.HasItsNumbers }
 {
-    let seed = seed(matches)?;
-    let steps = steps(matches)?;
+    let seed = number(matches, &SEED)?;
+    let steps = number(matches, &STEPS)?;
     Some(Order::Weave { seed, steps })
 }

@@ -1,9 +1,13 @@
 // The command as clap takes it.
-ghost use Rattle.std.specs.Prelude.{◌≡◌, false, IfOk};
+ghost use Rattle.std.specs.Prelude.{◌≡◌, false, map, IfOk};
 ghost use Rattle.clap.specs.Words.{app_of, rule_of, with_subcommand};
+ghost use Rattle.command_words.specs.Built.{IsBuiltAs, IsLeaf, IsLocal, leaf, long_option, with_all};
+ghost use Rattle.command_words.specs.Options.{rule_for};
 ghost use Rattle.command_words.specs.Words as spec;
-ghost use Rattle.command_words.specs.Built.{IsBuiltAs, IsLocal, texts};
 
+use crate::options::{
+    BLOCK, BUDGET, MOST, NumberOption, REPAIR_ROUNDS, ROUNDS, SEED, STEPS, TRAINS, WORKERS,
+};
 use clap::{Arg, Command};
 use std::alloc::{AllocError, Global};
 
@@ -29,9 +33,9 @@ fn start<'a>(alloc: Global) -> Command<'a>
 
 fn with_runs<'a>(alloc: Global, command: Command<'a>) -> Result<Command<'a>, AllocError>
     requires { IsLocal command }
-    ensures { IfOk result (IsBuiltAs (spec.with_all spec.runs (app_of command.entry))) }
+    ensures { IfOk result (IsBuiltAs (with_all (map spec.shape_of spec.runs) (app_of command.entry))) }
 {
-    let options: &[&str] = &["workers", "rounds", "block"];
+    let options: &[NumberOption] = &[WORKERS, ROUNDS, BLOCK];
     let command = with_subcommand(alloc, command, "run", options)?;
     let command = with_subcommand(alloc, command, "resume", options)?;
     let command = with_subcommand(alloc, command, "check", &[])?;
@@ -40,50 +44,54 @@ fn with_runs<'a>(alloc: Global, command: Command<'a>) -> Result<Command<'a>, All
 
 fn with_makers<'a>(alloc: Global, command: Command<'a>) -> Result<Command<'a>, AllocError>
     requires { IsLocal command }
-    ensures { IfOk result (IsBuiltAs (spec.with_all spec.makers (app_of command.entry))) }
+    ensures { IfOk result (IsBuiltAs (with_all (map spec.shape_of spec.makers) (app_of command.entry))) }
 {
     let command = with_subcommand(alloc, command, "migrate", &[])?;
-    let command = with_subcommand(alloc, command, "make", &["budget"])?;
-    let command = with_subcommand(alloc, command, "derive", &["most", "budget"])?;
-    with_subcommand(alloc, command, "repair", &["budget", "rounds"])
+    let command = with_subcommand(alloc, command, "make", &[BUDGET])?;
+    let command = with_subcommand(alloc, command, "derive", &[MOST, BUDGET])?;
+    with_subcommand(alloc, command, "repair", &[BUDGET, REPAIR_ROUNDS])
 }
 
 fn with_trials<'a>(alloc: Global, command: Command<'a>) -> Result<Command<'a>, AllocError>
     requires { IsLocal command }
-    ensures { IfOk result (IsBuiltAs (spec.with_all spec.trials (app_of command.entry))) }
+    ensures { IfOk result (IsBuiltAs (with_all (map spec.shape_of spec.trials) (app_of command.entry))) }
 {
     let command = with_subcommand(alloc, command, "sim", &[])?;
-    let command = with_subcommand(alloc, command, "gen", &["seed", "trains"])?;
-    let command = with_subcommand(alloc, command, "drill", &["seed", "trains", "workers"])?;
-    with_subcommand(alloc, command, "weave", &["seed", "steps"])
+    let command = with_subcommand(alloc, command, "gen", &[SEED, TRAINS])?;
+    let command = with_subcommand(alloc, command, "drill", &[SEED, TRAINS, WORKERS])?;
+    with_subcommand(alloc, command, "weave", &[SEED, STEPS])
 }
 
 // The command with one more subcommand, which has these options.
 fn with_subcommand<'a>(
     alloc: Global,
     command: Command<'a>,
-    name: &'a str,
-    options: &[&'a str],
+    name: &'static str,
+    options: &[NumberOption],
 ) -> Result<Command<'a>, AllocError>
     requires { IsLocal command }
-    ensures { IfOk result (IsBuiltAs (with_subcommand (app_of command.entry) (spec.leaf name.entry.now (texts options.now)).top)) }
+    ensures { IfOk result (IsBuiltAs (with_subcommand (app_of command.entry) (leaf name.entry.now (map rule_for options.now)))) }
 {
     command.subcommand(leaf(alloc, name, options)?)
 }
 
 // A subcommand with these options.
-fn leaf<'a>(alloc: Global, name: &'a str, options: &[&'a str]) -> Result<Command<'a>, AllocError>
-    ensures { IfOk result (IsBuiltAs (spec.leaf name.entry.now (texts options.now))) }
+fn leaf<'a>(
+    alloc: Global,
+    name: &'static str,
+    options: &[NumberOption],
+) -> Result<Command<'a>, AllocError>
+    ensures { IfOk result (IsLeaf (leaf name.entry.now (map rule_for options.now))) }
 {
     let mut command = Command::new(alloc, name);
-    for &option in options {
-        command = command.arg(long_option(alloc, option))?;
+    for option in options {
+        command = command.arg(long_option(alloc, option.name))?;
     }
     Ok(command)
 }
 
-fn long_option<'a>(alloc: Global, name: &'a str) -> Arg<'a>
-    ensures rule { rule_of result ≡ spec.rule name.entry.now }
+fn long_option<'a>(alloc: Global, name: &'static str) -> Arg<'a>
+    ensures rule { rule_of result ≡ long_option name.entry.now }
     ensures local { result.global ≡ false }
 {
     Arg::new(alloc, name).long(name)

@@ -7,7 +7,10 @@ use Rattle.command_words.proofs.options.number.Goals as goal
 
 pub returns-in-Some-clause-exact : goal.returns-in-Some-clause-exact
 returns-in-Some-clause-exact c =
-    c.number_between.ensures.exact ∙ ap (λ o. option_map_or (number_between c.args.least c.args.greatest) o (Some c.args.default)) (c.in-Some.ensures ∙ first_value-rows (found_of c.args.matches.now) c.args.name.now)
+    let o = c.args.option.now in
+    c.number_between.ensures.exact ∙ ap (λ found. option_map_or (number_between o.least o.greatest) found (Some o.default)) (c.in-Some.ensures ∙ first_value-rows (found_of c.args.matches.now) o.name.now)
 
 pub returns-in-None-clause-exact : goal.returns-in-None-clause-exact
-returns-in-None-clause-exact c = ap (λ o. option_map_or (number_between c.args.least c.args.greatest) o (Some c.args.default)) (c.in-None.ensures ∙ first_value-rows (found_of c.args.matches.now) c.args.name.now)
+returns-in-None-clause-exact c =
+    let o = c.args.option.now in
+    ap (λ found. option_map_or (number_between o.least o.greatest) found (Some o.default)) (c.in-None.ensures ∙ first_value-rows (found_of c.args.matches.now) o.name.now)
