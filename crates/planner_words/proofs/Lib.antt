@@ -1,1 +1,3 @@
 mod Parses
+mod Refusals
+mod Rows

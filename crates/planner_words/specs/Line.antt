@@ -1,15 +1,14 @@
 -- The command as clap takes it: its subcommands and their options.
-use Rattle.std.specs.Prelude.{◌≡◌, List, [], ◌∷◌, codes, fold, map, true, false, Some, if◌then◌else◌}
-use Rattle.clap.specs.Words.{App, Rule, Shape, Text, app_of, new_app, new_rule, with_subcommand}
-use Rattle.clap.specs.Walk.{is_empty}
-use Rattle.clap.specs.declared.Command.{Command}
+use Rattle.std.specs.Prelude.{List, [], ◌∷◌, codes, true, false, Some}
+use Rattle.clap.specs.Words.{App, Rule, Shape, Text, new_app}
 use Rattle.clap.specs.declared.builder.action.ArgAction.TheVariants.{Set, SetTrue}
-use Rattle.command_words.specs.Built.{IsLocal}
+use Rattle.command_words.specs.Built.{leaf, long_option, with_all}
 use Rattle.planner_words.specs.declared.asking.Choice.{Choice}
+use Rattle.planner_words.specs.declared.asking.Choice.TheVariants.{Flag, Value, Excluding}
 
 -- an option with one value
 abbrev pub valued : Text → Rule
-valued name = record (new_rule name) { long = Some name; action = Some Set; value_names = 1 }
+valued name = record (long_option name) { action = Some Set; value_names = 1 }
 
 -- the same, which can't go with some other one
 abbrev pub excluding : Text → Rule
@@ -17,15 +16,13 @@ excluding name = record (valued name) { is_free = false }
 
 -- an option with no value
 abbrev pub flag : Text → Rule
-flag name = record (new_rule name) { long = Some name; action = Some SetTrue }
+flag name = record (long_option name) { action = Some SetTrue }
 
 -- what clap takes an option for
 abbrev pub rule_for : Choice → Rule
-rule_for c = if is_empty c.value.now then flag c.name.now else if is_empty c.without.now then valued c.name.now else excluding c.name.now
-
--- a subcommand with these options
-abbrev pub leaf : Text → List Rule → Shape
-leaf name rules = record (new_app name).top { rules = rules }
+rule_for (Flag name help) = flag name.now
+rule_for (Value name value help) = valued name.now
+rule_for (Excluding name value help without) = excluding name.now
 
 -- the command before any subcommand
 abbrev pub start : App
@@ -52,9 +49,9 @@ graph = leaf (codes "graph") (valued (codes "train") ∷ [])
 abbrev pub layout : Shape
 layout = leaf (codes "layout") (valued (codes "at") ∷ valued (codes "table") ∷ [])
 
--- the command with these subcommands more
-abbrev pub with_all : List Shape → App → App
-with_all more app = fold with_subcommand app more
+-- those that make or read a document alone
+abbrev pub documents : List Shape
+documents = plan ∷ explain ∷ lint ∷ []
 
 -- those that read a run, or draw
 abbrev pub pictures : List Shape
@@ -62,8 +59,4 @@ pictures = timetable ∷ graph ∷ layout ∷ []
 
 -- the whole command
 abbrev pub planner : App
-planner = with_all pictures (with_all (plan ∷ explain ∷ lint ∷ []) start)
-
--- The command is a subcommand with these options.
-abbrev pub IsLeaf : Text → List Choice → Command → Type 0
-IsLeaf name choices command = ((app_of command).top ≡ leaf name (map rule_for choices)) × IsLocal command
+planner = with_all pictures (with_all documents start)

@@ -1,7 +1,8 @@
 // The command as clap takes it.
 ghost use Rattle.std.specs.Prelude.{◌≡◌, false, IfOk, map};
+ghost use Rattle.clap.specs.Built.{IsPlainArg};
 ghost use Rattle.clap.specs.Words.{app_of, rule_of, with_subcommand};
-ghost use Rattle.command_words.specs.Built.{IsBuiltAs, IsLocal};
+ghost use Rattle.command_words.specs.Built.{IsBuiltAs, IsLeaf, IsLocal, leaf, long_option, with_all};
 ghost use Rattle.planner_words.specs.Line as spec;
 
 use clap::{Arg, ArgAction, Command};
@@ -11,62 +12,70 @@ const ABOUT: &str = "Writes documents of ats from plans, and explains, checks an
 
 It reads standard input and writes standard output. What is wrong goes to standard error, a line each.";
 
-// An option: what its value is called, empty if it takes none, and the option that it can't go with, if there is one.
+// An option.
 #[derive(Clone, Copy)]
-struct Choice {
-    name: &'static str,
-    value: &'static str,
-    help: &'static str,
-    without: &'static str,
+enum Choice {
+    // It takes no value.
+    Flag {
+        name: &'static str,
+        help: &'static str,
+    },
+    // It takes a value, which help calls `value`.
+    Value {
+        name: &'static str,
+        value: &'static str,
+        help: &'static str,
+    },
+    // The same, and it can't go with the option `without`.
+    Excluding {
+        name: &'static str,
+        value: &'static str,
+        help: &'static str,
+        without: &'static str,
+    },
 }
 
-const AT: Choice = Choice {
+const AT: Choice = Choice::Excluding {
     name: "at",
     value: "PLACES",
     help: "The place of each train, as 1,0,2",
     without: "line",
 };
 
-const TABLE: Choice = Choice {
+const TABLE: Choice = Choice::Value {
     name: "table",
     value: "NUMBER",
     help: "The table, counted from 0 (default: 0)",
-    without: "",
 };
 
-const LINE: Choice = Choice {
+const LINE: Choice = Choice::Excluding {
     name: "line",
     value: "LINE",
     help: "A line that `ats` wrote to standard error",
     without: "table",
 };
 
-const BEFORE: Choice = Choice {
+const BEFORE: Choice = Choice::Value {
     name: "before",
     value: "FILE",
     help: "A former document: lists its sections that are gone",
-    without: "",
 };
 
-const CSV: Choice = Choice {
+const CSV: Choice = Choice::Flag {
     name: "csv",
-    value: "",
     help: "With commas instead of columns",
-    without: "",
 };
 
-const TRAIN: Choice = Choice {
+const TRAIN: Choice = Choice::Value {
     name: "train",
     value: "NAME",
     help: "The train whose route is the axis of places (default: the longest route)",
-    without: "",
 };
 
-const AT_OR_START: Choice = Choice {
+const AT_OR_START: Choice = Choice::Value {
     name: "at",
     value: "PLACES",
     help: "The place of each train, as 1,0,2 (default: the start)",
-    without: "",
 };
 
 /// The whole command.
@@ -96,7 +105,7 @@ fn start<'a>(alloc: Global) -> Command<'a>
 
 fn with_pictures<'a>(alloc: Global, command: Command<'a>) -> Result<Command<'a>, AllocError>
     requires { IsLocal command }
-    ensures { IfOk result (IsBuiltAs (spec.with_all spec.pictures (app_of command.entry))) }
+    ensures { IfOk result (IsBuiltAs (with_all spec.pictures (app_of command.entry))) }
 {
     let about =
         "Reads a document, a line `journal` and what `ats sim` wrote; writes when each train arrives, leaves and waits";
@@ -116,7 +125,7 @@ fn with_subcommand<'a>(
     choices: &[Choice],
 ) -> Result<Command<'a>, AllocError>
     requires { IsLocal command }
-    ensures { IfOk result (IsBuiltAs (with_subcommand (app_of command.entry) (spec.leaf name.entry.now (map spec.rule_for choices.now)))) }
+    ensures { IfOk result (IsBuiltAs (with_subcommand (app_of command.entry) (leaf name.entry.now (map spec.rule_for choices.now)))) }
 {
     command.subcommand(leaf(alloc, name, about, choices)?)
 }
@@ -128,7 +137,7 @@ fn leaf<'a>(
     about: &'static str,
     choices: &[Choice],
 ) -> Result<Command<'a>, AllocError>
-    ensures { IfOk result (spec.IsLeaf name.entry.now choices.now) }
+    ensures { IfOk result (IsLeaf (leaf name.entry.now (map spec.rule_for choices.now))) }
 {
     let mut command = Command::new(alloc, name).about(about);
     for choice in choices {
@@ -140,15 +149,35 @@ fn leaf<'a>(
 fn option<'a>(alloc: Global, choice: &Choice) -> Result<Arg<'a>, AllocError>
     ensures { IfOk result (λ arg. (rule_of arg ≡ spec.rule_for choice.now) × (arg.global ≡ false)) }
 {
-    let arg = Arg::new(alloc, choice.name)
-        .long(choice.name)
-        .help(choice.help);
-    if choice.value.is_empty() {
-        return Ok(arg.action(ArgAction::SetTrue));
+    match *choice {
+        Choice::Flag { name, help } => Ok(long_option(alloc, name, help).action(
+            ArgAction::SetTrue,
+        )),
+        Choice::Value { name, value, help } => Ok(valued(alloc, name, value, help)),
+        Choice::Excluding {
+            name,
+            value,
+            help,
+            without,
+        } => valued(alloc, name, value, help).conflicts_with(without),
     }
-    let arg = arg.value_name(choice.value).action(ArgAction::Set);
-    if choice.without.is_empty() {
-        return Ok(arg);
-    }
-    arg.conflicts_with(choice.without)
+}
+
+// An option with one value.
+fn valued<'a>(alloc: Global, name: &'static str, value: &'static str, help: &'static str) -> Arg<'a>
+    ensures rule { rule_of result ≡ spec.valued name.entry.now }
+    ensures local { result.global ≡ false }
+    ensures plain { IsPlainArg result }
+{
+    long_option(alloc, name, help)
+        .value_name(value)
+        .action(ArgAction::Set)
+}
+
+fn long_option<'a>(alloc: Global, name: &'static str, help: &'static str) -> Arg<'a>
+    ensures rule { rule_of result ≡ long_option name.entry.now }
+    ensures local { result.global ≡ false }
+    ensures plain { IsPlainArg result }
+{
+    Arg::new(alloc, name).long(name).help(help)
 }

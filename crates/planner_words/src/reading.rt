@@ -1,7 +1,8 @@
 // Reading the words.
-ghost use Rattle.std.specs.Prelude.{◌≡◌, IfOk, IsSomeAnd, codes, map, string_bytes};
-ghost use Rattle.clap.specs.Words.{found_of, kind_of, rows_of, subcommand_rows_of};
-ghost use Rattle.planner_words.specs.Answered.{AnswersWords};
+ghost use Rattle.std.specs.Prelude.{◌≡◌, IfErr, IfOk, IsSomeAnd, Some, codes, map, string_bytes, true};
+ghost use Rattle.clap.specs.Words.{found_of, kind_of, rows_of, subcommand_of, subcommand_rows_of, takes};
+ghost use Rattle.planner_words.specs.Answered.{AnswersWords, MissesNone};
+ghost use Rattle.planner_words.specs.Line.{planner};
 ghost use Rattle.planner_words.specs.Named.{AsksFor, IsAsked, table_in};
 
 use crate::asking::command;
@@ -18,7 +19,10 @@ const NO_COMMAND: &str = "planner: no such command\n";
 ///
 /// A text to show, for help and the version; a text that says what is wrong with the words; out of memory.
 pub fn words<'a>(alloc: Global, words: &'a [String]) -> Result<Order<'a>, WordsAnswered>
-    ensures { IfOk result (IsAsked (map string_bytes words.now)) }
+    ensures asked { IfOk result (IsAsked (map string_bytes words.now)) }
+    // Words that clap takes, and that ask for an order, get it if there is memory.
+    ensures answered { takes planner (map string_bytes words.now) ≡ true
+        → IfErr result (MissesNone (subcommand_of planner (map string_bytes words.now))) }
 {
     let Ok(command) = command(alloc) else {
         return Err(WordsAnswered::Memory);
@@ -47,7 +51,8 @@ fn answer_to(alloc: Global, error: &Error) -> WordsAnswered
 }
 
 fn order_of<'a>(alloc: Global, matches: &ArgMatches<'a>) -> Result<Order<'a>, WordsAnswered>
-    ensures { IfOk result (λ order. IsSomeAnd (subcommand_rows_of matches.now) (AsksFor order)) }
+    ensures asked { IfOk result (λ order. IsSomeAnd (subcommand_rows_of matches.now) (AsksFor order)) }
+    ensures answered { IfErr result (MissesNone (subcommand_rows_of matches.now)) }
 {
     match matches.subcommand() {
         Some((name, inner)) => order_called(alloc, name, inner),
@@ -70,7 +75,8 @@ fn order_called<'a>(
     name: &str,
     matches: &ArgMatches<'a>,
 ) -> Result<Order<'a>, WordsAnswered>
-    ensures { IfOk result (λ order. AsksFor order (name.now, rows_of (found_of matches.now))) }
+    ensures asked { IfOk result (λ order. AsksFor order (name.now, rows_of (found_of matches.now))) }
+    ensures answered { IfErr result (MissesNone (Some (name.now, rows_of (found_of matches.now)))) }
 {
     match name {
         "plan" => Ok(Order::Plan),
@@ -100,7 +106,8 @@ fn table_in<'a>(matches: &ArgMatches<'a>) -> &'a str
 }
 
 fn explain<'a>(alloc: Global, matches: &ArgMatches<'a>) -> Result<Order<'a>, WordsAnswered>
-    ensures { IfOk result (λ order. AsksFor order (codes "explain", rows_of (found_of matches.now))) }
+    ensures asked { IfOk result (λ order. AsksFor order (codes "explain", rows_of (found_of matches.now))) }
+    ensures answered { IfErr result (MissesNone (Some (codes "explain", rows_of (found_of matches.now)))) }
 {
     match (matches.get_str("at"), matches.get_str("line")) {
         (Some(at), _) => Ok(Order::ExplainState {

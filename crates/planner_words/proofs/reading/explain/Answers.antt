@@ -1,13 +1,20 @@
-use Rattle.std.proofs.Common.{◌∙◌, codes, refl}
-use Rattle.clap.specs.Words.{found_of}
+use Rattle.std.proofs.Common.{◌∙◌, codes, refl, Some}
+use Rattle.clap.specs.Words.{found_of, rows_of}
 use Rattle.clap.proofs.WalkLemmas.{first_value-rows}
+use Rattle.planner_words.proofs.Refusals.{none_explained, none_missed}
 use Rattle.planner_words.proofs.reading.explain.Goals as goal
 
-pub returns-in-Some-default : goal.returns-in-Some-default
-returns-in-Some-default c =
+pub returns-in-Some-default-clause-asked : goal.returns-in-Some-default-clause-asked
+returns-in-Some-default-clause-asked c =
     (refl, (c.table_in.ensures, c.in-Some-default.ensures ∙ first_value-rows (found_of c.args.matches.now) (codes "at")))
 
-pub returns-in-None-Some : goal.returns-in-None-Some
-returns-in-None-Some c =
+pub returns-in-None-Some-clause-asked : goal.returns-in-None-Some-clause-asked
+returns-in-None-Some-clause-asked c =
     let found = first_value-rows (found_of c.args.matches.now) in
     (refl, (c.in-None-Some.ensures ∙ found (codes "at"), c.in-None-Some.ensures' ∙ found (codes "line")))
+
+pub returns-in-None-None-clause-answered : goal.returns-in-None-None-clause-answered
+returns-in-None-None-clause-answered c =
+    let found = first_value-rows (found_of c.args.matches.now) in
+    let given = rows_of (found_of c.args.matches.now) in
+    none_missed (Some (codes "explain", given)) c.refused.result (none_explained given (c.in-None-None.ensures ∙ found (codes "at")) (c.in-None-None.ensures' ∙ found (codes "line")))

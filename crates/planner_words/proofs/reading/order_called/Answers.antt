@@ -3,17 +3,17 @@ use Rattle.clap.specs.Words.{found_of}
 use Rattle.clap.proofs.WalkLemmas.{first_value-rows, one_text-rows}
 use Rattle.planner_words.proofs.reading.order_called.Goals as goal
 
-pub returns-in-lint : goal.returns-in-lint
-returns-in-lint c = (search rules, c.get_str.ensures ∙ first_value-rows (found_of c.args.matches.now) (codes "before"))
+pub returns-in-lint-clause-asked : goal.returns-in-lint-clause-asked
+returns-in-lint-clause-asked c = (search rules, c.get_str.ensures ∙ first_value-rows (found_of c.args.matches.now) (codes "before"))
 
-pub returns-in-timetable : goal.returns-in-timetable
-returns-in-timetable c =
+pub returns-in-timetable-clause-asked : goal.returns-in-timetable-clause-asked
+returns-in-timetable-clause-asked c =
     let found = one_text-rows (found_of c.args.matches.now) (codes "csv") in
     (search rules, (λ up. c.get_flag.ensures.value (found ∙ up), λ down. c.get_flag.ensures.other (found ∙ down)))
 
-pub returns-in-graph : goal.returns-in-graph
-returns-in-graph c = (search rules, c.get_str-in-graph.ensures ∙ first_value-rows (found_of c.args.matches.now) (codes "train"))
+pub returns-in-graph-clause-asked : goal.returns-in-graph-clause-asked
+returns-in-graph-clause-asked c = (search rules, c.get_str-in-graph.ensures ∙ first_value-rows (found_of c.args.matches.now) (codes "train"))
 
-pub returns-in-layout : goal.returns-in-layout
-returns-in-layout c =
+pub returns-in-layout-clause-asked : goal.returns-in-layout-clause-asked
+returns-in-layout-clause-asked c =
     (search rules, (c.table_in.ensures, c.get_str-in-layout.ensures ∙ first_value-rows (found_of c.args.matches.now) (codes "at")))

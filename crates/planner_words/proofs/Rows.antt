@@ -1,0 +1,27 @@
+-- Rows of the definitions, computed: command lines, and what clap finds in them.
+use Rattle.std.proofs.Common.{◌≡◌, List, [], ◌∷◌, codes, map, true, false, Some, refl}
+use Rattle.std.specs.Prelude.{◌==◌, option_map}
+use Rattle.std.specs.List.{slice_split}
+use Rattle.clap.specs.Words.{Text, first_of, subcommand_of, takes}
+use Rattle.clap.proofs.OnLiterals.{clap_on_literals}
+use Rattle.command_words.specs.Built.{leaf}
+use Rattle.planner_words.specs.Line.{planner}
+use Rattle.planner_words.specs.Named.{table_in}
+
+-- the words of a line, which single spaces part
+abbrev words_of : Text → List Text
+words_of line = slice_split (λ b. b == 32) line
+
+the_train : option_map (λ found. first_of (codes "train") found.1) (subcommand_of planner (words_of (codes "graph --train T1"))) ≡ Some (Some (codes "T1"))
+unfolding clap_on_literals leaf
+the_train = refl
+
+-- The table is the first one where none is named.
+the_tables : map (λ line. option_map (λ found. table_in found.1) (subcommand_of planner (words_of line))) (codes "layout" ∷ codes "explain --at 0,1 --table 2" ∷ []) ≡ Some (codes "0") ∷ Some (codes "2") ∷ []
+unfolding clap_on_literals leaf
+the_tables = refl
+
+-- clap says of each command but explain which words it takes
+taken : map (λ line. takes planner (words_of line)) (codes "plan" ∷ codes "layout --at 1,0" ∷ codes "timetable --csv" ∷ codes "lint --csv" ∷ codes "help" ∷ codes "explain --at 0,1" ∷ []) ≡ true ∷ true ∷ true ∷ false ∷ false ∷ false ∷ []
+unfolding clap_on_literals leaf
+taken = refl
