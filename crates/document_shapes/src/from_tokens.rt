@@ -10,21 +10,28 @@ use crate::number_text::{change_of, whole_of};
 use json::{Reader, Token};
 use std::alloc::Global;
 
+/// The tokens of a text from the next value on, and what allocates what is read of them.
+#[derive(Drop)]
+pub(crate) struct Tokens<'a> {
+    pub reader: Reader<'a>,
+    pub alloc: Global,
+}
+
 /// What is read of the tokens of a value of one shape.
 pub(crate) trait FromTokens: Sized + Drop {
     /// The value reads as this.
     ghost reads: { Data → Self → Type 0 };
 
     /// The next value, where it has the shape and nests at most so deep.
-    fn from_tokens(alloc: Global, reader: &mut Reader<'_>, depth: usize) -> Option<Self>
-        ensures { IfSome result (λ x. Takes reads depth reader.old x reader.new) };
+    fn from_tokens(tokens: &mut Tokens<'_>, depth: usize) -> Option<Self>
+        ensures { IfSome result (λ x. Takes reads depth tokens.old.reader x tokens.new.reader) };
 }
 
 impl FromTokens for bool {
     ghost reads = { λ d b. shape.truth d ≡ Some b };
 
-    fn from_tokens(_alloc: Global, reader: &mut Reader<'_>, _depth: usize) -> Option<bool> {
-        match reader.next()? {
+    fn from_tokens(tokens: &mut Tokens<'_>, _depth: usize) -> Option<bool> {
+        match tokens.reader.next()? {
             Token::Bool(truth) => Some(truth),
             _ => None,
         }
@@ -34,8 +41,8 @@ impl FromTokens for bool {
 impl FromTokens for u32 {
     ghost reads = { λ d n. shape.whole d ≡ Some n };
 
-    fn from_tokens(_alloc: Global, reader: &mut Reader<'_>, _depth: usize) -> Option<u32> {
-        match reader.next()? {
+    fn from_tokens(tokens: &mut Tokens<'_>, _depth: usize) -> Option<u32> {
+        match tokens.reader.next()? {
             Token::Number(text) => whole_of(text),
             _ => None,
         }
@@ -45,8 +52,8 @@ impl FromTokens for u32 {
 impl FromTokens for i32 {
     ghost reads = { λ d z. shape.change d ≡ Some z };
 
-    fn from_tokens(_alloc: Global, reader: &mut Reader<'_>, _depth: usize) -> Option<i32> {
-        match reader.next()? {
+    fn from_tokens(tokens: &mut Tokens<'_>, _depth: usize) -> Option<i32> {
+        match tokens.reader.next()? {
             Token::Number(text) => change_of(text),
             _ => None,
         }
@@ -66,19 +73,19 @@ fn copied(alloc: Global, text: &str) -> Option<String>
 impl FromTokens for String {
     ghost reads = { λ d s. shape.text d ≡ Some (string_bytes s) };
 
-    fn from_tokens(alloc: Global, reader: &mut Reader<'_>, _depth: usize) -> Option<String> {
-        match reader.next()? {
-            Token::String(text) => copied(alloc, text),
+    fn from_tokens(tokens: &mut Tokens<'_>, _depth: usize) -> Option<String> {
+        match tokens.reader.next()? {
+            Token::String(text) => copied(tokens.alloc, text),
             _ => None,
         }
     }
 }
 
 /// How deep the items may nest, where the next value is a list.
-pub(crate) fn list_begins(reader: &mut Reader<'_>, depth: usize) -> Option<usize>
-    ensures { IfSome result (λ inner. Opens token.begin_array depth reader.old inner reader.new) }
+pub(crate) fn list_begins(tokens: &mut Tokens<'_>, depth: usize) -> Option<usize>
+    ensures { IfSome result (λ inner. Opens token.begin_array depth tokens.old.reader inner tokens.new.reader) }
 {
-    match reader.next()? {
+    match tokens.reader.next()? {
         Token::BeginArray => depth.checked_sub(1),
         _ => None,
     }
@@ -95,12 +102,12 @@ fn push<T: Drop>(list: &mut Vec<T>, item: T) -> Option<()>
 }
 
 // The items of a list up to its end.
-fn items<T: FromTokens>(alloc: Global, reader: &mut Reader<'_>, depth: usize) -> Option<Vec<T>>
-    ensures { IfSome result (λ v. TakesItems T.FromTokens.reads depth reader.old v.items reader.new) }
+fn items<T: FromTokens>(tokens: &mut Tokens<'_>, depth: usize) -> Option<Vec<T>>
+    ensures { IfSome result (λ v. TakesItems T.FromTokens.reads depth tokens.old.reader v.items tokens.new.reader) }
 {
-    let mut found = Vec::new(alloc);
-    'items: while !reader.take_end_array() {
-        let item = T::from_tokens(alloc, reader, depth)?;
+    let mut found = Vec::new(tokens.alloc);
+    'items: while !tokens.reader.take_end_array() {
+        let item = T::from_tokens(tokens, depth)?;
         push(&mut found, item)?;
     }
     Some(found)
@@ -109,20 +116,20 @@ fn items<T: FromTokens>(alloc: Global, reader: &mut Reader<'_>, depth: usize) ->
 impl<T: FromTokens> FromTokens for Vec<T> {
     ghost reads = { λ d v. ReadsList T.FromTokens.reads d v.items };
 
-    fn from_tokens(alloc: Global, reader: &mut Reader<'_>, depth: usize) -> Option<Vec<T>> {
-        let inner = list_begins(reader, depth)?;
-        items(alloc, reader, inner)
+    fn from_tokens(tokens: &mut Tokens<'_>, depth: usize) -> Option<Vec<T>> {
+        let inner = list_begins(tokens, depth)?;
+        items(tokens, inner)
     }
 }
 
 impl<A: FromTokens, B: FromTokens> FromTokens for (A, B) {
     ghost reads = { λ d p. ReadsPair A.FromTokens.reads B.FromTokens.reads d p };
 
-    fn from_tokens(alloc: Global, reader: &mut Reader<'_>, depth: usize) -> Option<(A, B)> {
-        let inner = list_begins(reader, depth)?;
-        let first = A::from_tokens(alloc, reader, inner)?;
-        let second = B::from_tokens(alloc, reader, inner)?;
-        if reader.take_end_array() {
+    fn from_tokens(tokens: &mut Tokens<'_>, depth: usize) -> Option<(A, B)> {
+        let inner = list_begins(tokens, depth)?;
+        let first = A::from_tokens(tokens, inner)?;
+        let second = B::from_tokens(tokens, inner)?;
+        if tokens.reader.take_end_array() {
             Some((first, second))
         } else {
             None
@@ -133,13 +140,12 @@ impl<A: FromTokens, B: FromTokens> FromTokens for (A, B) {
 /// Reads the next value into the field, where it has the field's shape and nests at most so deep.
 pub(crate) fn read_into<T: FromTokens>(
     field: &mut Option<T>,
-    alloc: Global,
-    reader: &mut Reader<'_>,
+    tokens: &mut Tokens<'_>,
     depth: usize,
 ) -> Option<()>
     ensures { OnSome result
-        (Takes (λ d found. IsSomeAnd found (λ x. T.FromTokens.reads d x)) depth reader.old field.new reader.new) }
+        (Takes (λ d found. IsSomeAnd found (λ x. T.FromTokens.reads d x)) depth tokens.old.reader field.new tokens.new.reader) }
 {
-    *field = Some(T::from_tokens(alloc, reader, depth)?);
+    *field = Some(T::from_tokens(tokens, depth)?);
     Some(())
 }

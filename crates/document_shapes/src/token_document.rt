@@ -8,7 +8,7 @@ ghost use Rattle.document_shapes.specs.Seen.{seen_document};
 ghost use Rattle.document_shapes.specs.TableRead as of_version;
 
 use crate::from_members::{FromMembers, object};
-use crate::from_tokens::{FromTokens, read_into};
+use crate::from_tokens::{FromTokens, Tokens, read_into};
 use crate::{DocMembers, TableMembers};
 use json::{Reader, Scratch};
 use std::alloc::Global;
@@ -17,7 +17,7 @@ use std::alloc::Global;
 const MAX_DEPTH: usize = 127;
 
 // What is found of a document's members.
-#[derive(Drop)]
+#[derive(Default, Drop)]
 struct FoundDocument {
     version: Option<u32>,
     points: Option<Vec<(String, u32)>>,
@@ -34,32 +34,18 @@ impl FromMembers for FoundDocument {
     ghost finds = { DocumentFinds };
 
     fn nothing() -> FoundDocument {
-        FoundDocument {
-            version: None,
-            points: None,
-            links: None,
-            zones: None,
-            trains: None,
-            start: None,
-            tables: None,
-        }
+        FoundDocument::default()
     }
 
-    fn find(
-        &mut self,
-        alloc: Global,
-        reader: &mut Reader<'_>,
-        depth: usize,
-        name: &str,
-    ) -> Option<()> {
+    fn find(&mut self, tokens: &mut Tokens<'_>, depth: usize, name: &str) -> Option<()> {
         match name {
-            "version" => read_into(&mut self.version, alloc, reader, depth),
-            "points" => read_into(&mut self.points, alloc, reader, depth),
-            "links" => read_into(&mut self.links, alloc, reader, depth),
-            "zones" => read_into(&mut self.zones, alloc, reader, depth),
-            "trains" => read_into(&mut self.trains, alloc, reader, depth),
-            "start" => read_into(&mut self.start, alloc, reader, depth),
-            "tables" => read_into(&mut self.tables, alloc, reader, depth),
+            "version" => read_into(&mut self.version, tokens, depth),
+            "points" => read_into(&mut self.points, tokens, depth),
+            "links" => read_into(&mut self.links, tokens, depth),
+            "zones" => read_into(&mut self.zones, tokens, depth),
+            "trains" => read_into(&mut self.trains, tokens, depth),
+            "start" => read_into(&mut self.start, tokens, depth),
+            "tables" => read_into(&mut self.tables, tokens, depth),
             _ => None,
         }
     }
@@ -111,8 +97,8 @@ fn of_known_version(found: FoundDocument) -> Option<DocMembers>
 impl FromTokens for DocMembers {
     ghost reads = { λ d m. doc_members d ≡ Ok (seen_document m) };
 
-    fn from_tokens(alloc: Global, reader: &mut Reader<'_>, depth: usize) -> Option<DocMembers> {
-        let found = object(alloc, reader, depth)?;
+    fn from_tokens(tokens: &mut Tokens<'_>, depth: usize) -> Option<DocMembers> {
+        let found = object(tokens, depth)?;
         of_known_version(found)
     }
 }
@@ -121,11 +107,12 @@ impl FromTokens for DocMembers {
 fn members_in(alloc: Global, text: &str, scratch: &mut Scratch) -> Option<DocMembers>
     ensures { IfSome result (λ m. option_map doc_members (read text.now) ≡ Some (Ok (seen_document m))) }
 {
-    let Ok(mut reader) = Reader::new(text, scratch) else {
+    let Ok(reader) = Reader::new(text, scratch) else {
         return None;
     };
-    let members = DocMembers::from_tokens(alloc, &mut reader, MAX_DEPTH)?;
-    match reader.next() {
+    let mut tokens = Tokens { reader, alloc };
+    let members = DocMembers::from_tokens(&mut tokens, MAX_DEPTH)?;
+    match tokens.reader.next() {
         Some(_) => None,
         None => Some(members),
     }

@@ -5,10 +5,8 @@ ghost use Rattle.document_shapes.specs.Shape as shape;
 ghost use Rattle.document_shapes.specs.Taken.{TakesItems};
 
 use crate::from_members::{FromMembers, object};
-use crate::from_tokens::{FromTokens, list_begins, read_into};
-use json::Reader;
+use crate::from_tokens::{FromTokens, Tokens, list_begins, read_into};
 use rail_model::{Changes, Connection, Node, Section, TrainTimes};
-use std::alloc::Global;
 
 // Whole numbers, at most four.
 #[derive(Drop)]
@@ -27,17 +25,17 @@ impl FewNumbers {
 }
 
 // The whole numbers of a list up to its end, where there are at most four.
-fn few_numbers(alloc: Global, reader: &mut Reader<'_>, depth: usize) -> Option<FewNumbers>
-    ensures numbers { IfSome result (λ f. TakesItems (λ d n. shape.whole d ≡ Some n) depth reader.old (take f.count f.numbers) reader.new) }
+fn few_numbers(tokens: &mut Tokens<'_>, depth: usize) -> Option<FewNumbers>
+    ensures numbers { IfSome result (λ f. TakesItems (λ d n. shape.whole d ≡ Some n) depth tokens.old.reader (take f.count f.numbers) tokens.new.reader) }
     ensures few { IfSome result (λ f. f.count ≤ 4) }
 {
     let mut numbers = [0; 4];
     let mut count = 0;
-    'items: while !reader.take_end_array() {
+    'items: while !tokens.reader.take_end_array() {
         if count == 4 {
             return None;
         }
-        let number = u32::from_tokens(alloc, reader, depth)?;
+        let number = u32::from_tokens(tokens, depth)?;
         numbers[count] = number;
         count += 1;
     }
@@ -61,9 +59,9 @@ fn node_of(numbers: &[u32]) -> Option<Node>
 impl FromTokens for Node {
     ghost reads = { λ d n. part.node d ≡ Some n };
 
-    fn from_tokens(alloc: Global, reader: &mut Reader<'_>, depth: usize) -> Option<Node> {
-        let inner = list_begins(reader, depth)?;
-        let few = few_numbers(alloc, reader, inner)?;
+    fn from_tokens(tokens: &mut Tokens<'_>, depth: usize) -> Option<Node> {
+        let inner = list_begins(tokens, depth)?;
+        let few = few_numbers(tokens, inner)?;
         node_of(few.as_slice())
     }
 }
@@ -81,9 +79,9 @@ fn connection_of(numbers: &[u32]) -> Option<Connection>
 impl FromTokens for Connection {
     ghost reads = { λ d k. part.connection d ≡ Some k };
 
-    fn from_tokens(alloc: Global, reader: &mut Reader<'_>, depth: usize) -> Option<Connection> {
-        let inner = list_begins(reader, depth)?;
-        let few = few_numbers(alloc, reader, inner)?;
+    fn from_tokens(tokens: &mut Tokens<'_>, depth: usize) -> Option<Connection> {
+        let inner = list_begins(tokens, depth)?;
+        let few = few_numbers(tokens, inner)?;
         connection_of(few.as_slice())
     }
 }
@@ -91,8 +89,8 @@ impl FromTokens for Connection {
 impl FromTokens for TrainTimes {
     ghost reads = { λ d t. shape.list_of shape.whole d ≡ Some t };
 
-    fn from_tokens(alloc: Global, reader: &mut Reader<'_>, depth: usize) -> Option<TrainTimes> {
-        let steps = Vec::<u32>::from_tokens(alloc, reader, depth)?;
+    fn from_tokens(tokens: &mut Tokens<'_>, depth: usize) -> Option<TrainTimes> {
+        let steps = Vec::<u32>::from_tokens(tokens, depth)?;
         Some(TrainTimes::from(steps))
     }
 }
@@ -100,14 +98,14 @@ impl FromTokens for TrainTimes {
 impl FromTokens for Changes {
     ghost reads = { λ d c. shape.list_of shape.change d ≡ Some c };
 
-    fn from_tokens(alloc: Global, reader: &mut Reader<'_>, depth: usize) -> Option<Changes> {
-        let changes = Vec::<i32>::from_tokens(alloc, reader, depth)?;
+    fn from_tokens(tokens: &mut Tokens<'_>, depth: usize) -> Option<Changes> {
+        let changes = Vec::<i32>::from_tokens(tokens, depth)?;
         Some(Changes::from(changes))
     }
 }
 
 // What is found of a section's members.
-#[derive(Drop)]
+#[derive(Default, Drop)]
 struct FoundSection {
     limit: Option<u32>,
     changes: Option<Vec<Changes>>,
@@ -119,22 +117,13 @@ impl FromMembers for FoundSection {
     ghost finds = { SectionFinds };
 
     fn nothing() -> FoundSection {
-        FoundSection {
-            limit: None,
-            changes: None,
-        }
+        FoundSection::default()
     }
 
-    fn find(
-        &mut self,
-        alloc: Global,
-        reader: &mut Reader<'_>,
-        depth: usize,
-        name: &str,
-    ) -> Option<()> {
+    fn find(&mut self, tokens: &mut Tokens<'_>, depth: usize, name: &str) -> Option<()> {
         match name {
-            "limit" => read_into(&mut self.limit, alloc, reader, depth),
-            "changes" => read_into(&mut self.changes, alloc, reader, depth),
+            "limit" => read_into(&mut self.limit, tokens, depth),
+            "changes" => read_into(&mut self.changes, tokens, depth),
             _ => None,
         }
     }
@@ -143,8 +132,8 @@ impl FromMembers for FoundSection {
 impl FromTokens for Section {
     ghost reads = { λ d s. part.section d ≡ Some s };
 
-    fn from_tokens(alloc: Global, reader: &mut Reader<'_>, depth: usize) -> Option<Section> {
-        let found: FoundSection = object(alloc, reader, depth)?;
+    fn from_tokens(tokens: &mut Tokens<'_>, depth: usize) -> Option<Section> {
+        let found: FoundSection = object(tokens, depth)?;
         let FoundSection { limit, changes } = found;
         let limit = limit?;
         let changes = changes?;

@@ -1,13 +1,11 @@
 // A table's members, read of the tokens of a text.
 use crate::TableMembers;
 use crate::from_members::{FromMembers, object};
-use crate::from_tokens::{FromTokens, read_into};
-use json::Reader;
+use crate::from_tokens::{FromTokens, Tokens, read_into};
 use rail_model::{Connection, Node, Section, TrainTimes};
-use std::alloc::Global;
 
 // What is found of a table's members.
-#[derive(Drop)]
+#[derive(Default, Drop)]
 struct FoundTable {
     missions: Option<Vec<Vec<String>>>,
     exits: Option<Vec<bool>>,
@@ -24,32 +22,18 @@ impl FromMembers for FoundTable {
     ghost finds = { TableFinds };
 
     fn nothing() -> FoundTable {
-        FoundTable {
-            missions: None,
-            exits: None,
-            sections: None,
-            connections: None,
-            certificate: None,
-            times: None,
-            after: None,
-        }
+        FoundTable::default()
     }
 
-    fn find(
-        &mut self,
-        alloc: Global,
-        reader: &mut Reader<'_>,
-        depth: usize,
-        name: &str,
-    ) -> Option<()> {
+    fn find(&mut self, tokens: &mut Tokens<'_>, depth: usize, name: &str) -> Option<()> {
         match name {
-            "missions" => read_into(&mut self.missions, alloc, reader, depth),
-            "exits" => read_into(&mut self.exits, alloc, reader, depth),
-            "sections" => read_into(&mut self.sections, alloc, reader, depth),
-            "connections" => read_into(&mut self.connections, alloc, reader, depth),
-            "certificate" => read_into(&mut self.certificate, alloc, reader, depth),
-            "times" => read_into(&mut self.times, alloc, reader, depth),
-            "after" => read_into(&mut self.after, alloc, reader, depth),
+            "missions" => read_into(&mut self.missions, tokens, depth),
+            "exits" => read_into(&mut self.exits, tokens, depth),
+            "sections" => read_into(&mut self.sections, tokens, depth),
+            "connections" => read_into(&mut self.connections, tokens, depth),
+            "certificate" => read_into(&mut self.certificate, tokens, depth),
+            "times" => read_into(&mut self.times, tokens, depth),
+            "after" => read_into(&mut self.after, tokens, depth),
             _ => None,
         }
     }
@@ -60,8 +44,8 @@ impl FromTokens for TableMembers {
 
     ghost reads = { ReadsTable };
 
-    fn from_tokens(alloc: Global, reader: &mut Reader<'_>, depth: usize) -> Option<TableMembers> {
-        let found: FoundTable = object(alloc, reader, depth)?;
+    fn from_tokens(tokens: &mut Tokens<'_>, depth: usize) -> Option<TableMembers> {
+        let found: FoundTable = object(tokens, depth)?;
         let FoundTable {
             missions,
             exits,

@@ -8,9 +8,9 @@ use Rattle.document_shapes.proofs.token_document.members_in.Goals as goal
 
 pub returns-in-None : goal.returns-in-None
 returns-in-None c =
-    let none : c.from_tokens.new.reader ≡ [] = search rules in
+    let none : c.from_tokens.new.tokens.reader ≡ [] = search rules in
     let text = c.args.text.now in
     let members = c.in_ok-members.members in
-    let all : Takes (λ d m. doc_members d ≡ Ok (seen_document m)) 127 (tokens text) members c.from_tokens.new.reader =
-    subst (λ ts. Takes (λ d m. doc_members d ≡ Ok (seen_document m)) 127 ts members c.from_tokens.new.reader) c.in-Ok.ensures.ok c.in_ok-members.ensures in
+    let all : Takes (λ d m. doc_members d ≡ Ok (seen_document m)) 127 (tokens text) members c.from_tokens.new.tokens.reader =
+    subst (λ ts. Takes (λ d m. doc_members d ≡ Ok (seen_document m)) 127 ts members c.from_tokens.new.tokens.reader) c.in-Ok.ensures.ok c.in_ok-members.ensures in
     text-read seen_document text members (subst (λ ts. Takes (λ d m. doc_members d ≡ Ok (seen_document m)) 127 (tokens text) members ts) none all)

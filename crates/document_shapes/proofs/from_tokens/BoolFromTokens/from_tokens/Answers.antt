@@ -12,6 +12,6 @@ pub returns-in-Bool : goal.returns-in-Bool
 returns-in-Bool c =
     let b = c.in-Bool.truth in
     let rest = c.next.new.self in
-    let first : c.args.reader.now ≡ Token.boolean b ∷ rest = c.in_ok-truth.ensures.value ∙ ap (λ k. token_of k ∷ rest) c.in-Bool.is in
-    takes-token (λ d v. truth d ≡ Some v) c.args._depth b c.args.reader.now rest (Token.boolean b) (json.boolean b) (boolean b) first
+    let first : c.args.tokens.now.reader ≡ Token.boolean b ∷ rest = c.in_ok-truth.ensures.value ∙ ap (λ k. token_of k ∷ rest) c.in-Bool.is in
+    takes-token (λ d v. truth d ≡ Some v) c.args._depth b c.args.tokens.now.reader rest (Token.boolean b) (json.boolean b) (boolean b) first
     (value_is c.args._depth (Token.boolean b ∷ rest)) refl refl

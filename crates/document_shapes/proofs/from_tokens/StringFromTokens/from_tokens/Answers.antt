@@ -11,7 +11,7 @@ pub returns-in-String : goal.returns-in-String
 returns-in-String c =
     let s = c.in-String.text.now in
     let rest = c.next.new.self in
-    let first : c.args.reader.now ≡ Token.string s ∷ rest = c.in_ok-text.ensures.value ∙ ap (λ k. token_of k ∷ rest) c.in-String.is in
+    let first : c.args.tokens.now.reader ≡ Token.string s ∷ rest = c.in_ok-text.ensures.value ∙ ap (λ k. token_of k ∷ rest) c.in-String.is in
     if_some c.copied.result (λ x. string_bytes x ≡ s) _
-    (λ x same. takes-token (λ d v. text d ≡ Some (string_bytes v)) c.args._depth x c.args.reader.now rest (Token.string s) (json.string s) (string s) first
+    (λ x same. takes-token (λ d v. text d ≡ Some (string_bytes v)) c.args._depth x c.args.tokens.now.reader rest (Token.string s) (json.string s) (string s) first
     (value-string c.args._depth s rest) refl (ap Some (sym same))) c.copied.ensures

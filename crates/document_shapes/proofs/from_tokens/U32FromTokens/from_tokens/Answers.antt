@@ -10,5 +10,5 @@ pub returns-in-Number : goal.returns-in-Number
 returns-in-Number c =
     let s = c.in-Number.text.now in
     let rest = c.next.new.self in
-    let first : c.args.reader.now ≡ Token.number s ∷ rest = c.in_ok-text.ensures.value ∙ ap (λ k. token_of k ∷ rest) c.in-Number.is in
-    if_some c.whole_of.result (λ x. number_read whole s ≡ Some x) _ (λ x reads. takes-number whole c.args._depth x c.args.reader.now rest s first reads) c.whole_of.ensures
+    let first : c.args.tokens.now.reader ≡ Token.number s ∷ rest = c.in_ok-text.ensures.value ∙ ap (λ k. token_of k ∷ rest) c.in-Number.is in
+    if_some c.whole_of.result (λ x. number_read whole s ≡ Some x) _ (λ x reads. takes-number whole c.args._depth x c.args.tokens.now.reader rest s first reads) c.whole_of.ensures

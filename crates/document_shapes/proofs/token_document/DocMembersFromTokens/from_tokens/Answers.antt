@@ -12,4 +12,4 @@ returns c =
     let found = c.in_ok-found.found in
     if_some c.of_known_version.result (λ m. IsWhole found m) _
     (λ m is. takes-found DocumentFinds (λ d v. doc_members d ≡ Ok (seen_document v)) found m (λ ms h. document-found ms found m is h)
-    c.args.depth c.args.reader.now c.object.new.reader c.in_ok-found.ensures) c.of_known_version.ensures
+    c.args.depth c.args.tokens.now.reader c.object.new.tokens.reader c.in_ok-found.ensures) c.of_known_version.ensures

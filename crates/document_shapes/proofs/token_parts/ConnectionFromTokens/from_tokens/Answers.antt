@@ -7,5 +7,5 @@ pub returns : goal.returns
 returns c =
     let few = c.in_ok-few.few in
     some_weaker c.connection_of.result _
-    (λ x is. takes-numbers c.args.depth c.in_ok-inner.inner c.args.reader.now c.list_begins.new.reader connection_of (take few.count few.numbers) x c.few_numbers.new.reader
+    (λ x is. takes-numbers c.args.depth c.in_ok-inner.inner c.args.tokens.now.reader c.list_begins.new.tokens.reader connection_of (take few.count few.numbers) x c.few_numbers.new.tokens.reader
     (ap connection_of (sym c.as_slice.ensures) ∙ sym c.connection_of.ensures ∙ is) c.in_ok-inner.ensures c.in_ok-few.ensures.numbers)

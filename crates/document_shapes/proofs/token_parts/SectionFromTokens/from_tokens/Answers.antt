@@ -15,4 +15,4 @@ returns c =
     takes-found SectionFinds (λ d s. section d ≡ Some s) found c.new.result
     (λ ms h. section-found ms c.in_ok-limit.limit c.in_ok-changes.changes (subst (Finds whole (λ n. n) (codes "limit") ms) limit h.limit)
     (subst (Finds (list_of (list_of change)) (λ v. v.items) (codes "changes") ms) changes h.changes) ∙ ap Some (sym c.new.ensures))
-    c.args.depth c.args.reader.now c.object.new.reader c.in_ok-found.ensures
+    c.args.depth c.args.tokens.now.reader c.object.new.tokens.reader c.in_ok-found.ensures

@@ -11,4 +11,4 @@ returns c =
     let missions : found.missions ≡ Some c.in_ok-missions.missions = search rules in
     takes-found TableFinds ReadsTable found _
     (λ ms h. table-found ms _ found (record { missions = missions; exits = refl; sections = refl; connections = refl; certificate = refl; times = refl; after = refl }) h)
-    c.args.depth c.args.reader.now c.object.new.reader c.in_ok-found.ensures
+    c.args.depth c.args.tokens.now.reader c.object.new.tokens.reader c.in_ok-found.ensures
