@@ -1,5 +1,5 @@
 -- Shapes at places.
-use Rattle.std.specs.Prelude.{[], ◌∷◌, codes, decimal}
+use Rattle.std.specs.Prelude.{ℕ, List, [], ◌∷◌, ◌++◌, codes, decimal, flat_map}
 use Rattle.svg_text.specs.Tree.{Shape}
 use Rattle.svg_text.specs.declared.shapes.Spot.{Spot}
 
@@ -13,5 +13,37 @@ line_of from to = record {
       ∷ record { name = codes "x2"; value = decimal to.x }
       ∷ record { name = codes "y2"; value = decimal to.y }
       ∷ [];
+  words = [];
+}
+
+-- a circle round a place
+abbrev pub circle_of : Spot → ℕ → Shape
+circle_of at radius = record {
+  name = codes "circle";
+  attributes =
+      record { name = codes "cx"; value = decimal at.x }
+      ∷ record { name = codes "cy"; value = decimal at.y }
+      ∷ record { name = codes "r"; value = decimal radius }
+      ∷ [];
+  words = [];
+}
+
+-- words that begin at a place
+abbrev pub label_of : Spot → List ℕ → Shape
+label_of at words = record {
+  name = codes "text";
+  attributes = record { name = codes "x"; value = decimal at.x } ∷ record { name = codes "y"; value = decimal at.y } ∷ [];
+  words = words;
+}
+
+-- a corner of an area, as its text has it
+abbrev pub corner_text : Spot → List ℕ
+corner_text at = decimal at.x ++ codes "," ++ decimal at.y ++ codes " "
+
+-- a closed area with these corners
+abbrev pub polygon_of : List Spot → Shape
+polygon_of corners = record {
+  name = codes "polygon";
+  attributes = record { name = codes "points"; value = flat_map corner_text corners } ∷ [];
   words = [];
 }

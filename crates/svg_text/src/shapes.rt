@@ -1,6 +1,6 @@
 // Shapes at places.
-ghost use Rattle.std.specs.Prelude.{◌≡◌, ◌++◌, ◌∷◌, [], OnOk, IfOk, decimal};
-ghost use Rattle.svg_text.specs.Shapes.{line_of};
+ghost use Rattle.std.specs.Prelude.{◌≡◌, ◌++◌, ◌∷◌, [], OnOk, IfOk, decimal, flat_map, string_bytes};
+ghost use Rattle.svg_text.specs.Shapes.{line_of, circle_of, label_of, corner_text, polygon_of};
 
 use crate::Shape;
 use std::alloc::{AllocError, Global};
@@ -36,7 +36,9 @@ pub fn line(alloc: Global, from: Spot, to: Spot) -> Result<Shape, AllocError>
 }
 
 /// A circle round a place.
-pub fn circle(alloc: Global, at: Spot, radius: u64) -> Result<Shape, AllocError> {
+pub fn circle(alloc: Global, at: Spot, radius: u64) -> Result<Shape, AllocError>
+    ensures { IfOk result (λ shape. shape ≡ circle_of at radius) }
+{
     let mut shape = Shape::new(alloc, "circle", "")?;
     set_spot(&mut shape, alloc, "cx", "cy", at)?;
     shape.set_number(alloc, "r", radius)?;
@@ -44,14 +46,18 @@ pub fn circle(alloc: Global, at: Spot, radius: u64) -> Result<Shape, AllocError>
 }
 
 /// Words that begin at a place.
-pub fn label(alloc: Global, at: Spot, words: &str) -> Result<Shape, AllocError> {
+pub fn label(alloc: Global, at: Spot, words: &str) -> Result<Shape, AllocError>
+    ensures { IfOk result (λ shape. shape ≡ label_of at words.now) }
+{
     let mut shape = Shape::new(alloc, "text", words)?;
     set_spot(&mut shape, alloc, "x", "y", at)?;
     Ok(shape)
 }
 
 // The corners of an area, one after another.
-fn corners_text(alloc: Global, corners: &[Spot]) -> Result<String, AllocError> {
+fn corners_text(alloc: Global, corners: &[Spot]) -> Result<String, AllocError>
+    ensures { IfOk result (λ text. string_bytes text ≡ flat_map corner_text corners.now) }
+{
     let mut text = String::new(alloc);
     for corner in corners {
         let x = corner.x;
@@ -62,7 +68,9 @@ fn corners_text(alloc: Global, corners: &[Spot]) -> Result<String, AllocError> {
 }
 
 /// A closed area with these corners.
-pub fn polygon(alloc: Global, corners: &[Spot]) -> Result<Shape, AllocError> {
+pub fn polygon(alloc: Global, corners: &[Spot]) -> Result<Shape, AllocError>
+    ensures { IfOk result (λ shape. shape ≡ polygon_of corners.now) }
+{
     let points = corners_text(alloc, corners)?;
     let mut shape = Shape::new(alloc, "polygon", "")?;
     shape.set(alloc, "points", points.as_str())?;
