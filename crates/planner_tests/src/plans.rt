@@ -127,23 +127,6 @@ line 1: train "T1": "C" comes twice in a row
 plan
 [[train]]
 name = "T0"
-route = ["A", "M", "N", "B"]
-
-[[train]]
-name = "T1"
-exits = true
-route = ["C", "N", "M", "D"]
-
-[[section]]
-name = "corridor"
-limit = 1
-points = ["M", "N"]
-----
-line 7: train "T1": no key "exits"; the keys are name, route, start, exit, times
-====
-plan
-[[train]]
-name = "T0"
 route = ["A", "B"
 exit = true
 ----
@@ -153,165 +136,6 @@ plan
 lines = [["A", "B"]]
 ----
 line 1: there is no train
-====
-plan
-[[train]]
-name = "T0"
-start = "M"
-route = ["A", "M", "N", "B"]
-
-[[train]]
-name = "T1"
-start = "N"
-route = ["C", "N", "M", "D"]
-
-[[section]]
-name = "corridor"
-limit = 1
-points = ["M", "N"]
-----
-line 13: section "corridor": at the start 2 of 1 are taken, T0 1, T1 1
-====
-plan
-[[train]]
-name = "T0"
-route = ["A", "M", "N", "B"]
-
-[[train]]
-name = "T1"
-start = "Q7"
-route = ["C", "N", "M", "D"]
-
-[[section]]
-name = "corridor"
-limit = 1
-points = ["M", "N"]
-----
-line 7: train "T1": no point "Q7"; the points are A, M, N, B, C, D
-====
-plan
-[[train]]
-name = "T0"
-route = ["A", "M", "N", "B"]
-
-[[train]]
-name = "T1"
-times = { default = 2, "C Nn" = 3 }
-route = ["C", "N", "M", "D"]
-
-[[section]]
-name = "corridor"
-limit = 1
-points = ["M", "N"]
-----
-line 7: train "T1": no point "Nn"; did you mean "N"?
-====
-plan
-[[train]]
-name = "T0"
-route = ["A", "M", "N", "B"]
-
-[[train]]
-name = "T-1"
-route = ["C", "N", "M", "D"]
-
-[[section]]
-name = "corridor"
-limit = 1
-points = ["Mm", "N"]
-only = ["T7"]
-width = 3
-----
-line 6: train "T-1": "T-1" is no name: 1 to 16 of A-Z, a-z, 0-9 and _
-line 12: section "corridor": no point "Mm"; did you mean "M"?
-line 13: section "corridor": no train "T7"; did you mean "T0"?
-line 14: section "corridor": no key "width"; the keys are name, limit, points, weight, only, from, to
-====
-plan
-[[train]]
-name = "T0"
-route = ["A", "M", "N", "B"]
-
-[[train]]
-name = "T1"
-start = "A"
-route = ["C", "N", "M", "D"]
-
-[[section]]
-name = "corridor"
-limit = 1
-points = ["M", "N"]
-----
-line 7: train "T1": "A" is not on the route of train "T1"
-====
-plan
-[[train]]
-name = "T0"
-route = ["A", "M", "N", "B"]
-
-[[train]]
-name = "T1"
-start = "M#3"
-route = ["C", "N", "M", "D"]
-
-[[section]]
-name = "corridor"
-limit = 1
-points = ["M", "N"]
-----
-line 7: train "T1": "M#3" is not on the route of train "T1"
-====
-plan
-[[train]]
-name = "T0"
-route = ["A", "M", "N", "B"]
-
-[[train]]
-name = "T1"
-times = { "M N" = 3 }
-route = ["C", "N", "M", "D"]
-
-[[section]]
-name = "corridor"
-limit = 1
-points = ["M", "N"]
-----
-line 7: train "T1": "M N" is no step of the route
-====
-plan
-[[train]]
-name = "T0"
-route = ["A", "M", "N", "B"]
-
-[[train]]
-name = "T1"
-times = { default = 0, "N M" = 1001 }
-route = ["C", "N", "M", "D"]
-
-[[section]]
-name = "corridor"
-limit = 1
-points = ["M", "N"]
-----
-line 7: train "T1": a time is 1 to 1000, and this is 0
-line 7: train "T1": a time is 1 to 1000, and this is 1001
-====
-plan
-[[train]]
-name = "T0"
-route = ["A", "M", "N", "B"]
-
-[[train]]
-name = "T1"
-exit = "yes"
-route = ["C", "N", "M", "D"]
-
-[[section]]
-name = "corridor"
-limit = 1
-points = ["M", "N"]
-----
-line 7: train "T1": "exit" takes true or false, and this is of type string
 ====
 plan
 train = "T0"
@@ -334,228 +158,73 @@ limit = 1
 points = ["M", "N"]
 "##;
 
-// The corridor with some of its lines changed, by their numbers, or with more lines after them; and the mistakes that are told.
-const CHANGES: &str = r##"13:
-14: [[table]]
-15: after = 1000001
-----
-line 15: table 1: a table is due after 0 to 1000000 moves, and this is 1000001
-====
-3: route = ["A", "M", "N", "platform number 2"]
-----
-line 3: train "T0": "platform number 2" is no name: 1 to 16 of A-Z, a-z, 0-9 and _
-====
-6: name = "T-1"
-----
-line 6: train "T-1": "T-1" is no name: 1 to 16 of A-Z, a-z, 0-9 and _
-====
-13:
-14: [[connection]]
-15: train = "T1"
-16: leaves = "D"
-17: after = "T0"
-18: reached = "N"
-----
-line 16: connection 0: "D" is never left: the route of the train ends there
-====
-13:
-14: [[connection]]
-15: train = "T1"
-16: leaves = "C"
-17: after = "T1"
-18: reached = "N"
-----
-line 17: connection 0: a train doesn't wait for itself
-====
-7: route = []
-----
-line 7: train "T1": the route is empty
-====
-13:
-14: [[connection]]
-15: train = "T1"
-16: leave = "C"
-17: leaves = "C"
-18: after = "T0"
-19: reached = "N"
-----
-line 16: connection 0: no key "leave"; the keys are train, leaves, after, reached
-====
-13: weights = 2
-----
-line 13: section "corridor": no key "weights"; the keys are name, limit, points, weight, only, from, to
-====
-13:
-14: [[table]]
-15: after = 4
-16: zones = 2
-----
-line 16: table 1: no key "zones"; the keys are after, train, section, connection
-====
-13:
-14: [[table]]
-15: after = 4
-16: [[table.train]]
-17: name = "T1"
-18: start = "C"
-----
-line 18: table 1, train "T1": no key "start"; the keys are name, route, exit, times
-====
-9: [[sections]]
-----
-line 9: no key "sections"; the keys are lines, zones, train, section, connection, table
-====
-11: limit = 129
-----
-line 11: section "corridor": a limit is 0 to 128, and this is 129
-====
-13:
-14: [[table]]
-15: [[table.train]]
-16: name = "T1"
-17: exit = true
-----
-line 14: table 1: "after" is missing
-====
-13:
-14: [[connection]]
-----
-line 14: connection 0: "train" is missing
-line 14: connection 0: "leaves" is missing
-line 14: connection 0: "after" is missing
-line 14: connection 0: "reached" is missing
-====
-11:
-----
-line 9: section "corridor": "limit" is missing
-====
-6:
-----
-line 5: train 1: "name" is missing
-====
-12:
-----
-line 9: section "corridor": "points" is missing
-====
-7:
-----
-line 5: train "T1": "route" is missing
-====
-13:
-14: [[connection]]
-15: train = "T1"
-16: leaves = "C"
-17: after = "T0"
-18: reached = "Nn"
-----
-line 18: connection 0: no point "Nn"; did you mean "N"?
-====
-12: points = ["Mm", "N"]
-----
-line 12: section "corridor": no point "Mm"; did you mean "M"?
-====
-13:
-14: [zones]
-15: "0" = ["A", "B", "C", "D"]
-16: "1" = ["M", "North"]
-----
-line 16: no point "North"; the points are A, M, N, B, C, D
-====
-7: route = ["C", "N", "N", "M", "D"]
-----
-line 7: train "T1": "N" comes twice in a row
-====
-7: route = ["C", "N", "M", "B"]
-----
-line 7: train "T1": without an exit it ends at "B", as train "T0" does
-====
-6: name = "T0"
-----
-line 6: train "T0": "T0" is the name of an earlier train too
-====
-7: route = ["A", "N", "M", "D"]
-----
-line 7: train "T1": starts at "A", as train "T0" does
-====
-13:
-14: [[connection]]
-15: train = "X1"
-16: leaves = "C"
-17: after = "T0"
-18: reached = "N"
-----
-line 15: connection 0: no train "X1"; did you mean "T1"?
-====
-13: only = ["T0", "express"]
-----
-line 13: section "corridor": no train "express"; the trains are T0, T1
-====
-13:
-14: [[table]]
-15: after = 4
-16: [[table.train]]
-17: name = "t1"
-18: exit = true
-----
-line 17: table 1, train "t1": no train "t1"; did you mean "T1"?
-====
-13: weight = { T9 = 1 }
-----
-line 13: section "corridor": no train "T9"; did you mean "T0"?
-====
-11: limit = "one"
-----
-line 11: section "corridor": "limit" takes a whole number, and this is of type string
-====
-7: route = "C N M D"
-----
-line 7: train "T1": "route" takes a list of names, and this is of type string
-====
-7: route = ["C", "N", 5, "D"]
-----
-line 7: train "T1": "route" takes a list of names, and this is of type integer
-====
-13: weight = { T1 = "2" }
-----
-line 13: section "corridor": "weight" takes whole numbers, and this is of type string
-====
-13: weight = { T1 = 2 }
-----
-line 11: section "corridor": train "T1" alone takes 2 of 1
-====
-13: weight = { T0 = 5, T1 = -1 }
-----
-line 13: section "corridor": a weight is 0 to 4, and this is 5
-line 13: section "corridor": a weight is 0 to 4, and this is -1
-====
-13:
-14: [zones]
-15: "2" = ["A"]
-----
-line 14: zone 1 has no point, and zone 2 has
-====
-13:
-14: [zones]
-15: "16" = ["A"]
-16: "west" = ["B"]
-----
-line 15: "16" is no zone: they are numbered from 0 to 15
-line 16: "west" is no zone: they are numbered from 0 to 15
-====
-13:
-14: [zones]
-15: "0" = ["A", "B", "M"]
-16: "1" = ["C", "D", "M"]
-----
-line 16: "M" is in a zone already
-"##;
+// The corridor with some of its lines changed, by their numbers, and the mistakes that are told. `/` ends a line, `;` is between two changes,
+// and line 13 is after the last.
+const CHANGES: &str =
+    r##"7: exits = true / route = ["C", "N", "M", "D"] => line 7: train "T1": no key "exits"; the keys are name, route, start, exit, times
+3: start = "M" / route = ["A", "M", "N", "B"]; 7: start = "N" / route = ["C", "N", "M", "D"] => line 13: section "corridor": at the start 2 of 1 are taken, T0 1, T1 1
+7: start = "Q7" / route = ["C", "N", "M", "D"] => line 7: train "T1": no point "Q7"; the points are A, M, N, B, C, D
+7: times = { default = 2, "C Nn" = 3 } / route = ["C", "N", "M", "D"] => line 7: train "T1": no point "Nn"; did you mean "N"?
+6: name = "T-1"; 12: points = ["Mm", "N"] / only = ["T7"] / width = 3 => line 6: train "T-1": "T-1" is no name: 1 to 16 of A-Z, a-z, 0-9 and _ / line 12: section "corridor": no point "Mm"; did you mean "M"? / line 13: section "corridor": no train "T7"; did you mean "T0"? / line 14: section "corridor": no key "width"; the keys are name, limit, points, weight, only, from, to
+7: start = "A" / route = ["C", "N", "M", "D"] => line 7: train "T1": "A" is not on the route of train "T1"
+7: start = "M#3" / route = ["C", "N", "M", "D"] => line 7: train "T1": "M#3" is not on the route of train "T1"
+7: times = { "M N" = 3 } / route = ["C", "N", "M", "D"] => line 7: train "T1": "M N" is no step of the route
+7: times = { default = 0, "N M" = 1001 } / route = ["C", "N", "M", "D"] => line 7: train "T1": a time is 1 to 1000, and this is 0 / line 7: train "T1": a time is 1 to 1000, and this is 1001
+7: exit = "yes" / route = ["C", "N", "M", "D"] => line 7: train "T1": "exit" takes true or false, and this is of type string
+13: / [[table]] / after = 1000001 => line 15: table 1: a table is due after 0 to 1000000 moves, and this is 1000001
+3: route = ["A", "M", "N", "platform number 2"] => line 3: train "T0": "platform number 2" is no name: 1 to 16 of A-Z, a-z, 0-9 and _
+6: name = "T-1" => line 6: train "T-1": "T-1" is no name: 1 to 16 of A-Z, a-z, 0-9 and _
+13: / [[connection]] / train = "T1" / leaves = "D" / after = "T0" / reached = "N" => line 16: connection 0: "D" is never left: the route of the train ends there
+13: / [[connection]] / train = "T1" / leaves = "C" / after = "T1" / reached = "N" => line 17: connection 0: a train doesn't wait for itself
+7: route = [] => line 7: train "T1": the route is empty
+13: / [[connection]] / train = "T1" / leave = "C" / leaves = "C" / after = "T0" / reached = "N" => line 16: connection 0: no key "leave"; the keys are train, leaves, after, reached
+13: weights = 2 => line 13: section "corridor": no key "weights"; the keys are name, limit, points, weight, only, from, to
+13: / [[table]] / after = 4 / zones = 2 => line 16: table 1: no key "zones"; the keys are after, train, section, connection
+13: / [[table]] / after = 4 / [[table.train]] / name = "T1" / start = "C" => line 18: table 1, train "T1": no key "start"; the keys are name, route, exit, times
+9: [[sections]] => line 9: no key "sections"; the keys are lines, zones, train, section, connection, table
+11: limit = 129 => line 11: section "corridor": a limit is 0 to 128, and this is 129
+13: / [[table]] / [[table.train]] / name = "T1" / exit = true => line 14: table 1: "after" is missing
+13: / [[connection]] => line 14: connection 0: "train" is missing / line 14: connection 0: "leaves" is missing / line 14: connection 0: "after" is missing / line 14: connection 0: "reached" is missing
+11: => line 9: section "corridor": "limit" is missing
+6: => line 5: train 1: "name" is missing
+12: => line 9: section "corridor": "points" is missing
+7: => line 5: train "T1": "route" is missing
+13: / [[connection]] / train = "T1" / leaves = "C" / after = "T0" / reached = "Nn" => line 18: connection 0: no point "Nn"; did you mean "N"?
+12: points = ["Mm", "N"] => line 12: section "corridor": no point "Mm"; did you mean "M"?
+13: / [zones] / "0" = ["A", "B", "C", "D"] / "1" = ["M", "North"] => line 16: no point "North"; the points are A, M, N, B, C, D
+7: route = ["C", "N", "N", "M", "D"] => line 7: train "T1": "N" comes twice in a row
+7: route = ["C", "N", "M", "B"] => line 7: train "T1": without an exit it ends at "B", as train "T0" does
+6: name = "T0" => line 6: train "T0": "T0" is the name of an earlier train too
+7: route = ["A", "N", "M", "D"] => line 7: train "T1": starts at "A", as train "T0" does
+13: / [[connection]] / train = "X1" / leaves = "C" / after = "T0" / reached = "N" => line 15: connection 0: no train "X1"; did you mean "T1"?
+13: only = ["T0", "express"] => line 13: section "corridor": no train "express"; the trains are T0, T1
+13: / [[table]] / after = 4 / [[table.train]] / name = "t1" / exit = true => line 17: table 1, train "t1": no train "t1"; did you mean "T1"?
+13: weight = { T9 = 1 } => line 13: section "corridor": no train "T9"; did you mean "T0"?
+11: limit = "one" => line 11: section "corridor": "limit" takes a whole number, and this is of type string
+7: route = "C N M D" => line 7: train "T1": "route" takes a list of names, and this is of type string
+7: route = ["C", "N", 5, "D"] => line 7: train "T1": "route" takes a list of names, and this is of type integer
+13: weight = { T1 = "2" } => line 13: section "corridor": "weight" takes whole numbers, and this is of type string
+13: weight = { T1 = 2 } => line 11: section "corridor": train "T1" alone takes 2 of 1
+13: weight = { T0 = 5, T1 = -1 } => line 13: section "corridor": a weight is 0 to 4, and this is 5 / line 13: section "corridor": a weight is 0 to 4, and this is -1
+13: / [zones] / "2" = ["A"] => line 14: zone 1 has no point, and zone 2 has
+13: / [zones] / "16" = ["A"] / "west" = ["B"] => line 15: "16" is no zone: they are numbered from 0 to 15 / line 16: "west" is no zone: they are numbered from 0 to 15
+13: / [zones] / "0" = ["A", "B", "M"] / "1" = ["C", "D", "M"] => line 16: "M" is in a zone already"##;
 
-// What the lines of this number become.
+// Adds lines to a text.
+fn push_lines(text: &mut String, lines: &str) -> Result<(), AllocError> {
+    for line in lines.split('/') {
+        text.push_str(line.trim())?;
+        text.push('\n')?;
+    }
+    Ok(())
+}
+
+// What the line of this number becomes, if it is changed.
 fn change_at(changes: &str, number: usize) -> Option<&str> {
-    for change in changes.lines() {
-        let (at, text) = change.split_once(':')?;
-        if at.parse::<usize>() == Ok(number) {
-            return Some(text.trim_start());
+    for change in changes.split(';') {
+        let (at, lines) = change.split_once(':')?;
+        if at.trim().parse::<usize>() == Ok(number) {
+            return Some(lines);
         }
     }
     None
@@ -564,22 +233,21 @@ fn change_at(changes: &str, number: usize) -> Option<&str> {
 // The corridor with these changes.
 fn changed(alloc: Global, changes: &str) -> Result<String, AllocError> {
     let mut plan = String::new(alloc);
-    let mut lines = CORRIDOR.lines();
-    for number in 1..20 {
-        let line = lines.next();
-        if let Some(text) = change_at(changes, number).or(line) {
-            plan.push_str(text)?;
-            plan.push('\n')?;
-        }
+    let mut lines = CORRIDOR.split('\n');
+    for number in 1..14 {
+        let line = lines.next().unwrap_or("");
+        push_lines(&mut plan, change_at(changes, number).unwrap_or(line))?;
     }
     Ok(plan)
 }
 
 // Whether the changed corridor is answered as its row says.
 fn play_changed(rt: &impl Abort, alloc: Global, row: &str) -> Result<(), Fail> {
-    let (changes, says) = row.split_once("\n----\n").ok_or("an answer")?;
+    let (changes, says) = row.split_once(" => ").ok_or("an answer")?;
     let plan = changed(alloc, changes)?;
-    answers(rt, alloc, "plan", plan.as_str(), says)
+    let mut answer = String::new(alloc);
+    push_lines(&mut answer, says)?;
+    answers(rt, alloc, "plan", plan.as_str(), answer.as_str())
 }
 
 #[test]
@@ -589,7 +257,7 @@ fn plans_are_answered_as_their_rows_say(rt: HostRuntime) -> Result<(), Fail> {
 
 #[test]
 fn mistakes_are_told_with_their_lines(rt: HostRuntime) -> Result<(), Fail> {
-    for row in CHANGES.split("\n====\n") {
+    for row in CHANGES.lines() {
         play_changed(&rt, rt.alloc(), row)?;
     }
     Ok(())
