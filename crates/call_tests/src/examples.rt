@@ -26,12 +26,17 @@ run: passing-loop => 0 1 move T0 W L1/2 move T1 E L2/3 move T0 L1 E/4 move T1 L2
 check: passing-loop => 0 accepted tables=1 nodes=11/
 make: passing-loop => 0 +loop-made
 migrate: first-path => 0 +first-path-later
+migrate: exits-of-no-meaning => 0 +exits-of-no-meaning-left-out
+migrate: connections-of-no-meaning => 0 +connections-of-no-meaning-left-out
+migrate: later-certificate => 0 +later-certificate-kept
+migrate: loose => 0 +compact
 sim: passing-loop => 0 0 move T0 W L1/0 move T1 E L2/1 move T0 L1 E/1 move T1 L2 W/end moves=4 tables=0 last=1/
 weave --seed 7 --steps 1000: first-path => 0 1 move T0 A B/2 move T0 B C/end moves=2 tables=0/
 weave --steps 0: passing-loop => 0 1 move T0 W L1/2 move T1 E L2/3 move T0 L1 E/4 move T1 L2 W/end moves=4 tables=0/
 derive --most 2: unmarked-corridor => 0 +corridor-marked
 repair: unmarked-corridor => 0 +corridor-marked
 repair: long-corridor => 0 +long-corridor-repaired
+derive --most 3: round-done => 0 +round-marked
 gen --seed 2 --trains 2:  => 0 +generated
 drill --seed 2:  => 0 trains=2 moves=4 tables=0 nodes=9/
 run: corridor => 0 1 move T0 A M/2 move T0 M N/3 move T0 N B/4 move T1 C N/5 move T1 N M/6 move T1 M D/end moves=6 tables=0/
@@ -54,6 +59,10 @@ verify: passing-loop 1 move T0 W L1/2 move T1 E L2/ => 9 ats: 73 NoEnd/
 resume: passing-loop 1 move T0 W L1/2 move T1 E L2/ => 0 1 move T0 W L1/2 move T1 E L2/3 move T0 L1 E/4 move T1 L2 W/end moves=4 tables=0/
 resume: passing-loop 1 move T0 W L1/2 move T1 E L2/3 move T0 L1 E/4 move T1 L2 W/end moves=4 tables=0/ => 0 1 move T0 W L1/2 move T1 E L2/3 move T0 L1 E/4 move T1 L2 W/end moves=4 tables=0/
 resume --workers 2: same-point 1 move T0 A B/2 move T0 B A/3 kept 1 differs T0 1/ => 0 1 move T0 A B/2 move T0 B A/3 kept 1 differs T0 1/4 move T0 A C/end moves=3 tables=0/
+resume: never-legal 1 move T0 A M/2 kept 1 over 0 1/ => 0 1 move T0 A M/2 kept 1 over 0 1/3 move T0 M N/4 move T0 N B/5 move T1 C N/6 move T1 N M/7 move T1 M D/end moves=6 tables=0/
+resume: exits 1 move T0 A B/2 move T0 B -/ => 0 1 move T0 A B/2 move T0 B -/3 move T1 C B/4 move T1 B -/end moves=4 tables=0/
+resume: goes-on 1 move T0 A B/2 move T0 B C/3 table 1/ => 0 1 move T0 A B/2 move T0 B C/3 table 1/4 move T0 C D/end moves=3 tables=1/
+verify: same-point 1 move T0 A B/2 move T0 B A/3 kept 1 differs T0 1/4 move T0 A C/end moves=3 tables=0/ => 0 ok moves=3 tables=0/
 resume: passing-loop 2 move T0 W L1/ => 9 ats: 72 Number line=1/
 : first-path => 1 ats: 201 Words/
 run --workers 17: first-path => 1 ats: 201 Words/
@@ -68,6 +77,9 @@ check: bad-wait => 4 ats: 59 MoveWait table=0 index=2 train=0 connection=0/
 make --budget 8: passing-loop => 5 ats: 205 Spent table=0 nodes=8/
 make: head-on => 6 ats: 206 Stuck table=0 at=0,0/
 make: unmarked-corridor => 6 ats: 206 Stuck table=0 at=1,1/
+derive --most 2: round => 6 ats: 206 Stuck table=0 at=0,0,0/
+derive --most 3: round => 3 ats: 112 StartIllegal 34 Over section=0 count=3 limit=2/
+derive: ladder => 3 ats: 121 Many table=0 count=65/
 repair: head-on => 3 ats: 112 StartIllegal 34 Over section=0 count=2 limit=1/
 repair --rounds 2: long-corridor => 5 ats: 209 Rounds table=0 rounds=2 at=1,1/";
 

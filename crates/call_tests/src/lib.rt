@@ -14,10 +14,6 @@ mod orders;
 #[cfg(test)]
 mod refusals;
 #[cfg(test)]
-mod sections;
-#[cfg(test)]
-mod shapes;
-#[cfg(test)]
 mod steps;
 #[cfg(test)]
 mod trees;

@@ -1,8 +1,8 @@
 // What is printed for documents and journals that are refused. Each row is a part of an input, and the words for it.
 use crate::examples::documents::document_called;
 use crate::examples::{call, is_told, push_lines};
-use refusal_lines::push_many;
 use std::alloc::{AllocError, Global};
+use std::process::Abort;
 use std::sync::Wait;
 use std::test::Fail;
 use std::thread::Threads;
@@ -36,10 +36,36 @@ const MEMBERS: &str = r#""version":9 => 103 Version value=9
 "version":3,"tables":[{"missions":[["A","B","C"]],"connections":[[0,0,2,1]]}] => 27 ConnectionTrain table=0 connection=0
 "tables":[{"missions":[["A","B","C"]],"times":[[1,0]]}] => 114 TimesValue table=0 train=0 place=1 value=0"#;
 
-// Certificates of the passing loop.
+// Members after those of one point. A member that no document has changes nothing.
+const MEMBERS_OF_ONE_POINT: &str =
+    r#""zones": 1 , "start" : [ 0, 4294967295 ] => 111 StartLength count=2
+"start":[],"start":[7] => 112 StartIllegal 32 Range train=0
+"start":[7,"x"],"start":[7] => 112 StartIllegal 32 Range train=0
+"st\u0061rt":[7],"\u006cinks":[["\u0041","\ud83d\ude00"]] => 3 UnknownPoint link=0
+"zones":1e0 => 102 Shape member=zones
+"zones":1.0 => 102 Shape member=zones
+"zones":-0 => 102 Shape member=zones
+"zones":4294967296 => 102 Shape member=zones
+"start":[01] => 101 NotJson
+"start":[1,] => 101 NotJson
+"zones":1e999 => 101 NotJson
+"tables":[{"missions":[["A"]],"exits":[true,false],"connections":[[0,1,2,3]],"after":0}] => 18 Exits table=0 count=2
+"tables":[{"missions":[["A"]],"connections":[[0,1,2]]}] => 102 Shape table=0 member=connections
+"tables":[{"missions":[["A"]],"certificate":[[0,1,2],[1,3,4],[2,5],[3],[4,6]],"times":[[1,2],[],[3]]}] => 113 TimesLength table=0 train=1 count=3
+"tables":[{"missions":[["A"]],"certificate":[[0,1,2,3]]}] => 102 Shape table=0 member=certificate
+"tables":[{"missions":[["A"]],"certificate":[[]]}] => 102 Shape table=0 member=certificate
+"tables":[{"missions":[["A"]],"certificate":[[5,6]]}] => 102 Shape table=0 member=certificate
+"tables":[{"missions":[["A"]],"sections":[{"limit":3,"changes":[[1,-1,-2147483648,2147483647],[]]}]}] => 22 Count table=0 section=0 train=0
+"tables":[{"missions":[["A"]],"sections":[{"limit":3,"changes":[[-0]]}]}] => 102 Shape table=0 member=sections
+"tables":[{"missions":[["A"]],"sections":[{"limit":3,"changes":[[-2147483649]]}]}] => 102 Shape table=0 member=sections
+"tables":[{"missions":[["A"]],"sections":[{"limit":3}]}] => 102 Shape table=0 member=sections
+"tables":[{"certificate":[[3]]}] => 102 Shape table=0 member=missions
+"tables":[7] => 102 Shape member=tables"#;
+
+// Certificates of the passing loop, whose table ends with them.
 const NODES: &str = "\
-[] => 41 Short table=0 missing=1
 [0,0,0] => 41 Short table=0 missing=2
+ => 41 Short table=0 missing=1
 [0,0,0],[4,0] => 41 Short table=0 missing=1
 [0,0,0],[4,0],[4,0],[4,0] => 42 Over table=0 used=3
 [0,0,2],[4,0],[3] => 51 Split table=0 index=0
@@ -55,7 +81,7 @@ const NODES_IN_A_SECTION: &str = "\
 [0,0,0],[4,0],[0,1,0],[4,1],[3] => 57 MoveRoom table=0 index=1 train=0 section=0
 [2,0] => 53 Overfull table=0 index=0 section=0 least=1";
 
-const ENTERING: &str =
+const IN_A_SECTION: &str =
     r#"{"version":1,"points":[["A",0],["B",0],["C",0],["D",0]],"links":[["A","B"],["C","D"]],"zones":1,"trains":["T0","T1"],"start":[0,0],"tables":[{"missions":[["A","B"],["C","D"]],"sections":[{"limit":1,"changes":[[0,1],[1,0]]}],"certificate":["#;
 
 // Journals of the first path with a second table after its first move; `/` ends a line.
@@ -79,13 +105,8 @@ end moves=0 tables=0// => 74 After
 1 move T0 A B/end moves=1 tables=0/ => 77 Unfinished train=0
 1 move T0 A B/2 move T0 B C/end moves=2 tables=0/ => 80 Open table=1";
 
-const TWO_TABLES: &str =
-    r#""tables":[{"missions":[["A","B","C"]],"certificate":[[0,0,1],[4,0],[3]]},{"missions":[["A","B","C"]],"certificate":[[0,0,1],[4,0],[3]],"after":1}]}"#;
-
-// A text without some of its last bytes.
-fn without(text: &str, bytes: usize) -> &str {
-    text.get(..text.len().saturating_sub(bytes)).unwrap_or("")
-}
+const TWO_TABLES_AND_A_JOURNAL: &str =
+    r#","tables":[{"missions":[["A","B","C"]],"certificate":[[0,0,1],[4,0],[3]]},{"missions":[["A","B","C"]],"certificate":[[0,0,1],[4,0],[3]],"after":1}]}/journal/"#;
 
 // Several texts, one after the other, with the ends of their lines.
 fn joined(alloc: Global, parts: &[&str]) -> Result<Vec<u8>, AllocError> {
@@ -110,60 +131,92 @@ fn is_refused(
     Ok(played.written.is_empty() && is_told(&played, wanted.as_slice()))
 }
 
-#[test]
-fn documents_are_refused(rt: HostRuntime) -> Result<(), Fail> {
-    let alloc = rt.alloc();
-    let head = without(document_called("first-path").ok_or("a document")?, 1);
-    for row in MEMBERS.split('\n') {
-        let (members, told) = row.split_once(" => ").ok_or("words")?;
-        let parts = [head, ",", members, "}"];
-        assert!(rt; is_refused(&rt, alloc, "check", &parts, told)?, "{row}");
+// An order, and the texts around the part of an input that a row has.
+#[derive(Clone, Copy)]
+struct Frame<'a> {
+    words: &'a str,
+    head: &'a str,
+    middle: &'a str,
+    end: &'a str,
+}
+
+// Each row's part of an input is refused with the row's words.
+fn each_is_refused(
+    rt: &(impl Abort + Threads + Wait + Sync),
+    alloc: Global,
+    frame: Frame<'_>,
+    rows: &str,
+) -> Result<(), Fail> {
+    for row in rows.split('\n') {
+        let (part, told) = row.split_once(" => ").ok_or("words")?;
+        let parts = [frame.head, frame.middle, part, frame.end];
+        assert!(rt; is_refused(rt, alloc, frame.words, &parts, told)?, "{row}");
     }
     Ok(())
+}
+
+// The document of this name without its last brace.
+fn head_of(name: &str) -> Result<&'static str, Fail> {
+    let text = document_called(name).ok_or("a document")?;
+    Ok(text.strip_suffix('}').ok_or("a brace")?)
+}
+
+#[test]
+fn documents_are_refused(rt: HostRuntime) -> Result<(), Fail> {
+    let frame = Frame {
+        words: "check",
+        head: head_of("first-path")?,
+        middle: ",",
+        end: "}",
+    };
+    each_is_refused(&rt, rt.alloc(), frame, MEMBERS)
+}
+
+#[test]
+fn members_of_one_point_are_refused(rt: HostRuntime) -> Result<(), Fail> {
+    let frame = Frame {
+        words: "migrate",
+        head: head_of("one-point")?,
+        middle: ",",
+        end: "}",
+    };
+    each_is_refused(&rt, rt.alloc(), frame, MEMBERS_OF_ONE_POINT)?;
+    let more = Frame {
+        end: r#","more":[{}]}"#,
+        ..frame
+    };
+    each_is_refused(&rt, rt.alloc(), more, MEMBERS_OF_ONE_POINT)
 }
 
 #[test]
 fn certificates_are_refused(rt: HostRuntime) -> Result<(), Fail> {
-    let alloc = rt.alloc();
-    let head = without(document_called("passing-loop").ok_or("a document")?, 1);
-    let table = r#","tables":[{"missions":[["W","L1","E"],["E","L2","W"]],"certificate":["#;
-    for row in NODES.split('\n') {
-        let (nodes, told) = row.split_once(" => ").ok_or("words")?;
-        let nodes = if nodes == "[]" { "" } else { nodes };
-        let parts = [head, table, nodes, "]}]}"];
-        assert!(rt; is_refused(&rt, alloc, "check", &parts, told)?, "{row}");
-    }
-    Ok(())
+    let frame = Frame {
+        words: "check",
+        head: head_of("passing-loop")?,
+        middle: r#","tables":[{"missions":[["W","L1","E"],["E","L2","W"]],"certificate":["#,
+        end: "]}]}",
+    };
+    each_is_refused(&rt, rt.alloc(), frame, NODES)
 }
 
 #[test]
 fn certificates_of_a_section_are_refused(rt: HostRuntime) -> Result<(), Fail> {
-    let alloc = rt.alloc();
-    for row in NODES_IN_A_SECTION.split('\n') {
-        let (nodes, told) = row.split_once(" => ").ok_or("words")?;
-        let parts = [ENTERING, nodes, "]}]}"];
-        assert!(rt; is_refused(&rt, alloc, "check", &parts, told)?, "{row}");
-    }
-    Ok(())
+    let frame = Frame {
+        words: "check",
+        head: IN_A_SECTION,
+        middle: "",
+        end: "]}]}",
+    };
+    each_is_refused(&rt, rt.alloc(), frame, NODES_IN_A_SECTION)
 }
 
 #[test]
 fn journals_are_refused(rt: HostRuntime) -> Result<(), Fail> {
-    let alloc = rt.alloc();
-    let head = without(document_called("first-path").ok_or("a document")?, 1);
-    for row in JOURNALS.split('\n') {
-        let (journal, told) = row.split_once(" => ").ok_or("words")?;
-        let parts = [head, ",", TWO_TABLES, "/journal/", journal];
-        assert!(rt; is_refused(&rt, alloc, "verify", &parts, told)?, "{row}");
-    }
-    Ok(())
-}
-
-// No worked example has as many sections.
-#[test]
-fn too_many_sections_have_their_words(rt: HostRuntime) -> Result<(), Fail> {
-    let mut words = String::new(rt.alloc());
-    push_many(&mut words, 0, 65)?;
-    assert_eq!(rt; words.as_str(), "121 Many table=0 count=65");
-    Ok(())
+    let frame = Frame {
+        words: "verify",
+        head: head_of("first-path")?,
+        middle: TWO_TABLES_AND_A_JOURNAL,
+        end: "",
+    };
+    each_is_refused(&rt, rt.alloc(), frame, JOURNALS)
 }
