@@ -6,8 +6,8 @@ ghost use Rattle.layout_json.specs.Doc.{offers_of};
 use crate::documents::{accepted, document_called};
 use crate::stages::{MANY, play_from, play_from_start};
 use cert_checker::Accepted;
-use layout_json::{Doc, names_of, start_of};
-use move_journal::{Part, read_prefix, replay};
+use layout_json::{Doc, start_of};
+use move_journal::{Journal, replay};
 use plain_yard::PlainYard;
 use rail_model::{Line, PlainState};
 use std::alloc::Global;
@@ -36,17 +36,15 @@ fn trains_leave_before_they_arrive(rt: HostRuntime) -> Result<(), Fail> {
     Ok(())
 }
 
-// The state to which the front of a journal leads.
-fn replayed(alloc: Global, doc: &Doc, tables: &[Accepted], front: &str) -> Result<PlainState, Fail>
+// The state to which one line leads.
+fn replayed(alloc: Global, doc: &Doc, tables: &[Accepted], line: Line) -> Result<PlainState, Fail>
     requires { tables.now ≡ offers_of doc.now }
     ensures { IfOk result (λ state. Keeps (offers_of doc.now) state.yard state.lines) }
 {
-    match read_prefix(alloc, names_of(doc), front.as_bytes()) {
-        Ok(Part::Open(journal)) => match replay(alloc, tables, start_of(doc), &journal) {
-            Ok(state) => Ok(state),
-            Err(_) => Err("right lines".into()),
-        },
-        _ => Err("a front".into()),
+    let journal = Journal::from_lines(Vec::from_slice(alloc, &[line])?);
+    match replay(alloc, tables, start_of(doc), &journal) {
+        Ok(state) => Ok(state),
+        Err(_) => Err("right lines".into()),
     }
 }
 
@@ -55,7 +53,7 @@ fn a_yard_goes_on_from_a_journal(rt: HostRuntime) -> Result<(), Fail> {
     let alloc = rt.alloc();
     let doc = document_called(alloc, "passing-loop")?;
     let tables = accepted(alloc, &doc)?;
-    let state = replayed(alloc, &doc, &tables, "1 move T0 W L1\n")?;
+    let state = replayed(alloc, &doc, &tables, FIRST)?;
     let scene = "\
 0 request: Taken
 1 try_request: Busy { zone: 0, holder: 0 }
