@@ -1,0 +1,7 @@
+use Rattle.call_tests.proofs.Opening.{begins_well}
+use Rattle.call_tests.proofs.yards.opened.Goals as goal
+
+pub new-requires : goal.new-requires
+new-requires c =
+    begins_well c.args.doc.now c.args.tables.now c.start_of.result.now c.in_ok-begun.begun c.start_of.ensures.formed c.start_of.ensures.start c.requires
+    c.in_ok-begun.ensures
