@@ -13,17 +13,21 @@ use std::process::Abort;
 use std::test::Fail;
 use std::thread::Threads;
 
-// The document of this name.
-pub(crate) fn read(alloc: Global, name: &str) -> Result<Doc, Fail> {
-    let text = document_called(name).ok_or("a text")?;
-    match document(alloc, text.as_bytes()) {
+// The document of this text.
+pub(crate) fn read_text(alloc: Global, text: &[u8]) -> Result<Doc, Fail> {
+    match document(alloc, text) {
         Ok(doc) => Ok(doc),
         Err(_) => Err("a document".into()),
     }
 }
 
+// The document of this name.
+pub(crate) fn read(alloc: Global, name: &str) -> Result<Doc, Fail> {
+    read_text(alloc, document_called(name).ok_or("a text")?.as_bytes())
+}
+
 // The first table of a document, if there is one.
-fn first_table(doc: &Doc) -> Option<&Table> {
+pub(crate) fn first_table(doc: &Doc) -> Option<&Table> {
     if tables_of(doc) == 0 {
         None
     } else {
