@@ -1,1 +1,2 @@
 pub mod Extremes
+mod Rows

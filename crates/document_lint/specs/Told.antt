@@ -1,9 +1,10 @@
 -- When something is said of a document.
-use Rattle.std.specs.Prelude.{◌≡◌, ◌⊎◌, ◌<◌, ℕ, List, length, Option, Ok, MatchOption}
-use Rattle.layout_json.specs.Doc.{Doc}
+use Rattle.std.specs.Prelude.{◌≡◌, ◌≢◌, ◌⊎◌, ◌<◌, ◌≤◌, ℕ, pos, List, length, Option, None, Ok, MatchOption, Contains}
+use Rattle.layout_json.specs.Doc.{Doc, doc_table, table_at}
 use Rattle.layout_json.specs.Reading.{doc_of}
-use Rattle.rail_model.specs.Table.{Table}
-use Rattle.document_lint.specs.Sections.{EndTogether}
+use Rattle.rail_model.specs.Table.{Table, Connection, last, place, section, share}
+use Rattle.rail_model.specs.State.{remaining}
+use Rattle.document_lint.specs.Sections.{EndTogether, end}
 use Rattle.document_lint.specs.declared.remark.Remarks.{Remarks}
 
 -- The bytes are a document.
@@ -25,3 +26,31 @@ SaysOnlyWhere Holds old new = (new ≡ old) ⊎ Holds
 -- An earlier train ends at the point at which this one ends.
 abbrev pub EndsAsEarlier : Table → ℕ → Type 0
 EndsAsEarlier T i = (earlier : ℕ) × (earlier < i) × EndTogether T earlier i
+
+-- An earlier section is the same as this one.
+abbrev pub IsAsEarlier : Table → ℕ → Type 0
+IsAsEarlier T s = (earlier : ℕ) × (earlier < s) × (section T earlier ≡ section T s)
+
+-- The train leaves the layout, and still has a share of the section then.
+abbrev pub KeepsForGood : Table → ℕ → ℕ → Type 0
+KeepsForGood T s i = (end T i ≡ None) × (share T i s (last T i) ≢ pos 0)
+
+-- The train starts at the place or past it.
+abbrev pub StartsFrom : List ℕ → ℕ → ℕ → Type 0
+StartsFrom start i k = (i < length start) × (k ≤ place start i)
+
+-- The train starts past the place.
+abbrev pub StartsPast : List ℕ → ℕ → ℕ → Type 0
+StartsPast start i k = (i < length start) × (k < place start i)
+
+-- The connection holds nobody: it is met, or its train is past it, at the start.
+abbrev pub HoldsNobody : List ℕ → Connection → Type 0
+HoldsNobody start c = StartsFrom start c.other c.reached ⊎ StartsPast start c.train c.place
+
+-- Table t of the document has a section like this one of the former document's table t.
+abbrev pub IsKept : Doc → ℕ → Table → ℕ → Type 0
+IsKept D t former s = (t < length D.tables) × Contains (table_at D t).sections (section former s)
+
+-- Under each table before table t all trains have arrived after fewer moves than table t is due after.
+abbrev pub IsNeverDue : Doc → ℕ → Type 0
+IsNeverDue D t = (earlier : ℕ) → earlier < t → remaining (table_at D earlier) D.start < (doc_table D t).after

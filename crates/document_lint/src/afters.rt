@@ -1,5 +1,8 @@
 // Tables that are due after more moves than are ever made.
-ghost use Rattle.std.specs.Prelude.{◌<◌, length};
+ghost use Rattle.std.specs.Prelude.{ℕ, ◌<◌, ◌≤◌, length};
+ghost use Rattle.rail_model.specs.State.{remaining as moves_left};
+ghost use Rattle.layout_json.specs.Doc.{table_at};
+ghost use Rattle.document_lint.specs.Told.{IsNeverDue, SaysOnlyWhere};
 
 use crate::remark::Remarks;
 use layout_json::{Doc, after_of, start_of, table_of, tables_of};
@@ -9,6 +12,7 @@ use std::alloc::AllocError;
 // The most moves that are made before all trains have arrived under a table before this one.
 fn most_moves(doc: &Doc, table: u32) -> u64
     requires { table < length doc.now.tables }
+    ensures { (earlier : ℕ) → earlier < table → moves_left (table_at doc.now earlier) doc.now.start ≤ result }
 {
     let mut most: u64 = 0;
     for earlier in 0..table {
@@ -20,6 +24,7 @@ fn most_moves(doc: &Doc, table: u32) -> u64
 // Adds that a table is due only once all trains have arrived, if it is.
 fn add_after(remarks: &mut Remarks, doc: &Doc, table: u32) -> Result<(), AllocError>
     requires { table < length doc.now.tables }
+    ensures { SaysOnlyWhere (IsNeverDue doc.now table) remarks.old remarks.new }
 {
     let after = after_of(doc, table);
     let moves = most_moves(doc, table);

@@ -1,6 +1,7 @@
 // Sections of a former document that are gone.
-ghost use Rattle.std.specs.Prelude.{◌<◌, ◌≤◌, length};
+ghost use Rattle.std.specs.Prelude.{◌<◌, ◌≤◌, ◌↔◌, IsTrue, length};
 ghost use Rattle.rail_model.specs.Table.{trains, last};
+ghost use Rattle.document_lint.specs.Told.{IsKept, SaysOnlyWhere};
 
 use crate::exact::most;
 use crate::remark::Remarks;
@@ -72,10 +73,27 @@ fn add_gone(remarks: &mut Remarks, former: &Subject, section: u32) -> Result<(),
 // Whether a table of a document, if it is there, has a section of a table of the former one.
 fn is_kept(doc: &Doc, former: &Subject, section: u32) -> bool
     requires { section < length former.now.table.now.sections }
+    ensures { IsTrue result ↔ IsKept doc.now former.now.number former.now.table.now section }
 {
     let table = former.number;
     let sections = former.table.sections();
     table < tables_of(doc) && has_section(table_of(doc, table), &sections[section as usize])
+}
+
+// Adds that a section of the former document is gone, if it is.
+fn add_if_gone(
+    remarks: &mut Remarks,
+    doc: &Doc,
+    former: &Subject,
+    section: u32,
+) -> Result<(), AllocError>
+    requires { section < length former.now.table.now.sections }
+    ensures { SaysOnlyWhere (IsKept doc.now former.now.number former.now.table.now section → ⊥) remarks.old remarks.new }
+{
+    if is_kept(doc, former, section) {
+        return Ok(());
+    }
+    add_gone(remarks, former, section)
 }
 
 /// Adds which sections of the former document are in no table of the same number.
@@ -83,9 +101,7 @@ pub(crate) fn add_former(remarks: &mut Remarks, doc: &Doc, former: &Doc) -> Resu
     for table in 0..tables_of(former) {
         let subject = subject_of(former, table);
         for section in 0..sections_of(subject.table) {
-            if !is_kept(doc, &subject, section) {
-                add_gone(remarks, &subject, section)?;
-            }
+            add_if_gone(remarks, doc, &subject, section)?;
         }
     }
     Ok(())

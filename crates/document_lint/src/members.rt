@@ -1,4 +1,7 @@
 // Members that are ignored: of unknown names, of later versions, and given again.
+ghost use Rattle.std.specs.Prelude.{◌<◌};
+ghost use Rattle.document_lint.specs.Told.{SaysOnlyWhere};
+
 use crate::remark::Remarks;
 use json::{Error, Scratch, Value};
 use rail_model::is_name;
@@ -181,7 +184,9 @@ fn add_later(
     member: &str,
     version: u64,
     since: u64,
-) -> Result<(), AllocError> {
+) -> Result<(), AllocError>
+    ensures { SaysOnlyWhere (version < since) remarks.old remarks.new }
+{
     if since <= version || table.get(member).is_none() {
         return Ok(());
     }

@@ -1,8 +1,8 @@
 // Sections that have no effect, that a train overfills, or that are kept for good.
-ghost use Rattle.std.specs.Prelude.{◌<◌, ◌⊎◌, length};
-ghost use Rattle.rail_model.specs.Table.{trains};
+ghost use Rattle.std.specs.Prelude.{◌≡◌, ◌<◌, ◌⊎◌, length, IfSome};
+ghost use Rattle.rail_model.specs.Table.{trains, section as section_at};
 ghost use Rattle.document_lint.specs.Sections.{IsOverfullAtEnd, IsUnused, NeverBinds, OverfillsAlone};
-ghost use Rattle.document_lint.specs.Told.{SaysOnlyWhere};
+ghost use Rattle.document_lint.specs.Told.{IsAsEarlier, KeepsForGood, SaysOnlyWhere};
 
 use crate::exact::{
     count_at_end, end_share, is_overfull_at_end, is_unused, most_together, never_binds,
@@ -12,7 +12,7 @@ use crate::remark::Remarks;
 use crate::same::is_same_section;
 use crate::shares::{add_shares, look_like_shares};
 use crate::subject::Subject;
-use rail_model::{last_of, limit_of, point_of, sections_of, share_at, trains_of};
+use rail_model::{Table, last_of, limit_of, point_of, sections_of, share_at, trains_of};
 use std::alloc::AllocError;
 
 // Where a train first has more of a section than a limit.
@@ -62,6 +62,7 @@ fn add_kept(
 ) -> Result<(), AllocError>
     requires section { section < length subject.now.table.now.sections }
     requires train { train < trains subject.now.table.now }
+    ensures { SaysOnlyWhere (KeepsForGood subject.now.table.now section train) remarks.old remarks.new }
 {
     let share = end_share(subject.table, section, train);
     let last = last_of(subject.table, train);
@@ -132,20 +133,32 @@ fn add_idle(remarks: &mut Remarks, subject: &Subject, section: u32) -> Result<()
     remarks.add(place, words)
 }
 
+// The first section before another one that is the same.
+fn first_like(table: &Table, section: u32) -> Option<u32>
+    requires { section < length table.now.sections }
+    ensures { IfSome result (λ first. (first < section) × (section_at table.now first ≡ section_at table.now section)) }
+{
+    let sections = table.sections();
+    for first in 0..section {
+        if is_same_section(&sections[first as usize], &sections[section as usize]) {
+            return Some(first);
+        }
+    }
+    None
+}
+
 // Adds that a section is the same as an earlier one, if it is.
 fn add_double(remarks: &mut Remarks, subject: &Subject, section: u32) -> Result<(), AllocError>
     requires { section < length subject.now.table.now.sections }
+    ensures { SaysOnlyWhere (IsAsEarlier subject.now.table.now section) remarks.old remarks.new }
 {
-    let sections = subject.table.sections();
-    for first in 0..section {
-        if is_same_section(&sections[first as usize], &sections[section as usize]) {
-            let alloc = remarks.alloc();
-            let place = subject.section_place(alloc, section)?;
-            let words = format!(in alloc; "the same as sections[{first}]")?;
-            return remarks.add(place, words);
-        }
-    }
-    Ok(())
+    let Some(first) = first_like(subject.table, section) else {
+        return Ok(());
+    };
+    let alloc = remarks.alloc();
+    let place = subject.section_place(alloc, section)?;
+    let words = format!(in alloc; "the same as sections[{first}]")?;
+    remarks.add(place, words)
 }
 
 // Adds which trains' changes look like shares: those that end as at a place without a share.

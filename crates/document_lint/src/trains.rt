@@ -1,8 +1,8 @@
 // Trains that can't both arrive, and connections that hold nobody.
-ghost use Rattle.std.specs.Prelude.{◌<◌, IfSome};
+ghost use Rattle.std.specs.Prelude.{◌<◌, ◌↔◌, IfSome, IsTrue};
 ghost use Rattle.rail_model.specs.Table.{trains};
 ghost use Rattle.document_lint.specs.Sections.{EndTogether};
-ghost use Rattle.document_lint.specs.Told.{EndsAsEarlier, SaysOnlyWhere};
+ghost use Rattle.document_lint.specs.Told.{EndsAsEarlier, HoldsNobody, SaysOnlyWhere, StartsFrom, StartsPast};
 
 use crate::exact::end_together;
 use crate::remark::Remarks;
@@ -50,10 +50,22 @@ pub(crate) fn add_trains(remarks: &mut Remarks, subject: &Subject) -> Result<(),
     Ok(())
 }
 
-// Whether a train is at a place or after it from the start on.
-fn starts_from(start: &[u32], train: u32, place: u32) -> bool {
+// Whether a train starts at a place or past it.
+fn starts_from(start: &[u32], train: u32, place: u32) -> bool
+    ensures { IsTrue result ↔ StartsFrom start.now train place }
+{
     match start.get(train as usize) {
         Some(position) => place <= *position,
+        None => false,
+    }
+}
+
+// Whether a train starts past a place.
+fn starts_past(start: &[u32], train: u32, place: u32) -> bool
+    ensures { IsTrue result ↔ StartsPast start.now train place }
+{
+    match start.get(train as usize) {
+        Some(position) => place < *position,
         None => false,
     }
 }
@@ -65,7 +77,9 @@ fn add_connection(
     start: &[u32],
     number: usize,
     connection: &Connection,
-) -> Result<(), AllocError> {
+) -> Result<(), AllocError>
+    ensures { SaysOnlyWhere (HoldsNobody start.now connection.now) remarks.old remarks.new }
+{
     let alloc = remarks.alloc();
     let train = subject.train(connection.train());
     let other = subject.train(connection.other());
@@ -75,7 +89,7 @@ fn add_connection(
         format!(in alloc;
             "never holds {train}: {other} has already reached place {reached} of its mission at the start"
         )?
-    } else if starts_from(start, connection.train(), left.saturating_add(1)) {
+    } else if starts_past(start, connection.train(), left) {
         format!(in alloc; "never holds {train}, which starts past place {left} of its mission")?
     } else {
         return Ok(());
