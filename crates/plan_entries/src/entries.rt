@@ -1,4 +1,11 @@
 // The entries of a plan: what its text says, before its names are known.
+ghost use Rattle.std.specs.Prelude.{◌≡◌, is_some, option_and_then, option_copied, option_map};
+ghost use Rattle.std.specs.List.{list_all};
+ghost use Rattle.toml.specs.Data.{as_bool, as_integer, as_str, as_table, get_item};
+ghost use Rattle.toml.specs.View.{items_view, table_view, view};
+ghost use Rattle.plan_entries.specs.Found as spec;
+ghost use Rattle.plan_entries.specs.Found.{value_at};
+
 use toml::{Table, Value};
 
 /// A part of a plan: the keys at its top, the table of its zones, or a list of entries.
@@ -59,26 +66,52 @@ pub(crate) fn first_other(values: &[Value]) -> Option<&Value> {
     None
 }
 
+// Whether a value is a text.
+fn is_text(value: &Value) -> bool
+    ensures { result ≡ is_some (as_str (view value.now)) }
+{
+    value.is_str()
+}
+
+// Whether all values are texts.
+fn are_texts(values: &[Value]) -> bool
+    ensures { result ≡ list_all (λ v. is_some (as_str (view v))) values.now }
+{
+    values.iter().all(|value| is_text(value))
+}
+
 /// The names of a list; none, if it isn't a list of names.
-pub fn names_of(value: &Value) -> Option<&[Value]> {
-    let values = value.as_array()?.as_slice();
-    match first_other(values) {
-        Some(_) => None,
-        None => Some(values),
+#[tactic(auto, using(crate::proofs::Names::all_names))]
+pub fn names_of(value: &Value) -> Option<&[Value]>
+    ensures { option_map (λ names. items_view names.now) result ≡ spec.names_in (view value.now) }
+{
+    match value.as_array() {
+        Some(values) if are_texts(values) => Some(values.as_slice()),
+        _ => None,
+    }
+}
+
+// The keys of a value, if it is there and is a table of keys.
+fn keys_of(values: &[Value], index: usize) -> Option<&Table>
+    ensures { option_map (λ keys. table_view keys.now) result ≡ option_and_then as_table (get_item index (items_view values.now)) }
+{
+    if index < values.len() {
+        values[index].as_table()
+    } else {
+        None
     }
 }
 
 impl<'t> Entries<'t> {
     /// An entry; one without keys for one that isn't there.
-    pub fn entry(&self, index: usize) -> Entry<'t> {
+    pub fn entry(&self, index: usize) -> Entry<'t>
+        ensures { option_map (λ keys. table_view keys.now) result.keys ≡ option_and_then as_table (get_item index (items_view self.now.values.now)) }
+    {
         Entry {
             kind: self.kind,
             table: self.table,
             index,
-            keys: match self.values.get(index) {
-                Some(value) => value.as_table(),
-                None => None,
-            },
+            keys: keys_of(self.values, index),
             key: "",
             name: "",
         }
@@ -135,8 +168,13 @@ impl<'t> Entry<'t> {
     }
 
     /// The value at a key.
-    pub fn value(&self, key: &str) -> Option<&'t Value> {
-        self.keys?.get(key)
+    pub fn value(&self, key: &str) -> Option<&'t Value>
+        ensures { option_map (λ v. view v.now) result ≡ value_at key.now self.now }
+    {
+        match self.keys {
+            Some(keys) => keys.get(key),
+            None => None,
+        }
     }
 
     /// The values of the list at a key: none, where there is no list.
@@ -148,40 +186,55 @@ impl<'t> Entry<'t> {
     }
 
     /// The text at a key.
-    pub fn text(&self, key: &str) -> Option<&'t str> {
+    pub fn text(&self, key: &str) -> Option<&'t str>
+        ensures { option_copied result ≡ option_and_then as_str (value_at key.now self.now) }
+    {
         self.value(key)?.as_str()
     }
 
     /// The number at a key.
-    pub fn number(&self, key: &str) -> Option<i64> {
+    pub fn number(&self, key: &str) -> Option<i64>
+        ensures { result ≡ option_and_then as_integer (value_at key.now self.now) }
+    {
         self.value(key)?.as_integer()
     }
 
     /// Whether a key is true.
-    pub fn flag(&self, key: &str) -> Option<bool> {
+    pub fn flag(&self, key: &str) -> Option<bool>
+        ensures { result ≡ option_and_then as_bool (value_at key.now self.now) }
+    {
         self.value(key)?.as_bool()
     }
 
     /// The names of the list at a key.
-    pub fn names(&self, key: &str) -> Option<&'t [Value]> {
+    pub fn names(&self, key: &str) -> Option<&'t [Value]>
+        ensures { option_map (λ names. items_view names.now) result ≡ option_and_then spec.names_in (value_at key.now self.now) }
+    {
         names_of(self.value(key)?)
     }
 
     /// The number at a key that is said for a name; none, where only one for all is said.
-    pub fn number_for(&self, key: &str, name: &str) -> Option<i64> {
-        self.value(key)?.as_table()?.get(name)?.as_integer()
+    pub fn number_for(&self, key: &str, name: &str) -> Option<i64>
+        ensures { result ≡ option_and_then (spec.number_in name.now) (value_at key.now self.now) }
+    {
+        self.value(key)?.get(name)?.as_integer()
     }
 
     /// The place at a key for a train: its own, or that for all.
-    pub fn place_for(&self, key: &str, train: &str) -> Option<&'t str> {
-        match self.value(key)? {
-            Value::Table(places) => places.get(train)?.as_str(),
-            value => value.as_str(),
+    pub fn place_for(&self, key: &str, train: &str) -> Option<&'t str>
+        ensures { option_copied result ≡ option_and_then (spec.place_in train.now) (value_at key.now self.now) }
+    {
+        let value = self.value(key)?;
+        match value.as_str() {
+            Some(place) => Some(place),
+            None => value.get(train)?.as_str(),
         }
     }
 
     /// Whether a key has a place for all, or a table of places.
-    pub fn has_places(&self, key: &str) -> bool {
+    pub fn has_places(&self, key: &str) -> bool
+        ensures { result ≡ spec.has_places (value_at key.now self.now) }
+    {
         match self.value(key) {
             Some(value) => value.is_str() || value.is_table(),
             None => false,

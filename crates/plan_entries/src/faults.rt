@@ -1,4 +1,9 @@
 // What is wrong with a plan.
+ghost use Rattle.std.specs.Prelude.{◌≡◌, ◌<◌, false, true, not, length, IfOk, OnOk};
+ghost use Rattle.std.specs.List.Sorted.{IsNonDecreasingBy};
+ghost use Rattle.plan_entries.specs.declared.faults.Fault.{Fault};
+ghost use Rattle.plan_entries.specs.Told.{has_fault};
+
 use crate::source::Source;
 use crate::words::Words;
 use crate::{Entry, Part};
@@ -25,6 +30,15 @@ pub struct Faults<'a> {
     lost: bool,
 }
 
+// Puts faults in the order of their lines.
+fn sort_by_lines(list: &mut Vec<Fault>) -> Result<(), AllocError>
+    ensures in_order { OnOk result (IsNonDecreasingBy (λ (f : Fault). f.line) list.new.items) }
+    ensures len { length list.new.items ≡ length list.old.items }
+{
+    list.sort_by_key(|fault| fault.line)?;
+    Ok(())
+}
+
 impl Fault {
     // Whether it is in this line and has these words.
     fn is(&self, line: u32, words: &str) -> bool {
@@ -34,7 +48,9 @@ impl Fault {
 
 impl<'a> Faults<'a> {
     /// No faults, of a text.
-    pub fn new(alloc: Global, text: &'a str) -> Result<Faults<'a>, AllocError> {
+    pub fn new(alloc: Global, text: &'a str) -> Result<Faults<'a>, AllocError>
+        ensures { IfOk result (λ f. has_fault f ≡ false) }
+    {
         Ok(Faults {
             alloc,
             source: Source::new(alloc, text)?,
@@ -50,17 +66,23 @@ impl<'a> Faults<'a> {
     }
 
     /// Whether no fault has been found.
-    pub fn is_empty(&self) -> bool {
+    pub fn is_empty(&self) -> bool
+        ensures { result ≡ not (has_fault self.now) }
+    {
         self.list.is_empty() && !self.lost
     }
 
     /// There was no memory for a fault.
-    pub fn lose(&mut self) {
+    pub fn lose(&mut self)
+        ensures { has_fault self.new ≡ true }
+    {
         self.lost = true;
     }
 
     // Whether a fault is in the list already.
-    fn has(&self, line: u32, words: &str) -> bool {
+    fn has(&self, line: u32, words: &str) -> bool
+        ensures { result ≡ true → 0 < length self.now.list.items }
+    {
         for fault in &self.list {
             if fault.is(line, words) {
                 return true;
@@ -78,7 +100,9 @@ impl<'a> Faults<'a> {
     }
 
     // Adds a fault, unless it is there.
-    fn add(&mut self, at: &Entry, form: &str, parts: &[Part]) -> Result<(), AllocError> {
+    fn add(&mut self, at: &Entry, form: &str, parts: &[Part]) -> Result<(), AllocError>
+        ensures { IfOk result (λ _. has_fault self.new ≡ true) }
+    {
         let line = self.source.line_of(at);
         let words = self.words(at, form, parts)?;
         if !self.has(line, words.as_str()) {
@@ -88,7 +112,9 @@ impl<'a> Faults<'a> {
     }
 
     /// Adds a fault of an entry, or of its key and name: a text with a part in place of each `{}`. A fault is in the list once.
-    pub fn tell(&mut self, at: &Entry, form: &str, parts: &[Part]) {
+    pub fn tell(&mut self, at: &Entry, form: &str, parts: &[Part])
+        ensures { has_fault self.new ≡ true }
+    {
         if MOST <= self.list.len() {
             self.more = true;
         } else if self.add(at, form, parts).is_err() {
@@ -101,7 +127,10 @@ impl<'a> Faults<'a> {
     /// # Errors
     ///
     /// Out of memory, also where it was for a fault.
-    pub fn into_list(self) -> Result<Vec<Fault>, AllocError> {
+    pub fn into_list(self) -> Result<Vec<Fault>, AllocError>
+        ensures told { IfOk result (λ list. has_fault self.entry ≡ true → 0 < length list.items) }
+        ensures in_order { IfOk result (λ list. IsNonDecreasingBy (λ (f : Fault). f.line) list.items) }
+    {
         let Faults {
             alloc,
             source: _,
@@ -112,12 +141,12 @@ impl<'a> Faults<'a> {
         if lost {
             return Err(AllocError);
         }
-        list.sort_by_key(|fault| fault.line)?;
         if more {
-            let line = list.last().map_or(1, |fault| fault.line);
+            let line = list.iter().map(|fault| fault.line).max().unwrap_or(1);
             let words = String::from_str(alloc, "there are more faults than these")?;
             list.push(Fault { line, words })?;
         }
+        sort_by_lines(&mut list)?;
         Ok(list)
     }
 }
