@@ -1,6 +1,6 @@
 -- Which points are known, after one more and along ways.
 use Rattle.std.proofs.Common.{◌≡◌, ◌∙◌, ℕ, ◌+◌, ◌-◌, ◌<◌, List, [], ◌∷◌, ◌++◌, length, get_or, refl, sym, ap, subst, arith, inl, inr}
-use Rattle.std.specs.Prelude.{reverse, Contains, Option, Some, None, IsSome, Bool, true, false}
+use Rattle.std.specs.Prelude.{reverse, Contains, Option, Some, None, IsSome, Bool, true, false, Result, Ok, Err, OnOk}
 use Rattle.std.specs.Bool.{OnTrue}
 use Rattle.std.proofs.lemmas.Bool.{cases_lt}
 use Rattle.std.proofs.lemmas.List.{map-append, get_or-map, get_or-reverse, get_or_default, length-map, length-reverse}
@@ -69,6 +69,11 @@ pub found_known : (b : Bool) (depths : List Depth) (way : List ℕ) → OnTrue b
     → (k : ℕ) × (k < length way) × IsDepthKnown depths (get_or way k 0)
 found_known true depths way found held = found
 found_known false depths way found held = cc
+
+-- what two clauses of a call that went well say together
+pub on_ok_both : {T E : Type 0} (A B : Type 0) (r : Result T E) → OnOk r A → OnOk r B → OnOk r (A × B)
+on_ok_both A B (Ok v) a b = (a, b)
+on_ok_both A B (Err e) a b = tt
 
 -- none of the points is known so far
 pub along_skips : (before now : List Depth) (way : List ℕ) (n : ℕ) (last depth : Option ℕ) → IsAlong before now way n last

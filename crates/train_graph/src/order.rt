@@ -150,8 +150,7 @@ fn push_way(depths: &mut Vec<Depth>, way: &mut [u32]) -> Result<(), AllocError>
     }
     push_along(depths, way)?;
     way.reverse();
-    push_along(depths, way)?;
-    Ok(())
+    push_along(depths, way)
 }
 
 // Below all points so far. One of them lies at the first depth or below it, if there is any.

@@ -1,8 +1,9 @@
 use Rattle.std.proofs.Common.{◌≡◌, ℕ, ◌<◌, List, length, get_or, true, sym, subst, arith, rules, Vec, Global}
-use Rattle.std.specs.Prelude.{Contains}
+use Rattle.std.specs.Prelude.{Contains, OnOk, reverse}
+use Rattle.std.proofs.lemmas.Result.{on_ok_weaker}
 use Rattle.train_graph.specs.declared.order.Depth.{Depth}
-use Rattle.train_graph.specs.Rows.{IsDepthKnown, Keeps, KnowsBehind}
-use Rattle.train_graph.proofs.Known.{found_known, known_both_ways}
+use Rattle.train_graph.specs.Rows.{IsDepthKnown, Keeps, KnowsBehind, KnowsWay}
+use Rattle.train_graph.proofs.Known.{found_known, known_both_ways, on_ok_both}
 use Rattle.train_graph.proofs.order.push_way.Goals as goal
 use Rattle.train_graph.proofs.order.push_way.Goals.{then-not-has_known+in_ok-push_fresh, else-not-has_known}
 
@@ -13,7 +14,9 @@ returns-clause-kept c =
       | then-not-has_known+in_ok-push_fresh w ↦ subst (λ (v : Vec Depth Global). Keeps before v.items) (sym w.depths-is) w.in_ok-push_fresh.ensures.kept
       | else-not-has_known w ↦ subst (λ (v : Vec Depth Global). Keeps before v.items) (sym w.depths-is) (λ p known. known)
     ] in
-    λ p known. c.in_ok-push_along-2.ensures.kept p (c.in_ok-push_along.ensures.kept p (first p known))
+    let onward : Keeps c.push_along.new.depths.items c.push_along-2.new.depths.items → Keeps before c.push_along-2.new.depths.items =
+    λ back p known. back p (c.in_ok-push_along.ensures.kept p (first p known)) in
+    on_ok_weaker c.push_along-2.result onward c.push_along-2.ensures.kept
 
 pub returns-clause-all : goal.returns-clause-all
 returns-clause-all c =
@@ -31,9 +34,13 @@ returns-clause-all c =
                 (subst (λ (depths : List Depth). IsDepthKnown depths (get_or way found.0 0)) c.deref.ensures.value found.2),
           )
     ] in
-    λ p on.
+    let there = c.push_along.new.depths.items in
+    let back = c.push_along-2.new.depths.items in
+    let turned = reverse way in
+    let known : Keeps there back × KnowsBehind there back turned (length turned) → KnowsWay back way = λ both p on.
     let m = start p on in
-    known_both_ways c.if-not-has_known.depths.items c.push_along.new.depths.items c.push_along-2.new.depths.items way m.0 m.1 m.2
-    c.in_ok-push_along-2.ensures.kept c.in_ok-push_along.ensures.behind
-    (subst (λ (back : List ℕ). KnowsBehind c.push_along.new.depths.items c.push_along-2.new.depths.items back (length back)) c.reverse.ensures.after c.in_ok-push_along-2.ensures.behind)
-    p on
+    known_both_ways c.if-not-has_known.depths.items there back way m.0 m.1 m.2 both.0 c.in_ok-push_along.ensures.behind both.1 p on
+    in
+    let behind : OnOk c.push_along-2.result (KnowsBehind there back turned (length turned)) =
+    subst (λ (points : List ℕ). OnOk c.push_along-2.result (KnowsBehind there back points (length points))) c.reverse.ensures.after c.push_along-2.ensures.behind in
+    on_ok_weaker c.push_along-2.result known (on_ok_both (Keeps there back) (KnowsBehind there back turned (length turned)) c.push_along-2.result c.push_along-2.ensures.kept behind)
