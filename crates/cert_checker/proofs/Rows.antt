@@ -15,7 +15,6 @@ use Rattle.cert_checker.specs.declared.faults.CheckFault.TheVariants.{Bad as Bad
 use Rattle.cert_checker.specs.Cut.{first_fault}
 use Rattle.cert_checker.specs.Faults.{HasFault}
 use Rattle.cert_tree.specs.Open.{opened}
-use Rattle.cert_tree.specs.Spelling.{wanted_behind}
 use Rattle.cert_checker.specs.Walked.{next_train, walked, waiting}
 
 -- the passing loop: W L1 E against E L2 W
@@ -64,12 +63,6 @@ first_of_steps = refl
 
 no_step : next_train [] ≡ None
 no_step = refl
-
-two_are_wanted : wanted_behind (Split 0 0) 1 ≡ 2
-two_are_wanted = refl
-
-none_is_wanted : wanted_behind (Move 0) 1 ≡ 0
-none_is_wanted = refl
 
 first_of_two : first_fault (Ok tt ∷ Err (BadNode (MovePoint 4 0 1)) ∷ Err (BadNode (BadClash 5)) ∷ []) ≡ Err (BadNode (MovePoint 4 0 1))
 first_of_two = refl

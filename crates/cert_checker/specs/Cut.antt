@@ -4,6 +4,7 @@ use Rattle.rail_model.specs.declared.types.Node.{Node}
 use Rattle.rail_model.specs.declared.types.Node.TheVariants.{Split}
 use Rattle.rail_model.specs.Table.{Table}
 use Rattle.rail_model.specs.Certificate.{Range, IsBox, IsGood, IsSplit}
+use Rattle.state_boxes.specs.Sums.{AreLists, Lists}
 use Rattle.std.specs.List.{AllZip, flat_map}
 use Rattle.cert_checker.specs.declared.parts.Part.{Part}
 use Rattle.cert_checker.specs.declared.loads.Load.{Load}
@@ -48,6 +49,11 @@ IsCut T nodes at (part ∷ later) visits =
 -- Whatever the first parts cut, the second ones cut too.
 abbrev pub IsCutFurther : Table → List Node → List Part → List Part → Type 0
 IsCutFurther T nodes parts finer = (at : ℕ) (visits : List (List Range × Node)) → IsCut T nodes at parts visits → IsCut T nodes at finer visits
+
+-- The lists are those of the table, and the nodes are at most a million.
+pub record IsListed (T : Table) (lists : Lists) (nodes : List Node) : Type 0 where
+  pub listed : AreLists T lists
+  pub few : length nodes ≤ 1000000
 
 -- The part's first node is a split that parts its box.
 pub record IsDivided (T : Table) (nodes : List Node) (part : Part) (i m : ℕ) : Type 0 where

@@ -1,11 +1,10 @@
 // The check of the parts of a tree, side by side.
-ghost use Rattle.std.specs.Prelude.{◌≡◌, ◌≤◌, length, All, IfOk, IfErr, OnOk};
+ghost use Rattle.std.specs.Prelude.{◌≡◌, All, IfOk, IfErr, OnOk};
 ghost use Rattle.std.specs.List.{AllZip};
 ghost use Rattle.rail_model.specs.Table.{IsTable};
 ghost use Rattle.rail_model.specs.Certificate.{Accepts};
-ghost use Rattle.cert_checker.specs.Cut.{IsPart, IsChecked, IsLoad, IsLoadChecked, first_fault as first_fault_of};
+ghost use Rattle.cert_checker.specs.Cut.{IsPart, IsChecked, IsListed, IsLoad, IsLoadChecked, first_fault as first_fault_of};
 ghost use Rattle.cert_checker.specs.Faults.{HasFault};
-ghost use Rattle.state_boxes.specs.Sums.{AreLists};
 
 use crate::CheckFault;
 use crate::checks::check;
@@ -25,39 +24,33 @@ const NODES_WORTH_THREADS: usize = 20_000;
 /// A load has at least this share of the nodes, if there are more.
 const LOADS: usize = 16;
 
+// The nodes of a tree of a table, and the table's lists of shares.
+#[derive(Clone, Copy)]
+struct Listed<'a> {
+    table: &'a Table,
+    lists: &'a Lists,
+    nodes: &'a [Node],
+}
+
 // The check of one part.
-fn check_part(
-    alloc: Global,
-    table: &Table,
-    lists: &Lists,
-    nodes: &[Node],
-    part: &Part,
-) -> Result<(), CheckFault>
-    requires lists { AreLists table.now lists.now }
-    requires few { length nodes.now ≤ 1000000 }
-    requires part { IsPart table.now nodes.now part.now }
-    ensures { IsChecked table.now nodes.now part.now result }
+fn check_part(alloc: Global, tree: &Listed<'_>, part: &Part) -> Result<(), CheckFault>
+    requires tree { IsListed tree.now.table.now tree.now.lists.now tree.now.nodes.now }
+    requires part { IsPart tree.now.table.now tree.now.nodes.now part.now }
+    ensures { IsChecked tree.now.table.now tree.now.nodes.now part.now result }
 {
     let ranges = part.ranges.copy(alloc)?;
-    let sums = RangeSums::new(alloc, table, ranges)?;
-    visit_tree(alloc, table, lists, sums, nodes, part.first)
+    let sums = RangeSums::new(alloc, tree.table, ranges)?;
+    visit_tree(alloc, tree.table, tree.lists, sums, tree.nodes, part.first)
 }
 
 // The check of the parts of a load, up to the first fault.
-fn check_load(
-    alloc: Global,
-    table: &Table,
-    lists: &Lists,
-    nodes: &[Node],
-    load: &Load,
-) -> Result<(), CheckFault>
-    requires lists { AreLists table.now lists.now }
-    requires few { length nodes.now ≤ 1000000 }
-    requires load { IsLoad table.now nodes.now load.now }
-    ensures { IsLoadChecked table.now nodes.now load.now result }
+fn check_load(alloc: Global, tree: &Listed<'_>, load: &Load) -> Result<(), CheckFault>
+    requires tree { IsListed tree.now.table.now tree.now.lists.now tree.now.nodes.now }
+    requires load { IsLoad tree.now.table.now tree.now.nodes.now load.now }
+    ensures { IsLoadChecked tree.now.table.now tree.now.nodes.now load.now result }
 {
     for part in load.parts.iter() {
-        check_part(alloc, table, lists, nodes, part)?;
+        check_part(alloc, tree, part)?;
     }
     Ok(())
 }
@@ -66,24 +59,21 @@ fn check_load(
 fn check_loads(
     rt: &(impl Threads + Sync),
     alloc: Global,
-    table: &Table,
-    lists: &Lists,
-    nodes: &[Node],
+    tree: &Listed<'_>,
     loads: &[Load],
 ) -> Result<Vec<Result<(), CheckFault>>, AllocError>
-    requires lists { AreLists table.now lists.now }
-    requires few { length nodes.now ≤ 1000000 }
-    requires loads { All (λ load. IsLoad table.now nodes.now load) loads.now }
-    ensures { IfOk result (λ answers. AllZip (λ load r. IsLoadChecked table.now nodes.now load r) loads.now answers.items) }
+    requires tree { IsListed tree.now.table.now tree.now.lists.now tree.now.nodes.now }
+    requires loads { All (λ load. IsLoad tree.now.table.now tree.now.nodes.now load) loads.now }
+    ensures { IfOk result (λ answers. AllZip (λ load r. IsLoadChecked tree.now.table.now tree.now.nodes.now load r) loads.now answers.items) }
 {
     loads
         .par_iter()
         .with_min_len(1)
         .map(
             |load: &Load| -> Result<(), CheckFault>
-                requires { AreLists table.now lists.now × (length nodes.now ≤ 1000000) × IsLoad table.now nodes.now load.now }
-                ensures { IsLoadChecked table.entry.now nodes.entry.now load.now result }
-            { check_load(alloc, table, lists, nodes, load) },
+                requires { IsListed tree.now.table.now tree.now.lists.now tree.now.nodes.now × IsLoad tree.now.table.now tree.now.nodes.now load.now }
+                ensures { IsLoadChecked tree.entry.now.table.now tree.entry.now.nodes.now load.now result }
+            { check_load(alloc, tree, load) },
         )
         .collect(rt, alloc)
 }
@@ -122,6 +112,11 @@ pub fn check_par(
     let parts = cut(alloc, table, nodes)?;
     let loads = loads_of(alloc, parts, nodes.len() / LOADS)?;
     let lists = Lists::new(alloc, table)?;
-    let answers = check_loads(rt, alloc, table, &lists, nodes, &loads)?;
+    let tree = Listed {
+        table,
+        lists: &lists,
+        nodes,
+    };
+    let answers = check_loads(rt, alloc, &tree, &loads)?;
     first_fault(&answers)
 }

@@ -10,8 +10,8 @@ use Rattle.cert_checker.proofs.par.check_load.Goals as goal
 
 pub returns-in_err-check_part : goal.returns-in_err-check_part
 returns-in_err-check_part c =
-    let T = c.args.table.now in
-    let nodes = c.args.nodes.now in
+    let T = c.args.tree.now.table.now in
+    let nodes = c.args.tree.now.nodes.now in
     let parts : List Part = c.args.load.now.parts.items in
     let at = c.loop-part.part-index in
     let part : Part = c.part-item.result in
@@ -26,8 +26,8 @@ returns-in_err-check_part c =
 
 pub loop-part-preserved : goal.loop-part-preserved
 loop-part-preserved c answer later =
-    let T = c.args.table.now in
-    let nodes = c.args.nodes.now in
+    let T = c.args.tree.now.table.now in
+    let nodes = c.args.tree.now.nodes.now in
     let parts : List Part = c.args.load.now.parts.items in
     let at = c.loop-part.part-index in
     let part : Part = c.part-item.result in
@@ -38,8 +38,8 @@ loop-part-preserved c answer later =
 
 pub returns : goal.returns
 returns c =
-    let T = c.args.table.now in
-    let nodes = c.args.nodes.now in
+    let T = c.args.tree.now.table.now in
+    let nodes = c.args.tree.now.nodes.now in
     let parts : List Part = c.args.load.now.parts.items in
     let good : Result (Unit {0}) CheckFault = Ok tt in
     c.loop-part.invariant good (subst (λ (ps : List Part). ArePartsChecked T nodes ps good) (sym (drop_all c.loop-part.part-index parts (omega arith))) (none_checked T nodes))
