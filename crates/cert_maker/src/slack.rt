@@ -3,14 +3,14 @@ ghost use Rattle.std.specs.Prelude.{◌≡◌, ◌+◌, ◌-◌, ℕ, ◌<◌, �
 ghost use Rattle.rail_model.specs.Sums.{greatest};
 ghost use Rattle.rail_model.specs.Table.{IsTable, trains, last, limit, share};
 ghost use Rattle.rail_model.specs.Certificate.{range, most_with, IsBox, MayBeFull};
-ghost use Rattle.state_boxes.specs.Sums.{AreLists, greatest_count};
-ghost use Rattle.cert_maker.specs.Slack.{IsSlack};
+ghost use Rattle.state_boxes.specs.Sums.{AreLists};
+ghost use Rattle.cert_maker.specs.Slack.{IsSlack, IsGreatestSum};
 
 use rail_model::{Table, last_of, limit_of};
 use state_boxes::{Lists, Ranges, Span};
 
-// The greatest share of a train in a span.
-fn greatest_in(table: &Table, lists: &Lists, train: u32, span: Span, section: u32) -> i32
+/// The greatest share of a train in a span.
+pub(crate) fn greatest_in(table: &Table, lists: &Lists, train: u32, span: Span, section: u32) -> i32
     requires lists { AreLists table.now lists.now }
     requires train { train < trains table.now }
     requires section { section < length table.now.sections }
@@ -31,9 +31,7 @@ fn greatest_sum(table: &Table, lists: &Lists, ranges: &Ranges, section: u32) -> 
     requires lists { AreLists table.now lists.now }
     requires boxed { IsBox table.now ranges.now }
     requires section { section < length table.now.sections }
-    ensures sum { result ≡ greatest_count table.now ranges.now section }
-    ensures low { pos 0 ≤ℤ result }
-    ensures high { result ≤ℤ pos 128 }
+    ensures { IsGreatestSum table.now ranges.now section result }
 {
     let members = lists.members().of(section);
     let mut sum = 0;
@@ -55,9 +53,7 @@ fn most_behind(
     requires lists { AreLists table.now lists.now }
     requires boxed { IsBox table.now ranges.now }
     requires section { section < length table.now.sections }
-    requires sum { sum ≡ greatest_count table.now ranges.now section }
-    requires low { pos 0 ≤ℤ sum }
-    requires high { sum ≤ℤ pos 128 }
+    requires sum { IsGreatestSum table.now ranges.now section sum }
     requires train { train < trains table.now }
     requires unfinished { (range ranges.now train).hi < last table.now train }
     ensures { result ≡ most_with table.now ranges.now section train ((range ranges.now train).hi + 1) }
@@ -82,9 +78,7 @@ fn has_room(
     requires lists { AreLists table.now lists.now }
     requires boxed { IsBox table.now ranges.now }
     requires section { section < length table.now.sections }
-    requires sum { sum ≡ greatest_count table.now ranges.now section }
-    requires low { pos 0 ≤ℤ sum }
-    requires high { sum ≤ℤ pos 128 }
+    requires sum { IsGreatestSum table.now ranges.now section sum }
     requires within { sum ≤ℤ pos (limit table.now section) }
     requires train { train < trains table.now }
     ensures { IsTrue result ↔ (MayBeFull table.now ranges.now train section → ⊥) }
@@ -102,9 +96,7 @@ fn has_room_for_all(table: &Table, lists: &Lists, ranges: &Ranges, section: u32,
     requires lists { AreLists table.now lists.now }
     requires boxed { IsBox table.now ranges.now }
     requires section { section < length table.now.sections }
-    requires sum { sum ≡ greatest_count table.now ranges.now section }
-    requires low { pos 0 ≤ℤ sum }
-    requires high { sum ≤ℤ pos 128 }
+    requires sum { IsGreatestSum table.now ranges.now section sum }
     requires within { sum ≤ℤ pos (limit table.now section) }
     ensures { IsTrue result ↔ ((i : ℕ) → i < trains table.now → MayBeFull table.now ranges.now i section → ⊥) }
 {

@@ -1,9 +1,9 @@
-use Rattle.std.proofs.Common.{◌-◌, get_or, ◌∙◌, ap, arith}
+use Rattle.std.proofs.Common.{◌-◌, ◌≤◌, length, get_or, ◌∙◌, ap, arith}
 use Rattle.std.proofs.lemmas.Int.{ints}
 use Rattle.rail_model.specs.Sums.{greatest}
 use Rattle.rail_model.specs.Table.{share}
 use Rattle.rail_model.specs.Certificate.{Range}
-use Rattle.cert_maker.proofs.Listed.{summed_from, summed_next, summed_all, members_listed, none_shared}
+use Rattle.cert_maker.proofs.Listed.{summed_from, summed_next, summed_all, summed_high, members_listed, none_shared}
 use Rattle.cert_maker.proofs.slack.greatest_sum.Goals as goal
 
 pub loop-train-init : goal.loop-train-init
@@ -20,7 +20,15 @@ loop-train-preserved c =
     (here.greatest ∙ ap (λ (r : Range). greatest (share T (get_or xs k 0) s) r.lo (r.hi - r.lo)) c.span.ensures) here.low here.high
     (λ low high. omega (arith, ints, low, high, here.formed.few_trains, here.low, here.high))
 
-pub returns-clause-sum : goal.returns-clause-sum
-returns-clause-sum c =
-    summed_all c.of-members.result.now c.loop-train.train-index c.loop-train.invariant (none_shared c.args.table.now c.args.ranges.now c.args.section c.requires.boxed)
-    (omega (arith, c.loop-train-test.false))
+pub returns : goal.returns
+returns c =
+    let xs = c.of-members.result.now in
+    let k = c.loop-train.train-index in
+    let summed = c.loop-train.invariant in
+    let only = none_shared c.args.table.now c.args.ranges.now c.args.section c.requires.boxed in
+    let past : length xs ≤ k = omega (arith, c.loop-train-test.false) in
+    record {
+      sum_is = summed_all xs k summed only past;
+      low = summed.low;
+      high = omega (arith, ints, summed_high xs k summed only past, c.requires.lists.are_ways.formed.few_trains);
+    }

@@ -10,7 +10,7 @@ returns-then-sum-limit c =
     omega (
       arith,
       ints,
-      c.greatest_sum-sum.ensures.sum,
+      c.greatest_sum-sum.ensures.sum_is,
       c.greatest_sum-sum.ensures.low,
       c.greatest_sum-sum.ensures.high,
       c.limit_of-limit.ensures.limit,

@@ -22,4 +22,4 @@ returns c =
     let place : c.new-behind.result.lo ≡ (range B i).hi + 1 = omega (arith, low, c.hi.ensures, end) in
     let next_is : c.greatest_in-next.result ≡ share T i s ((range B i).hi + 1) =
     next.greatest ∙ ap (greatest (share T i s) c.new-behind.result.lo) single ∙ ap (share T i s) place in
-    omega (arith, ints, most_sum T B s i ((range B i).hi + 1) c.requires.train, own_is, own.low, own.high, next_is, next.low, next.high, c.requires.sum, c.requires.low, c.requires.high)
+    omega (arith, ints, most_sum T B s i ((range B i).hi + 1) c.requires.train, own_is, own.low, own.high, next_is, next.low, next.high, c.requires.sum.sum_is, c.requires.sum.low, c.requires.sum.high)
