@@ -113,13 +113,20 @@ fn a_table_is_accepted_or_comes_back(rt: HostRuntime) -> Result<(), Fail> {
     Ok(())
 }
 
+// Whether the maker made a certificate of these nodes.
+fn is_cert_of(made: &Made, nodes: &[Node]) -> bool {
+    match made {
+        Made::Cert(cert) => cert.as_slice() == nodes,
+        Made::Stuck(_) => false,
+        Made::Spent { .. } => false,
+    }
+}
+
 // Whether the certificate that is made for a document's first table is its own.
 fn makes_its_own(alloc: Global, name: &str) -> Result<bool, Fail> {
     let doc = read(alloc, name)?;
-    match make(alloc, first_table(&doc).ok_or("a table")?, 17)? {
-        Made::Cert(cert) => Ok(cert.as_slice() == first_nodes(&doc)),
-        _ => Ok(false),
-    }
+    let made = make(alloc, first_table(&doc).ok_or("a table")?, 17)?;
+    Ok(is_cert_of(&made, first_nodes(&doc)))
 }
 
 // The certificates of these examples were made by hand, by the maker's rule.
