@@ -1,1 +1,5 @@
+mod Inputs
 mod Ranges
+mod Rows
+mod Splits
+mod Texts

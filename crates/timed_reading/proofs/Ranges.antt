@@ -7,7 +7,8 @@ use Rattle.rail_model.specs.Journal.{after_line}
 use Rattle.rail_model.specs.Names.{Names}
 use Rattle.rail_model.specs.Yard.{Yard}
 use Rattle.move_journal.specs.Printable.{IsPrintable}
-use Rattle.timed_reading.specs.Runs.{line_of, told_step, step_list, steps_of, IsStepIn}
+use Rattle.timed_reading.specs.Runs.{told_step, step_list, steps_of, IsStepIn}
+use Rattle.timed_reading.specs.Told.{line_of}
 use Rattle.timed_reading.specs.declared.ticks.Timed.{Timed}
 
 -- of one line

@@ -13,11 +13,8 @@ use Rattle.layout_json.specs.Doc.{Doc, names_of, table_at, times_of}
 use Rattle.run_timetable.specs.declared.run.Run.{Run}
 use Rattle.run_timetable.specs.declared.run.Step.{Step}
 use Rattle.run_timetable.specs.declared.run.Takeover.{Takeover}
+use Rattle.timed_reading.specs.Told.{line_of, timed_text}
 use Rattle.timed_reading.specs.declared.ticks.Timed.{Timed}
-
--- the line without its tick
-abbrev pub line_of : Timed → Line
-line_of t = t.line
 
 -- the step of a line in a state, with the time of the train's step from its place in the table in force
 abbrev pub told_step : List (List (List ℕ)) → Yard → ℕ → Line → List Step
@@ -59,12 +56,22 @@ pub record IsStepIn (N : Names) (s : Step) : Type 0 where
   pub from : s.from < length N.points
   pub to : IfSome s.to (λ q. q < length N.points)
 
--- The run begins where the document says, and has exactly one step for each move of some lines that the document's names
+-- The run begins where the document says, and has exactly one step for each move of the lines, which the document's names
 -- print, and one takeover for each table among them, in order, with their ticks.
-pub record IsRunOf (D : Doc) (run : Run) : Type 0 where
-  pub lines : List Timed
+pub record TellsRun (D : Doc) (lines : List Timed) (run : Run) : Type 0 where
   pub printable : ArePrintable (names_of D) (map line_of lines)
   pub starts : run.starts.items ≡ starts_in D
   pub steps : run.steps.items ≡ steps_of (times_of D) (opening D.start) lines
   pub takeovers : run.takeovers.items ≡ flat_map takeover_list lines
   pub in_range : All (IsStepIn (names_of D)) run.steps.items
+
+-- Some lines tell the run.
+pub record IsRunOf (D : Doc) (run : Run) : Type 0 where
+  pub lines : List Timed
+  pub tells : TellsRun D lines run
+
+-- Lines whose text this is tell the run.
+pub record IsToldIn (D : Doc) (journal : List ℕ) (run : Run) : Type 0 where
+  pub lines : List Timed
+  pub tells : TellsRun D lines run
+  pub text : journal ≡ timed_text (names_of D) lines

@@ -1,6 +1,5 @@
 // What is wrong with an input, and how it is said.
 use layout_json::DocRefused;
-use move_journal::BadText;
 use rail_model::{Layout, Names};
 use refusal_lines::push_document;
 use run_timetable::{point_name, train_name};
@@ -10,8 +9,6 @@ use std::alloc::{AllocError, AllocFailed, Global};
 #[derive(Clone, Copy)]
 pub(crate) enum Fault {
     Memory,
-    /// Bytes that are no text.
-    NoText,
     /// The last line doesn't end.
     CutOff,
     /// There is no end line.
@@ -45,8 +42,6 @@ pub(crate) enum LineFault {
     },
     /// It isn't a line of a journal of the document.
     Unread,
-    /// Its number isn't the next one.
-    Number,
     /// It moves a train that is at the end of its way.
     AtEnd {
         train: u32,
@@ -77,24 +72,6 @@ impl From<AllocError> for Fault {
 impl<T: Drop> From<AllocFailed<T>> for Fault {
     fn from(_error: AllocFailed<T>) -> Fault {
         Fault::Memory
-    }
-}
-
-impl From<BadText> for Fault {
-    fn from(bad: BadText) -> Fault {
-        match bad {
-            BadText::Line { line } => Fault::Line {
-                line,
-                fault: LineFault::Unread,
-            },
-            BadText::Number { line } => Fault::Line {
-                line,
-                fault: LineFault::Number,
-            },
-            BadText::After => Fault::AfterEnd,
-            BadText::NoEnd => Fault::NoEnd,
-            BadText::Memory => Fault::Memory,
-        }
     }
 }
 
@@ -133,10 +110,7 @@ fn write_fault(
 ) -> Result<(), AllocError> {
     match fault {
         Fault::Memory => Err(AllocError),
-        Fault::NoText => out.push_str("the journal is no text"),
-        Fault::CutOff => out.push_str(
-            "the journal is empty, or its last line doesn't end with a newline",
-        ),
+        Fault::CutOff => out.push_str("the last line of the journal doesn't end with a newline"),
         Fault::NoEnd => out.push_str("the journal has no end line"),
         Fault::AfterEnd => out.push_str("there are lines after the end line of the journal"),
         Fault::Line { line, fault } => {
@@ -173,7 +147,6 @@ fn write_line_fault(
         LineFault::Unread => out.push_str(
             "it isn't a line of a journal, or the document has no train or point with its names",
         ),
-        LineFault::Number => out.push_str("its tick is no number"),
         LineFault::AtEnd { train } => {
             out.push_str(train_name(names, train))?;
             out.push_str(" is at the end of its way")

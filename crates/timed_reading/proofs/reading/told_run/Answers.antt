@@ -10,7 +10,6 @@ returns c =
     let D = c.args.doc.now in
     let lines = c.args.lines.now in
     record {
-      lines = lines;
       printable = c.requires;
       starts = c.in_ok-starts.ensures;
       steps = c.in_ok-steps.ensures;
