@@ -50,7 +50,7 @@ pub(crate) fn ask_on<G: Gate>(
 {
     let word = word_of(yard, Cell::Table);
     let mut footprint = Footprint::new();
-    for _round in 0..yard.key.tables.len() {
+    'rounds: loop {
         let table = glance(yard, seat, word) as u32;
         gate.at(train, Moment::Glanced);
         known.clear();
@@ -73,7 +73,6 @@ pub(crate) fn ask_on<G: Gate>(
             return attempt;
         }
     }
-    unreachable!()
 }
 
 // How many of this many steps the answer grants.

@@ -11,8 +11,9 @@ use ats_io::Gate;
 use rail_model::{Ask, BlockAsk};
 use std::sync::Wait;
 
-// The reply to a block of this many steps that is answered so.
-fn told(answer: BlockAsk, steps: u32, ticket: u64) -> BlockReply
+// The reply to a block of this many steps that is answered so. `First` never holds `Yes`: where the first step could be granted, the
+// answer is `Yes` or `NotWhole`. That arm is only there because the match names every `Ask`.
+fn reply_to_block(answer: BlockAsk, steps: u32, ticket: u64) -> BlockReply
     ensures { result ≡ block_reply_to ticket steps answer }
 {
     match answer {
@@ -41,7 +42,7 @@ fn block_reply_of(attempt: Attempt) -> BlockReply
             answer,
             steps,
             ticket,
-        } => told(answer, steps, ticket),
+        } => reply_to_block(answer, steps, ticket),
         Attempt::Busy { zone, holder } => BlockReply::Busy { zone, holder },
     }
 }

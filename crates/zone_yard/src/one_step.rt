@@ -22,8 +22,8 @@ fn ask_of(answer: BlockAsk) -> Ask
     }
 }
 
-// The reply to a request that is answered so.
-fn told(ask: Ask, ticket: u64) -> Reply
+// The reply to a request for one step that is answered so.
+fn reply_to_step(ask: Ask, ticket: u64) -> Reply
     ensures { result ≡ reply_to ticket ask }
 {
     match ask {
@@ -44,7 +44,7 @@ fn reply_of(attempt: Attempt) -> Reply
     ensures { result ≡ answered_by attempt }
 {
     match attempt {
-        Attempt::Told { answer, ticket, .. } => told(ask_of(answer), ticket),
+        Attempt::Told { answer, ticket, .. } => reply_to_step(ask_of(answer), ticket),
         Attempt::Busy { zone, holder } => Reply::Busy { zone, holder },
     }
 }

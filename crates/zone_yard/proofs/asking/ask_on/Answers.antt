@@ -24,9 +24,9 @@ returns-in-Some g c =
     let seen : Sat = c.glance-table.new.seat.me in
     let wanted : Wanted = record { train = c.args.train; place = c.args.position; table = c.glance-table.result; steps = c.args.steps } in
     let glance = c.glance-table.ensures in
-    let before = c.loop-round.invariant in
+    let before = c.rounds.invariant in
     let same = glance.same.0 ∙ before.table in
-    let setup : c.loop-round.seat.me.0.setup ≡ c.args.yard.now.setup = ap (λ (m : Sat). m.0.setup) before.since.now ∙ c.requires.ours.1 in
+    let setup : c.rounds.seat.me.0.setup ≡ c.args.yard.now.setup = ap (λ (m : Sat). m.0.setup) before.since.now ∙ c.requires.ours.1 in
     let listed : c.glance-table.result < length c.args.yard.now.setup.tables = subst (λ (S : Setup). c.glance-table.result < length S.tables) setup glance.sees.1 in
     let next : c.fill_block.new.self ≡ needs c.args.yard.now.setup wanted old.0.actor.position =
     filled c.args.yard.now.setup _ c.table.result.now wanted c.args.position old.0.actor.position c.fill_block.new.self
@@ -37,7 +37,7 @@ returns-in-Some g c =
       lines = c.in-Some.ensures.lines;
       asks = asks_since c.args.yard.now.setup c.args.seat.now.table_id wanted c.args.position c.args.yard.now.setup.layout.zones c.fill_block.new.self old seen c.ask_once.new.seat.me
           c.requires.ours.1 c.requires.train.1 next listed
-          (since_glance c.glance-table.result old c.loop-round.seat.me seen before.since glance.sees.0 glance.glanced) (ap (λ (m : Sat). m.0.actor.glance) glance.glanced) c.requires.idle c.in-Some.attempt
+          (since_glance c.glance-table.result old c.rounds.seat.me seen before.since glance.sees.0 glance.glanced) (ap (λ (m : Sat). m.0.actor.glance) glance.glanced) c.requires.idle c.in-Some.attempt
           (subst (λ (id : TableId). Attempts id wanted c.args.yard.now.setup.layout.zones c.fill_block.new.self.zones seen (Some c.in-Some.attempt) c.ask_once.new.seat.me) same c.in-Some.ensures.attempts);
       formed = c.word_of-word.ensures.formed;
     }
