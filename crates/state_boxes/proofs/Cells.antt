@@ -40,6 +40,17 @@ module _ (rows size : ℕ) (cells : List Extremes) where
       ∙ get_or-take (k * size + size - k * size) (drop (k * size) cells) s nothing (omega (arith, s_in))
       ∙ get_or-drop (k * size) cells s nothing
 
+-- a row's number and its cells are within those of the level
+pub record IsRowOf (rows size many k : ℕ) : Type 0 where
+  pub there : k < rows
+  pub ends : k * size + size ≤ many
+
+pub row_of : (k rows size : ℕ) (cells : List Extremes) (all : List (List Extremes)) → rows_of rows size cells ≡ all → length cells ≡ rows * size → k < length all
+    → IsRowOf rows size (length cells) k
+row_of k rows size cells all rows_is many lt =
+    let there : k < rows = omega (arith, lt, ap (λ (rs : List (List Extremes)). length rs) rows_is, rows_many rows size cells) in
+    record { there = there; ends = omega (arith, row_end k rows size there, many) }
+
 -- the rows of single places
 pub single_rows : (T : Table) (i rows : ℕ) (cells : List Extremes) → AreSingle T i cells → length cells ≡ rows * length T.sections
     → IsEach (λ lo row. IsRow T i lo 0 row) rows [] (rows_of rows (length T.sections) cells)

@@ -10,6 +10,7 @@ pub mod Own
 pub mod Room
 pub mod Searched
 pub mod Single
+pub mod Stepped
 pub mod Summed
 pub mod Tight
 pub mod Growing

@@ -1,24 +1,19 @@
-use Rattle.std.proofs.Common.{◌≡◌, ◌∙◌, ◌+◌, ◌-◌, ℕ, ap, subst, arith}
+use Rattle.std.proofs.Common.{◌≡◌, ◌∙◌, ◌-◌, ℕ, ap, subst, arith}
 use Rattle.std.proofs.lemmas.Int.{ints}
 use Rattle.rail_model.specs.Table.{share}
-use Rattle.rail_model.proofs.Shares.{share_next, share_bounds}
 use Rattle.state_boxes.specs.Extremes.{joined, IsExtremes}
 use Rattle.state_boxes.proofs.Joins.{extremes_next}
+use Rattle.state_boxes.proofs.Stepped.{stepped}
 use Rattle.state_boxes.proofs.Summed.{extremes_few}
 use Rattle.state_boxes.proofs.shares.extremes_in.Goals as goal
 
 pub loop-place-preserved : goal.loop-place-preserved
 loop-place-preserved c =
-    let T = c.args.table.now in
-    let i = c.args.train in
-    let s = c.args.section in
-    let k = c.loop-place.place in
-    let bounds = share_bounds T i s (k + 1) c.share_at-share.ensures.formed c.requires.train c.requires.section (omega arith) in
-    let next = share_next T i s k in
+    let next = stepped _ _ _ _ _ _ c.share_at-share.ensures.formed c.requires.train c.requires.section (omega arith) c.loop-place.invariant.share_is c.change_at-share.ensures.change in
     record {
-      share_is = omega (arith, ints, c.change_at-share.ensures.change, next, bounds);
-      extremes = extremes_next (share T i s) c.args.span.lo k _ c.loop-place.extremes _ (omega arith) c.loop-place.invariant.extremes
-          (c.joined-extremes.ensures ∙ ap (joined c.loop-place.extremes) c.single.ensures) (omega (arith, ints, c.change_at-share.ensures.change, next, bounds));
+      share_is = omega (arith, ints, next.share_is, next.low, next.high);
+      extremes = extremes_next (share c.args.table.now c.args.train c.args.section) c.args.span.lo c.loop-place.place _ c.loop-place.extremes _ (omega arith) c.loop-place.invariant.extremes
+          (c.joined-extremes.ensures ∙ ap (joined c.loop-place.extremes) c.single.ensures) (omega (arith, ints, next.share_is, next.low, next.high));
     }
 
 pub returns-clause-few : goal.returns-clause-few
@@ -33,30 +28,15 @@ returns-clause-few c =
 
 pub overflow_add-share : goal.overflow_add-share
 overflow_add-share c =
-    let T = c.args.table.now in
-    let i = c.args.train in
-    let s = c.args.section in
-    let k = c.loop-place.place in
-    let bounds = share_bounds T i s (k + 1) c.share_at-share.ensures.formed c.requires.train c.requires.section (omega arith) in
-    let next = share_next T i s k in
-    omega (arith, ints, c.change_at-share.ensures.change, c.loop-place.invariant.share_is, next, bounds)
+    let next = stepped _ _ _ _ _ _ c.share_at-share.ensures.formed c.requires.train c.requires.section (omega arith) c.loop-place.invariant.share_is c.change_at-share.ensures.change in
+    omega (arith, ints, next.low, next.high)
 
 pub single-requires-clause-low : goal.single-requires-clause-low
 single-requires-clause-low c =
-    let T = c.args.table.now in
-    let i = c.args.train in
-    let s = c.args.section in
-    let k = c.loop-place.place in
-    let bounds = share_bounds T i s (k + 1) c.share_at-share.ensures.formed c.requires.train c.requires.section (omega arith) in
-    let next = share_next T i s k in
-    omega (arith, ints, c.change_at-share.ensures.change, c.loop-place.invariant.share_is, next, bounds)
+    let next = stepped _ _ _ _ _ _ c.share_at-share.ensures.formed c.requires.train c.requires.section (omega arith) c.loop-place.invariant.share_is c.change_at-share.ensures.change in
+    omega (arith, ints, next.low, next.high)
 
 pub single-requires-clause-high : goal.single-requires-clause-high
 single-requires-clause-high c =
-    let T = c.args.table.now in
-    let i = c.args.train in
-    let s = c.args.section in
-    let k = c.loop-place.place in
-    let bounds = share_bounds T i s (k + 1) c.share_at-share.ensures.formed c.requires.train c.requires.section (omega arith) in
-    let next = share_next T i s k in
-    omega (arith, ints, c.change_at-share.ensures.change, c.loop-place.invariant.share_is, next, bounds)
+    let next = stepped _ _ _ _ _ _ c.share_at-share.ensures.formed c.requires.train c.requires.section (omega arith) c.loop-place.invariant.share_is c.change_at-share.ensures.change in
+    omega (arith, ints, next.low, next.high)
