@@ -2,7 +2,7 @@
 use Rattle.std.proofs.Common.{ℕ, List, Option}
 use Rattle.planner_words.specs.declared.orders.Order.{Order}
 use Rattle.planner_words.specs.declared.orders.Order.TheVariants.{Lint}
-use Rattle.planner_run.specs.Answered.{IfText, IsAnswerTo, IsTextFor}
+use Rattle.planner_run.specs.Answered.{IfText, IsAnswerTo, IsLinted, IsTextFor}
 use Rattle.planner_run.specs.declared.answer.Answer.{Answer}
 use Rattle.planner_run.specs.declared.answer.Answer.TheVariants.{Text, Remarks, Wrong}
 use denote.Ref.{Bor}
@@ -12,7 +12,7 @@ if_text_answers order input (Text text) holds = holds
 if_text_answers order input (Remarks lines) holds = absurd holds
 if_text_answers order input (Wrong lines) holds = holds
 
-pub lint_answers : (before : Option (Bor (List ℕ))) (input : List ℕ) (a : Answer) → IsAnswerTo (Lint before) input a
-lint_answers before input (Text text) = tt
-lint_answers before input (Remarks lines) = tt
-lint_answers before input (Wrong lines) = tt
+pub lint_answers : (before : Option (Bor (List ℕ))) (input : List ℕ) (a : Answer) → IsLinted input a → IsAnswerTo (Lint before) input a
+lint_answers before input (Text text) linted = linted
+lint_answers before input (Remarks lines) linted = tt
+lint_answers before input (Wrong lines) linted = tt

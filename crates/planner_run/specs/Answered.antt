@@ -1,5 +1,5 @@
 -- What the answers to orders are.
-use Rattle.std.specs.Prelude.{◌≡◌, ℕ, List, Ok, Option, Some, None, string_bytes}
+use Rattle.std.specs.Prelude.{◌≡◌, ℕ, List, [], Ok, Option, Some, None, string_bytes}
 use Rattle.decimal_number.specs.Decimal.{number_of}
 use Rattle.document_shapes.specs.Written.{text_of}
 use Rattle.rail_model.specs.State.{Legal}
@@ -22,6 +22,8 @@ use Rattle.svg_text.specs.Tree.{Picture}
 use Rattle.svg_text.specs.Text.{svg_text}
 use Rattle.planner_words.specs.declared.orders.Order.{Order}
 use Rattle.planner_words.specs.declared.orders.Order.TheVariants.{Plan as OfPlan, ExplainState, ExplainLine, Lint, Timetable, Graph, Layout}
+use Rattle.planner_words.specs.declared.orders.WordsAnswered.{WordsAnswered}
+use Rattle.planner_words.specs.declared.orders.WordsAnswered.TheVariants.{Shown, Refused, Memory}
 use Rattle.planner_run.specs.declared.answer.Answer.{Answer}
 use Rattle.planner_run.specs.declared.answer.Answer.TheVariants.{Text, Remarks, Wrong}
 use Rattle.planner_run.specs.declared.top.Status.{Status}
@@ -99,12 +101,16 @@ pub record IsLayoutText (input table_words : List ℕ) (asked : Option (Bor (Lis
   pub is_table : number_of table_words ≡ Some table
   pub is_layout : IsLayoutOf document table asked text
 
+-- The input is a document on which there are no remarks: the text has nothing.
+abbrev pub HasNoRemarks : List ℕ → List ℕ → Type 0
+HasNoRemarks input text = (text ≡ []) × ReadsAsDocument input
+
 -- The text is what an order comes to on an input.
 abbrev pub IsTextFor : Order → List ℕ → List ℕ → Type 0
 IsTextFor OfPlan input text = IsPlanned input text
 IsTextFor (ExplainState table at) input text = ExplainsPlaces input table.now at.now text
 IsTextFor (ExplainLine line) input text = ExplainsWords input line.now text
-IsTextFor (Lint before) input text = Unit {0}
+IsTextFor (Lint before) input text = HasNoRemarks input text
 IsTextFor (Timetable csv) input text = Unit {0}
 IsTextFor (Graph train) input text = IsGraphText text
 IsTextFor (Layout table at) input text = IsLayoutText input table.now at text
@@ -130,6 +136,18 @@ abbrev pub IsAnswerTo : Order → List ℕ → Answer → Type 0
 IsAnswerTo order input (Text text) = IsTextFor order input text.items
 IsAnswerTo order input (Remarks lines) = AsksForRemarks order
 IsAnswerTo order input (Wrong lines) = Unit {0}
+
+-- The answer is remarks, or an empty text for a document on which there are none.
+abbrev pub IsLinted : List ℕ → Answer → Type 0
+IsLinted input (Text text) = HasNoRemarks input text.items
+IsLinted input (Remarks lines) = Unit {0}
+IsLinted input (Wrong lines) = ⊥
+
+-- the text that words get that ask for help or for the version
+abbrev pub shown_text : WordsAnswered → Option (List ℕ)
+shown_text (Shown text) = Some (string_bytes text)
+shown_text (Refused text) = None
+shown_text Memory = None
 
 -- the exit code of a status
 abbrev pub code_of : Status → ℕ

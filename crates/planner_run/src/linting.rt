@@ -1,4 +1,7 @@
 // Remarks on documents.
+ghost use Rattle.std.specs.Prelude.{IfOk};
+ghost use Rattle.planner_run.specs.Answered.{IsLinted};
+
 use crate::Answer;
 use document_lint::{Remark, lint, lint_after};
 use std::alloc::{AllocError, Global};
@@ -8,7 +11,9 @@ pub(crate) fn remarks(
     alloc: Global,
     document: &[u8],
     former: Option<&[u8]>,
-) -> Result<Answer, AllocError> {
+) -> Result<Answer, AllocError>
+    ensures { IfOk result (IsLinted document.now) }
+{
     let found = match former {
         Some(former) => lint_after(alloc, document, former)?,
         None => lint(alloc, document)?,

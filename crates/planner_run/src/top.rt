@@ -1,7 +1,8 @@
 // The top call.
-ghost use Rattle.std.specs.Prelude.{◌≡◌, ◌≢◌, ◌⊎◌, ℕ, List, IfSome};
+ghost use Rattle.std.specs.Prelude.{◌≡◌, ◌≢◌, ◌⊎◌, ℕ, List, None, IfSome};
 ghost use Rattle.ats_io.specs.Bytes.{Adds, AddsPrefix};
-ghost use Rattle.planner_run.specs.Answered.{IsTextFor, AsksForRemarks, code_of};
+ghost use Rattle.ats_io.specs.Faults.{Rose};
+ghost use Rattle.planner_run.specs.Answered.{IsTextFor, AsksForRemarks, code_of, shown_text};
 
 use crate::Answer;
 use crate::answer::answer_to;
@@ -67,6 +68,7 @@ fn print<K: Sink, E: Sink>(text: &[u8], status: Status, out: &mut K, err: &mut E
     ensures kept { (result ≡ status) ⊎ (result ≡ Status.Failed) }
     ensures whole { result ≢ Status.Failed → Adds (K.taken out.old) (K.taken out.new) text.now }
     ensures quiet { result ≢ Status.Failed → E.taken err.new ≡ E.taken err.old }
+    ensures unwritten { result ≢ status → Rose (K.faults out.old) (K.faults out.new) }
 {
     match write_all(out, text) {
         Ok(()) => status,
@@ -127,7 +129,14 @@ fn respond<K: Sink, E: Sink>(
 }
 
 /// Answers words that are no order: help and the version go to `out`, what is wrong with the words to `err`.
-pub fn turn_down<K: Sink, E: Sink>(words: &WordsAnswered, out: &mut K, err: &mut E) -> Status {
+pub fn turn_down<K: Sink, E: Sink>(words: &WordsAnswered, out: &mut K, err: &mut E) -> Status
+    // Help and the version are written whole, unless `out` fails.
+    ensures shown { IfSome (shown_text words.now) (λ text.
+        ((result ≡ Status.Done) × Adds (K.taken out.old) (K.taken out.new) text) ⊎ Rose (K.faults out.old) (K.faults out.new)) }
+
+    ensures refused { shown_text words.now ≡ None → result ≡ Status.Failed }
+    ensures unchanged { shown_text words.now ≡ None → K.taken out.new ≡ K.taken out.old }
+{
     match words {
         WordsAnswered::Shown(text) => print(text.as_bytes(), Status::Done, out, err),
         WordsAnswered::Refused(text) => failed(err, text.as_str()),
