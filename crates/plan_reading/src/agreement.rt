@@ -1,14 +1,17 @@
-// Whether a plan has the trains and the sections of its text.
-ghost use Rattle.std.specs.Prelude.{◌≡◌, true, map, option_map};
-ghost use Rattle.toml.specs.View.{view, table_view, items_view};
-ghost use Rattle.plan_reading.specs.Said.{Agrees, each, entries_at, first_sections, limit_in, limited, name_in, named};
+// Whether a plan is what its text says.
+ghost use Rattle.std.specs.Prelude.{◌≡◌, true};
+ghost use Rattle.toml.specs.View.{items_view, table_view};
+ghost use Rattle.plan_reading.specs.Agreeing.{agree_values};
+ghost use Rattle.plan_reading.specs.Said as spec;
+ghost use Rattle.plan_reading.specs.Said.{Agrees, AgreesFirst, AgreesInTables};
 
-use plan_document::{Plan, SectionPlan, TablePlan};
+use crate::matching::{is_due, is_exit, is_limited, is_named, is_routed, is_start, is_wait};
+use plan_document::{Plan, SectionPlan, TablePlan, Wait};
 use toml::{Table, Value};
 
 // The entries of the list at a key.
 fn entries_of<'t>(table: &'t Table, key: &str) -> &'t [Value]
-    ensures { items_view result.now ≡ entries_at key.now (table_view table.now) }
+    ensures { items_view result.now ≡ spec.entries_at key.now (table_view table.now) }
 {
     match table.get(key) {
         Some(value) => match value.as_array() {
@@ -19,96 +22,121 @@ fn entries_of<'t>(table: &'t Table, key: &str) -> &'t [Value]
     }
 }
 
-// The name of an entry, if it has one.
-fn name_of(value: &Value) -> Option<&str>
-    ensures { option_map (λ s. s.now) result ≡ name_in (view value.now) }
-{
-    match value.get("name") {
-        Some(name) => name.as_str(),
-        None => None,
-    }
-}
-
-// The limit of an entry, if it has one.
-fn limit_of(value: &Value) -> Option<i64>
-    ensures { result ≡ limit_in (view value.now) }
-{
-    match value.get("limit") {
-        Some(limit) => limit.as_integer(),
-        None => None,
-    }
-}
-
-// Whether an entry has this name.
-fn is_named(value: &Value, name: &String) -> bool
-    ensures { result ≡ true → name_in (view value.now) ≡ named name.now }
-{
-    match name_of(value) {
-        Some(said) => said == name.as_str(),
-        None => false,
-    }
-}
-
-// Whether an entry has the limit of this section.
-fn is_limited(value: &Value, section: &SectionPlan) -> bool
-    ensures { result ≡ true → limit_in (view value.now) ≡ limited section.now }
-{
-    match limit_of(value) {
-        Some(said) => said == i64::from(section.limit),
-        None => false,
-    }
-}
-
 // Whether these are the names of the entries, in order.
-fn are_named(values: &[Value], names: &[String]) -> bool
-    ensures { result ≡ true → each name_in (items_view values.now) ≡ map named names.now }
+fn are_named(entries: &[Value], names: &[String]) -> bool
+    ensures { result ≡ agree_values spec.is_named entries.now names.now }
 {
-    if values.len() != names.len() {
-        return false;
-    }
-    for (index, value) in values.iter().enumerate() {
-        match names.get(index) {
-            Some(name) => if !is_named(value, name) {
-                return false;
-            },
-            None => return false,
-        }
-    }
-    true
+    entries.len() == names.len()
+        && entries
+            .iter()
+            .zip(names)
+            .all(|(entry, name)| is_named(entry, name))
+}
+
+// Whether these are the routes of the entries, in order.
+fn are_routed(entries: &[Value], routes: &[Vec<String>]) -> bool
+    ensures { result ≡ agree_values spec.is_routed entries.now routes.now }
+{
+    entries.len() == routes.len()
+        && entries
+            .iter()
+            .zip(routes)
+            .all(|(entry, route)| is_routed(entry, route))
+}
+
+// Whether these are the exits of the entries, in order.
+fn are_exits(entries: &[Value], exits: &[bool]) -> bool
+    ensures { result ≡ agree_values spec.is_exit entries.now exits.now }
+{
+    entries.len() == exits.len()
+        && entries
+            .iter()
+            .zip(exits)
+            .all(|(entry, exit)| is_exit(entry, *exit))
 }
 
 // Whether these sections have the limits of the entries, in order.
-fn are_limited(values: &[Value], sections: &[SectionPlan]) -> bool
-    ensures { result ≡ true → each limit_in (items_view values.now) ≡ map limited sections.now }
+fn are_limited(entries: &[Value], sections: &[SectionPlan]) -> bool
+    ensures { result ≡ agree_values spec.is_limited entries.now sections.now }
 {
-    if values.len() != sections.len() {
+    entries.len() == sections.len()
+        && entries
+            .iter()
+            .zip(sections)
+            .all(|(entry, section)| is_limited(entry, section))
+}
+
+// Whether these tables are due when the entries say, in order.
+fn are_due(entries: &[Value], tables: &[TablePlan]) -> bool
+    ensures { result ≡ agree_values spec.is_due entries.now tables.now }
+{
+    entries.len() == tables.len()
+        && entries
+            .iter()
+            .zip(tables)
+            .all(|(entry, table)| is_due(entry, table))
+}
+
+// Whether the trains of the entries start at these places of these routes, in order.
+fn are_starts(entries: &[Value], routes: &[Vec<String>], places: &[u32]) -> bool
+    ensures { result ≡ spec.agree_starts entries.now routes.now places.now }
+{
+    if places.len() != routes.len() {
         return false;
     }
-    for (index, value) in values.iter().enumerate() {
-        match sections.get(index) {
-            Some(section) => if !is_limited(value, section) {
-                return false;
-            },
-            None => return false,
-        }
-    }
-    true
+    entries.len() == routes.len()
+        && entries
+            .iter()
+            .zip(routes.iter().zip(places))
+            .all(|(entry, (route, place))| is_start(entry, route, *place))
 }
 
-// The sections of the first table.
-fn sections_of(tables: &[TablePlan]) -> &[SectionPlan]
-    ensures { result.now ≡ first_sections tables.now }
+// Whether the entries name the trains and points of these waits of a table, in order.
+fn are_waits(entries: &[Value], waits: &[Wait], trains: &[String], first: &TablePlan) -> bool
+    ensures { result ≡ agree_values (spec.is_wait trains.now first.now.routes.items) entries.now waits.now }
 {
-    match tables {
-        [first, ..] => first.sections.as_slice(),
-        [] => &[],
-    }
+    entries.len() == waits.len()
+        && entries
+            .iter()
+            .zip(waits)
+            .all(|(entry, wait)| is_wait(entry, wait, trains, first))
 }
 
-/// Whether a plan has the trains of its text by their names, and in the first table its sections with their limits.
+// Whether the first table of a plan has the routes, exits, starts, limits and connections of its text.
+#[tactic(auto, using(crate::proofs::Compared::agreed, crate::proofs::Compared::as_many, crate::proofs::Compared::started))]
+fn agrees_first(table: &Table, plan: &Plan, first: &TablePlan) -> bool
+    ensures { result ≡ true → AgreesFirst (table_view table.now) plan.now first.now }
+{
+    let trains = entries_of(table, "train");
+    are_routed(trains, &first.routes)
+        && are_exits(trains, &first.exits)
+        && are_starts(trains, &first.routes, &plan.start)
+        && are_limited(entries_of(table, "section"), &first.sections)
+        && are_waits(
+            entries_of(table, "connection"),
+            &first.waits,
+            &plan.trains,
+            first,
+        )
+}
+
+// Whether the first table of a plan agrees with its text, and the later ones are due when the text says.
+#[tactic(auto, using(crate::proofs::Compared::agreed))]
+fn agree_tables(table: &Table, plan: &Plan, first: &TablePlan, later: &[TablePlan]) -> bool
+    ensures { result ≡ true → AgreesInTables (table_view table.now) plan.now first.now later.now }
+{
+    agrees_first(table, plan, first) && are_due(entries_of(table, "table"), later)
+}
+
+/// Whether a plan has the trains of its text by their names, agrees with the text in its first table, and has the others due when the text says.
 pub(crate) fn agrees(table: &Table, plan: &Plan) -> bool
     ensures { result ≡ true → Agrees (table_view table.now) plan.now }
 {
-    are_named(entries_of(table, "train"), &plan.trains)
-        && are_limited(entries_of(table, "section"), sections_of(&plan.tables))
+    match plan.tables.split_first() {
+        Some((first, later)) => {
+            are_named(entries_of(table, "train"), &plan.trains)
+                && agree_tables(table, plan, first, later)
+        }
+        None => false,
+    }
 }

@@ -4,6 +4,7 @@
 mod agreement;
 mod connections;
 mod ground;
+mod matching;
 mod names;
 mod ranges;
 mod reading;
