@@ -8,5 +8,5 @@ use Rattle.layout_picture.specs.declared.answers.Drawn.TheVariants.{Picture, Ref
 
 -- A picture of a legal state; or words, where there is no such table or the state isn't legal.
 abbrev pub IsPictureOrWords : Doc → ℕ → List ℕ → Drawn → Type 0
-IsPictureOrWords D t p (Picture picture) = Legal (table_at D t) p × IsDrawn D.layout (table_at D t) p picture.groups
+IsPictureOrWords D t p (Picture picture) = Legal (table_at D t) p × IsDrawn D.layout (table_at D t) p picture.width picture.height picture.groups
 IsPictureOrWords D t p (Refused words) = (length D.tables ≤ t) ⊎ (Legal (table_at D t) p → ⊥)

@@ -1,13 +1,16 @@
 -- What a picture of a layout shows.
-use Rattle.std.specs.Prelude.{◌≡◌, ℕ, List, [], ◌∷◌, ◌++◌, length, map, codes, nat_eq, is_some, if◌then◌else◌}
+use Rattle.std.specs.Prelude.{◌≡◌, ℕ, zero, suc, ◌+◌, Bool, Decides, List, [], ◌∷◌, ◌++◌, length, map, codes, decimal, nat_eq, Option, Some, None, if◌then◌else◌}
 use Rattle.std.specs.Cmp.Lexicographic.{pointwise}
 use Rattle.svg_text.specs.Tree.{Shape, Group}
 use Rattle.svg_text.specs.declared.shapes.Spot.{Spot}
 use Rattle.rail_model.specs.Layout.{Layout, Link}
-use Rattle.rail_model.specs.Sums.{sum_below}
 use Rattle.rail_model.specs.Table.{Table, trains, point, place}
+use Rattle.rail_model.specs.Checks.{below}
 use Rattle.layout_picture.specs.declared.tracks.Way.{Way}
 use Rattle.layout_picture.specs.Marks.{dot_at, stroke_of, ends_of, link_ends}
+use Rattle.layout_picture.specs.Red.{IsInCircle}
+use Rattle.layout_picture.specs.Arrows.{IsArrow}
+use Rattle.layout_picture.specs.Areas.{inside, way_of, first_attribute}
 
 -- a group of this class with this title and these shapes
 abbrev pub group_with : List ℕ → List ℕ → List Shape → Group
@@ -18,25 +21,57 @@ abbrev pub shapes_of : List ℕ → List Group → List Shape
 shapes_of class [] = []
 shapes_of class (g ∷ later) = if pointwise nat_eq class g.class then g.shapes ++ shapes_of class later else shapes_of class later
 
--- 1 for a train that is in the layout, 0 for one that has left it
-abbrev pub inside : Table → List ℕ → ℕ → ℕ
-inside T p i = if is_some (point T i (place p i)) then 1 else 0
-
--- how many trains are in the layout
-abbrev pub trains_inside : Table → List ℕ → ℕ
-trains_inside T p = sum_below (inside T p) (trains T)
-
 -- The shapes are lines, one for each link, between the spots of its points.
 pub record AreLines (spots : List Spot) (links : List Link) (shapes : List Shape) : Type 0 where
   pub ways : List Way
   pub ends : map ends_of ways ≡ map (link_ends spots) links
   pub lines : shapes ≡ map stroke_of ways
 
--- The groups have a dot for each point and a line for each link, an area for each section, and an arrow for each train that is in the layout.
-pub record IsDrawn (L : Layout) (T : Table) (p : List ℕ) (groups : List Group) : Type 0 where
+-- Some shapes are added to others, and they are as P says.
+pub record Adds (P : List Shape → Type 0) (before after : List Shape) : Type 0 where
+  pub own : List Shape
+  pub joined : after ≡ before ++ own
+  pub is_own : P own
+
+-- The shapes are those of the trains 0 to n - 1, one train after another, and of each train as P says.
+abbrev pub AreOfTrains : (ℕ → List Shape → Type 0) → ℕ → List Shape → Type 0
+AreOfTrains P zero shapes = shapes ≡ []
+AreOfTrains P (suc n) shapes = (before : List Shape) × AreOfTrains P n before × Adds (P n) before shapes
+
+-- a step between two points, if there are both
+abbrev pub step_between : Option ℕ → Option ℕ → List Link
+step_between (Some here) (Some next) = record { first = here; second = next } ∷ []
+step_between (Some here) None = []
+step_between None next = []
+
+-- the step of a train from its point to its next one
+abbrev pub next_step : Table → List ℕ → ℕ → List Link
+next_step T p i = step_between (point T i (place p i)) (point T i (place p i + 1))
+
+-- The shapes are a line from train i to its next point, if the train is in a circle; else there are none.
+pub record IsWait (T : Table) (p : List ℕ) (spots : List Spot) (i : ℕ) (shapes : List Shape) : Type 0 where
+  pub red : Bool
+  pub is_red : Decides red (IsInCircle T p i)
+  pub line : AreLines spots (if red then next_step T p i else []) shapes
+
+-- a ground of this size
+abbrev pub ground_of : ℕ → ℕ → Shape
+ground_of width height = record {
+  name = codes "rect";
+  attributes =
+      record { name = codes "width"; value = decimal width } ∷ record { name = codes "height"; value = decimal height } ∷ [];
+  words = [];
+}
+
+-- The groups have a ground of this size, a dot for each point, a line for each link, an area over the points of each
+-- section, an arrow at its point for each train that is in the layout, and a broad line from each train of a circle.
+pub record IsDrawn (L : Layout) (T : Table) (p : List ℕ) (width height : ℕ) (groups : List Group) : Type 0 where
   pub spots : List Spot
   pub spot_for_each : length spots ≡ length L.points
+  pub ground : shapes_of (codes "background") groups ≡ ground_of width height ∷ []
   pub dots : shapes_of (codes "points") groups ≡ map dot_at spots
   pub lines : AreLines spots L.links (shapes_of (codes "links") groups)
-  pub areas : length (shapes_of (codes "sections") groups) ≡ length T.sections
-  pub arrows : length (shapes_of (codes "arrows") groups) ≡ trains_inside T p
+  pub areas : map first_attribute (shapes_of (codes "sections") groups)
+      ≡ map (way_of L spots) (map (inside T (length L.points)) (below (length T.sections)))
+  pub arrows : AreOfTrains (IsArrow T p spots) (trains T) (shapes_of (codes "arrows") groups)
+  pub waits : AreOfTrains (IsWait T p spots) (trains T) (shapes_of (codes "circle") groups)

@@ -1,3 +1,6 @@
 pub mod Marks
+pub mod Red
+pub mod Arrows
+pub mod Areas
 pub mod Drawn
 pub mod Answer

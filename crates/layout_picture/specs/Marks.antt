@@ -1,22 +1,18 @@
--- Dots and lines.
+-- Dots, lines and colours.
 use Rattle.std.specs.Prelude.{ℕ, List, [], ◌∷◌, ◌++◌, codes, decimal, Option, Some, None, slice_index_or}
 use Rattle.svg_text.specs.Tree.{Shape}
-use Rattle.svg_text.specs.Shapes.{line_of}
+use Rattle.svg_text.specs.Shapes.{line_of, circle_of}
 use Rattle.svg_text.specs.declared.shapes.Spot.{Spot}
 use Rattle.rail_model.specs.Layout.{Link}
 use Rattle.layout_picture.specs.declared.tracks.Way.{Way}
 
 -- a dot at a spot
 abbrev pub dot_at : Spot → Shape
-dot_at at = record {
-  name = codes "circle";
-  attributes =
-      record { name = codes "cx"; value = decimal at.x }
-      ∷ record { name = codes "cy"; value = decimal at.y }
-      ∷ record { name = codes "r"; value = decimal 5 }
-      ∷ [];
-  words = [];
-}
+dot_at at = circle_of at 5
+
+-- a shape in a colour
+abbrev pub painted : Shape → List ℕ → List ℕ → Shape
+painted s name colour = record s { attributes = s.attributes ++ record { name = name; value = colour } ∷ [] }
 
 -- x and y of a spot, as a path has them
 abbrev pub pair_of : Spot → List ℕ

@@ -1,6 +1,8 @@
 // Trains that wait for one another in a circle.
-ghost use Rattle.std.specs.Prelude.{◌<◌, IfSome};
+ghost use Rattle.std.specs.Prelude.{◌≡◌, ◌<◌, IfSome, Decides};
 ghost use Rattle.rail_model.specs.Table.{trains};
+ghost use Rattle.state_sentences.specs.Circle.{waits_for as waits_for_of};
+ghost use Rattle.layout_picture.specs.Red.{IsInCircle, IsColour, is_red};
 
 use rail_model::Ask;
 use state_sentences::Scene;
@@ -16,7 +18,8 @@ const COLOURS: [&str; 8] = [
 /// The train at a train's next point, if that is why it may not move.
 pub(crate) fn waits_for(scene: &Scene, train: u32) -> Option<u32>
     requires { train < trains scene.now.table.now }
-    ensures { IfSome result (λ by. by < trains scene.now.table.now) }
+    ensures waits { result ≡ waits_for_of scene.now.table.now scene.now.state.now train }
+    ensures within { IfSome result (λ by. by < trains scene.now.table.now) }
 {
     match scene.told(train) {
         Ask::Occupied { by } => Some(by),
@@ -27,6 +30,7 @@ pub(crate) fn waits_for(scene: &Scene, train: u32) -> Option<u32>
 /// Whether a train waits for one that waits for another, and so on back to it.
 pub(crate) fn is_in_circle(scene: &Scene, train: u32) -> bool
     requires { train < trains scene.now.table.now }
+    ensures { Decides result (IsInCircle scene.now.table.now scene.now.state.now train) }
 {
     let mut last = train;
     for _ in 0..scene.trains() {
@@ -41,12 +45,20 @@ pub(crate) fn is_in_circle(scene: &Scene, train: u32) -> bool
     false
 }
 
-/// The colour of a train.
-pub(crate) fn colour_of(scene: &Scene, train: u32) -> &'static str
-    requires { train < trains scene.now.table.now }
+// Red, or the colour of a train that isn't red.
+fn colour_for(train: u32, red: bool) -> &'static str
+    ensures { is_red result.now ≡ red }
 {
-    if is_in_circle(scene, train) {
+    if red {
         return RED;
     }
     COLOURS[train as usize % 8]
+}
+
+/// The colour of a train.
+pub(crate) fn colour_of(scene: &Scene, train: u32) -> &'static str
+    requires { train < trains scene.now.table.now }
+    ensures { IsColour scene.now.table.now scene.now.state.now train result.now }
+{
+    colour_for(train, is_in_circle(scene, train))
 }

@@ -1,9 +1,12 @@
 // Where the cells of the grid are in the picture.
-ghost use Rattle.std.specs.Prelude.{◌≡◌, IfOk, length};
+ghost use Rattle.std.specs.Prelude.{◌≡◌, IfOk, length, map};
+ghost use Rattle.rail_model.specs.Checks.{below};
+ghost use Rattle.layout_picture.specs.Areas.{inside};
+ghost use Rattle.layout_picture.specs.Arrows.{shifted as shifted_spot};
 
 use crate::cells::{Cell, Cells, Edges};
 use crate::filling::place_all;
-use crate::insides::insides_of;
+use crate::insides::{Inside, insides_of};
 use crate::straightening::straighten;
 use rail_model::{Layout, Names, points_of};
 use state_sentences::Scene;
@@ -21,7 +24,7 @@ const MARGIN: u64 = 44;
 pub(crate) struct Frame {
     pub(crate) spots: Vec<Spot>,
     /// For each section the points that are in it.
-    pub(crate) insides: Vec<Vec<bool>>,
+    pub(crate) insides: Vec<Inside>,
     pub(crate) grid: Grid,
 }
 
@@ -116,7 +119,9 @@ fn grid_of(points: u64, trains: u64, columns: u64, rows: u64) -> Grid {
 }
 
 /// The spot so far right of another one, and so far below it.
-pub(crate) fn shifted(at: Spot, right: i64, down: i64) -> Spot {
+pub(crate) fn shifted(at: Spot, right: i64, down: i64) -> Spot
+    ensures { result ≡ shifted_spot at right down }
+{
     Spot {
         x: at.x.saturating_add_signed(right),
         y: at.y.saturating_add_signed(down),
@@ -169,9 +174,10 @@ fn spots_of(
 /// A frame for a layout with the trains and the sections of a scene.
 pub(crate) fn frame_of(alloc: Global, layout: &Layout, scene: &Scene) -> Result<Frame, AllocError>
     ensures spots { IfOk result (λ frame. length frame.spots.items ≡ length layout.now.points) }
-    ensures insides { IfOk result (λ frame. length frame.insides.items ≡ length scene.now.table.now.sections) }
+    ensures insides { IfOk result (λ frame. frame.insides.items
+        ≡ map (inside scene.now.table.now (length layout.now.points)) (below (length scene.now.table.now.sections))) }
 {
-    let insides = insides_of(alloc, scene.table, layout.points().len())?;
+    let insides = insides_of(alloc, scene.table, points_of(layout))?;
     let mut cells = place_all(alloc, layout, scene.table)?;
     straighten(&mut cells, layout, scene.table);
     let edges = cells.edges().unwrap_or(Edges::NONE);

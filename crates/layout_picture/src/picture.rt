@@ -1,7 +1,11 @@
 // The whole picture.
 ghost use Rattle.std.specs.Prelude.{◌≡◌, ◌++◌, ◌∷◌, [], IfOk, OnOk, length, map, codes};
-ghost use Rattle.layout_picture.specs.Drawn.{AreLines, IsDrawn, group_with, trains_inside};
+ghost use Rattle.layout_picture.specs.Drawn.{AreLines, AreOfTrains, IsWait, IsDrawn, group_with, ground_of};
 ghost use Rattle.layout_picture.specs.Marks.{dot_at};
+ghost use Rattle.layout_picture.specs.Arrows.{IsArrow};
+ghost use Rattle.layout_picture.specs.Areas.{inside, way_of, first_attribute};
+ghost use Rattle.rail_model.specs.Table.{trains};
+ghost use Rattle.rail_model.specs.Checks.{below};
 
 use crate::captions::{point_names, train_names};
 use crate::frame::{View, frame_of};
@@ -19,14 +23,18 @@ const STYLE: &str =
     "svg{font-family:sans-serif;font-size:12px;fill:#1f2933} .background{fill:#fff} .names,.trains{paint-order:stroke;stroke:#fff;stroke-width:3px;stroke-linejoin:round} .sections{fill:none;stroke-linecap:round;stroke-linejoin:round} .sections path{opacity:.38} .links{fill:none;stroke:#5b6770;stroke-width:3} .circle{fill:none;stroke:#d00000;stroke-width:6} .points{fill:#fff;stroke:#1f2933;stroke-width:2} .numbers{font-size:10.5px;fill:#3d474f;paint-order:stroke;stroke:#fff;stroke-width:2px} .arrows{stroke:#fff;stroke-width:1.5;stroke-linejoin:round} .trains,.heading{font-weight:bold} .heading{font-size:15px}";
 
 // A shape alone.
-fn alone(alloc: Global, shape: Shape) -> Result<Vec<Shape>, AllocError> {
+fn alone(alloc: Global, shape: Shape) -> Result<Vec<Shape>, AllocError>
+    ensures { IfOk result (λ shapes. shapes.items ≡ shape ∷ []) }
+{
     let mut shapes = Vec::new(alloc);
     shapes.push(shape)?;
     Ok(shapes)
 }
 
 // A white ground.
-fn ground(alloc: Global, width: u64, height: u64) -> Result<Vec<Shape>, AllocError> {
+fn ground(alloc: Global, width: u64, height: u64) -> Result<Vec<Shape>, AllocError>
+    ensures { IfOk result (λ shapes. shapes.items ≡ ground_of width height ∷ []) }
+{
     let mut ground = Shape::new(alloc, "rect", "")?;
     ground.set_number(alloc, "width", width)?;
     ground.set_number(alloc, "height", height)?;
@@ -60,9 +68,14 @@ struct Signs {
 }
 
 fn tracks_of(view: &View, height: u64) -> Result<Tracks, AllocError>
+    ensures ground { IfOk result (λ tracks. tracks.ground.items ≡ ground_of view.now.frame.now.grid.width height ∷ []) }
     ensures dots { IfOk result (λ tracks. tracks.dots.items ≡ map dot_at view.now.frame.now.spots.items) }
     ensures lines { IfOk result (λ tracks. AreLines view.now.frame.now.spots.items view.now.layout.now.links tracks.strokes.items) }
-    ensures areas { IfOk result (λ tracks. length tracks.areas.items ≡ length view.now.frame.now.insides.items) }
+    ensures areas { IfOk result (λ tracks. map first_attribute tracks.areas.items
+        ≡ map (way_of view.now.layout.now view.now.frame.now.spots.items) view.now.frame.now.insides.items) }
+    ensures waits { IfOk result (λ tracks. AreOfTrains
+        (IsWait view.now.scene.now.table.now view.now.scene.now.state.now view.now.frame.now.spots.items)
+        (trains view.now.scene.now.table.now) tracks.waits.items) }
 {
     let ground = ground(view.alloc, view.frame.grid.width, height)?;
     let areas = areas(view)?;
@@ -81,7 +94,9 @@ fn tracks_of(view: &View, height: u64) -> Result<Tracks, AllocError>
 }
 
 fn signs_of(view: &View, legend: Legend, title: &str) -> Result<Signs, AllocError>
-    ensures { IfOk result (λ signs. length signs.arrows.items ≡ trains_inside view.now.scene.now.table.now view.now.scene.now.state.now) }
+    ensures { IfOk result (λ signs. AreOfTrains
+        (IsArrow view.now.scene.now.table.now view.now.scene.now.state.now view.now.frame.now.spots.items)
+        (trains view.now.scene.now.table.now) signs.arrows.items) }
 {
     let arrows = arrows(view)?;
     let points = point_names(view)?;
@@ -156,12 +171,19 @@ fn push_signs(alloc: Global, groups: &mut Vec<Group>, signs: Signs) -> Result<()
 }
 
 // The groups of a picture, each drawn over those before it.
-fn groups_of(view: &View, legend: Legend, title: &str) -> Result<Vec<Group>, AllocError>
+fn groups_of(
+    view: &View,
+    legend: Legend,
+    height: u64,
+    title: &str,
+) -> Result<Vec<Group>, AllocError>
     requires spots { length view.now.frame.now.spots.items ≡ length view.now.layout.now.points }
-    requires insides { length view.now.frame.now.insides.items ≡ length view.now.scene.now.table.now.sections }
-    ensures { IfOk result (λ groups. IsDrawn view.now.layout.now view.now.scene.now.table.now view.now.scene.now.state.now groups.items) }
+    requires insides { view.now.frame.now.insides.items
+        ≡ map (inside view.now.scene.now.table.now (length view.now.layout.now.points)) (below (length view.now.scene.now.table.now.sections)) }
+    ensures { IfOk result (λ groups. IsDrawn view.now.layout.now view.now.scene.now.table.now view.now.scene.now.state.now
+        view.now.frame.now.grid.width height groups.items) }
 {
-    let tracks = tracks_of(view, legend.foot())?;
+    let tracks = tracks_of(view, height)?;
     let signs = signs_of(view, legend, title)?;
     let mut groups = Vec::new(view.alloc);
     push_tracks(view.alloc, &mut groups, tracks)?;
@@ -176,7 +198,7 @@ pub(crate) fn drawing(
     scene: &Scene,
     title: &str,
 ) -> Result<Picture, AllocError>
-    ensures { IfOk result (λ picture. IsDrawn layout.now scene.now.table.now scene.now.state.now picture.groups) }
+    ensures { IfOk result (λ picture. IsDrawn layout.now scene.now.table.now scene.now.state.now picture.width picture.height picture.groups) }
 {
     let frame = frame_of(alloc, layout, scene)?;
     let view = View {
@@ -187,6 +209,6 @@ pub(crate) fn drawing(
     };
     let legend = Legend::new(alloc, scene, frame.grid.foot)?;
     let height = legend.foot();
-    let groups = groups_of(&view, legend, title)?;
+    let groups = groups_of(&view, legend, height, title)?;
     Picture::new(alloc, frame.grid.width, height, title, STYLE, groups)
 }

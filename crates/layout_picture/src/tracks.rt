@@ -1,23 +1,12 @@
 // Points as dots, and links as lines.
 ghost use Rattle.std.specs.Prelude.{◌≡◌, IfOk, map};
 ghost use Rattle.layout_picture.specs.Drawn.{AreLines};
-ghost use Rattle.layout_picture.specs.Marks.{dot_at, bow_of, stroke_of, ends_of, ends_at, link_ends};
+ghost use Rattle.layout_picture.specs.Marks.{dot_at, painted as painted_in, bow_of, stroke_of, ends_of, ends_at, link_ends};
 
 use crate::frame::{Frame, Grid, View};
 use rail_model::Link;
 use std::alloc::{AllocError, Global};
-use svg_text::{Shape, Spot, line};
-
-// The dot of a point.
-fn dot(alloc: Global, at: Spot) -> Result<Shape, AllocError>
-    ensures { IfOk result (λ shape. shape ≡ dot_at at) }
-{
-    let mut shape = Shape::new(alloc, "circle", "")?;
-    shape.set_number(alloc, "cx", at.x)?;
-    shape.set_number(alloc, "cy", at.y)?;
-    shape.set_number(alloc, "r", 5)?;
-    Ok(shape)
-}
+use svg_text::{Shape, Spot, circle, line};
 
 /// A dot for each point.
 pub(crate) fn dots(alloc: Global, spots: &[Spot]) -> Result<Vec<Shape>, AllocError>
@@ -25,7 +14,7 @@ pub(crate) fn dots(alloc: Global, spots: &[Spot]) -> Result<Vec<Shape>, AllocErr
 {
     let mut shapes = Vec::new(alloc);
     for at in spots {
-        shapes.push(dot(alloc, *at)?)?;
+        shapes.push(circle(alloc, *at, 5)?)?;
     }
     Ok(shapes)
 }
@@ -95,7 +84,9 @@ pub(crate) fn painted(
     shape: Shape,
     name: &str,
     colour: &str,
-) -> Result<Shape, AllocError> {
+) -> Result<Shape, AllocError>
+    ensures { IfOk result (λ done. done ≡ painted_in shape name.now colour.now) }
+{
     let mut shape = shape;
     shape.set(alloc, name, colour)?;
     Ok(shape)

@@ -1,9 +1,11 @@
 // Trains as arrows toward their next points.
-ghost use Rattle.std.specs.Prelude.{◌≡◌, ◌<◌, IfOk, length};
-ghost use Rattle.rail_model.specs.Table.{trains};
-ghost use Rattle.layout_picture.specs.Drawn.{trains_inside};
+ghost use Rattle.std.specs.Prelude.{◌≡◌, ◌+◌, ◌<◌, ◌∷◌, [], Some, IfOk, OnOk};
+ghost use Rattle.rail_model.specs.Table.{trains, point, place};
+ghost use Rattle.layout_picture.specs.Marks.{spot_at as spot_of};
+ghost use Rattle.layout_picture.specs.Arrows.{IsMark, IsArrow, outline_of as train_outline};
+ghost use Rattle.layout_picture.specs.Drawn.{Adds, AreLines, AreOfTrains, IsWait, step_between};
 
-use crate::arrows::{ARROW, Heading, SQUARE};
+use crate::arrows::{ARROW, Heading, Outline, SQUARE};
 use crate::circles::{colour_of, is_in_circle};
 use crate::frame::View;
 use crate::tracks::{painted, stroke, way_between};
@@ -21,14 +23,26 @@ pub(crate) fn spot_at(view: &View, train: u32, place: u32) -> Option<Spot>
     }
 }
 
+// A train's next point, if it has one.
+fn next_point(view: &View, train: u32) -> Option<u32>
+    requires { train < trains view.now.scene.now.table.now }
+    ensures { result ≡ point view.now.scene.now.table.now train (place view.now.scene.now.state.now train + 1) }
+{
+    point_of(
+        view.scene.table,
+        train,
+        view.scene.place(train).saturating_add(1),
+    )
+}
+
 // Where a train heads from a spot: to its next point; at its last one on from the point before.
 fn heading_of(view: &View, train: u32, at: Spot) -> Heading
     requires { train < trains view.now.scene.now.table.now }
 {
-    let place = view.scene.place(train);
-    if let Some(next) = spot_at(view, train, place.saturating_add(1)) {
-        return Heading::between(at, next);
+    if let Some(next) = next_point(view, train) {
+        return Heading::between(at, view.frame.spot(next));
     }
+    let place = view.scene.place(train);
     if 0 < place {
         if let Some(before) = spot_at(view, train, place - 1) {
             return Heading::between(before, at);
@@ -37,55 +51,107 @@ fn heading_of(view: &View, train: u32, at: Spot) -> Heading
     Heading::east()
 }
 
+// The outline of an arrow, or of a square for a train that has arrived.
+fn outline_of(view: &View, train: u32) -> Outline
+    requires { train < trains view.now.scene.now.table.now }
+    ensures { result ≡ train_outline view.now.scene.now.table.now view.now.scene.now.state.now train }
+{
+    if view.scene.place(train) == last_of(view.scene.table, train) {
+        SQUARE
+    } else {
+        ARROW
+    }
+}
+
 // The arrow of a train at a point, or a square where it has arrived.
 fn arrow(view: &View, train: u32, point: u32) -> Result<Shape, AllocError>
     requires { train < trains view.now.scene.now.table.now }
+    ensures { IfOk result (λ shape. IsMark view.now.scene.now.table.now view.now.scene.now.state.now train
+        (spot_of view.now.frame.now.spots.items point) (shape ∷ [])) }
 {
     let at = view.frame.spot(point);
     let size = view.frame.grid.across.max(26).min(40) as i64;
     let heading = heading_of(view, train, at);
-    let corners = if view.scene.place(train) == last_of(view.scene.table, train) {
-        SQUARE
-    } else {
-        ARROW
-    };
-    let shape = heading.mark(view.alloc, at, size, corners)?;
-    painted(view.alloc, shape, "fill", colour_of(view.scene, train))
+    let mark = heading.mark(view.alloc, at, size, outline_of(view, train))?;
+    let arrow = painted(view.alloc, mark, "fill", colour_of(view.scene, train))?;
+    Ok(arrow)
+}
+
+// Adds the arrow of a train, if it is in the layout.
+fn push_arrow(shapes: &mut Vec<Shape>, view: &View, train: u32) -> Result<(), AllocError>
+    requires { train < trains view.now.scene.now.table.now }
+    ensures { OnOk result (Adds
+        (IsArrow view.now.scene.now.table.now view.now.scene.now.state.now view.now.frame.now.spots.items train)
+        shapes.old.items shapes.new.items) }
+{
+    match point_of(view.scene.table, train, view.scene.place(train)) {
+        Some(point) => Ok(shapes.push(arrow(view, train, point)?)?),
+        None => Ok(()),
+    }
 }
 
 /// An arrow for each train that is in the layout.
 pub(crate) fn arrows(view: &View) -> Result<Vec<Shape>, AllocError>
-    ensures { IfOk result (λ shapes. length shapes.items ≡ trains_inside view.now.scene.now.table.now view.now.scene.now.state.now) }
+    ensures { IfOk result (λ shapes. AreOfTrains
+        (IsArrow view.now.scene.now.table.now view.now.scene.now.state.now view.now.frame.now.spots.items)
+        (trains view.now.scene.now.table.now) shapes.items) }
 {
     let mut shapes = Vec::new(view.alloc);
     for train in 0..view.scene.trains() {
-        if let Some(point) = point_of(view.scene.table, train, view.scene.place(train)) {
-            shapes.push(arrow(view, train, point)?)?;
-        }
+        push_arrow(&mut shapes, view, train)?;
     }
     Ok(shapes)
 }
 
-// Adds a line from a train to its next point, if it has one.
+// The line of a step between two points.
+fn step(view: &View, here: u32, next: u32) -> Result<Shape, AllocError>
+    ensures { IfOk result (λ shape. AreLines view.now.frame.now.spots.items (step_between (Some here) (Some next)) (shape ∷ [])) }
+{
+    let shape = stroke(view.alloc, way_between(view.frame, here, next))?;
+    Ok(shape)
+}
+
+// Adds the line of a step between two points, if there are both.
+fn push_step(
+    shapes: &mut Vec<Shape>,
+    view: &View,
+    here: Option<u32>,
+    next: Option<u32>,
+) -> Result<(), AllocError>
+    ensures { OnOk result (Adds (AreLines view.now.frame.now.spots.items (step_between here next)) shapes.old.items shapes.new.items) }
+{
+    match here {
+        None => Ok(()),
+        Some(here) => match next {
+            None => Ok(()),
+            Some(next) => Ok(shapes.push(step(view, here, next)?)?),
+        },
+    }
+}
+
+// Adds a line from a train to its next point, if the train is in a circle.
 fn push_wait(shapes: &mut Vec<Shape>, view: &View, train: u32) -> Result<(), AllocError>
     requires { train < trains view.now.scene.now.table.now }
+    ensures { OnOk result (Adds
+        (IsWait view.now.scene.now.table.now view.now.scene.now.state.now view.now.frame.now.spots.items train)
+        shapes.old.items shapes.new.items) }
 {
-    let place = view.scene.place(train);
-    let here = point_of(view.scene.table, train, place);
-    let next = point_of(view.scene.table, train, place.saturating_add(1));
-    if let (Some(here), Some(next)) = (here, next) {
-        shapes.push(stroke(view.alloc, way_between(view.frame, here, next))?)?;
+    if !is_in_circle(view.scene, train) {
+        return Ok(());
     }
-    Ok(())
+    let here = point_of(view.scene.table, train, view.scene.place(train));
+    push_step(shapes, view, here, next_point(view, train))
 }
 
 /// A line from each train of a circle to the one that it waits for.
-pub(crate) fn waits(view: &View) -> Result<Vec<Shape>, AllocError> {
+pub(crate) fn waits(view: &View) -> Result<Vec<Shape>, AllocError>
+    ensures { IfOk result (λ shapes. AreOfTrains
+        (IsWait view.now.scene.now.table.now view.now.scene.now.state.now view.now.frame.now.spots.items)
+        (trains view.now.scene.now.table.now) shapes.items) }
+{
     let mut shapes = Vec::new(view.alloc);
     for train in 0..view.scene.trains() {
-        if is_in_circle(view.scene, train) {
-            push_wait(&mut shapes, view, train)?;
-        }
+        push_wait(&mut shapes, view, train)?;
     }
     Ok(shapes)
 }
