@@ -84,7 +84,7 @@ AreAsked D None places = places ≡ D.start
 pub record IsLayoutAt (D : Doc) (t : ℕ) (places text : List ℕ) : Type 0 where
   pub picture : Picture
   pub legal : Legal (table_at D t) places
-  pub is_drawn : IsDrawn D.layout (table_at D t) places picture.groups
+  pub is_drawn : IsDrawn D.layout (table_at D t) places picture.width picture.height picture.groups
   pub is_text : text ≡ svg_text picture
 
 -- The text is such a picture with the trains at the places asked for.
