@@ -109,7 +109,7 @@ pub(crate) fn checked(alloc: Global, members: DocMembers) -> Result<Doc, DocRefu
 ///
 /// # Errors
 ///
-/// The first thing wrong with it, in the order of [`DocRefused`]; want of memory likewise.
+/// The first thing wrong with it, in the order of [`DocRefused`]; running out of memory likewise.
 pub fn document(alloc: Global, bytes: &[u8]) -> Result<Doc, DocRefused>
     ensures { AnswersAs DocRefused.Memory (λ d. d) result (doc_of bytes.now) }
 {

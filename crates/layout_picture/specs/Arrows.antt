@@ -20,7 +20,7 @@ times a b = saturate_signed w64 (a *ℤ b)
 abbrev pub thousandths : ℤ → ℤ
 thousandths z = int_div (saturate_signed w64 z) (pos 1000)
 
--- so many sixths of a size
+-- this many sixths of a size
 abbrev pub sixths : ℤ → ℤ → ℤ
 sixths size number = int_div (times size number) (pos 6)
 
