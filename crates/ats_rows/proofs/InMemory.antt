@@ -9,7 +9,7 @@ use Rattle.command_words.specs.declared.orders.Order.{Order}
 use Rattle.ats_run.specs.declared.failure.Failure.{Failure}
 use Rattle.ats_run.specs.declared.failure.Failure.TheVariants as failure
 use Rattle.ats_run.specs.declared.status.Status.{Status}
-use Rattle.ats_run.specs.Causes.{IsServed, IsCause, Tells}
+use Rattle.ats_run.specs.Causes.{IsServed, IsCause, TellsCause}
 use Rattle.ats_run.specs.Command.{Comes}
 use Rattle.ats_run.specs.Report.{line_of}
 use Rattle.ats_run.proofs.Reading.{on_weaker}
@@ -74,8 +74,8 @@ module _ (asked : Option Order) (held : Option (List ℕ)) (E S K E' S' K' : Typ
 
   -- a sink that told nothing before has told the line
   pub told_line : (err_failed : Type 0) (status : Status) (old now told : Option (List ℕ)) → old ≡ Some [] → told ≡ now → (err_failed → ⊥)
-      → Tells (record { order = asked; held = held; at_end = E; source_failed = S; sink_failed = K }) status err_failed old now
-      → Tells (record { order = asked; held = held; at_end = E'; source_failed = S'; sink_failed = K' }) status ⊥ (Some []) told
+      → TellsCause (record { order = asked; held = held; at_end = E; source_failed = S; sink_failed = K }) status err_failed old now
+      → TellsCause (record { order = asked; held = held; at_end = E'; source_failed = S'; sink_failed = K' }) status ⊥ (Some []) told
   told_line err_failed status old now told none same works t = record {
     failure = t.failure;
     ends = t.ends;

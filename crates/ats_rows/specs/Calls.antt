@@ -6,7 +6,7 @@ use Rattle.ats_io.specs.Memory.{HasMade, IsFull}
 use Rattle.command_words.specs.declared.orders.Order.{Order}
 use Rattle.ats_run.specs.declared.status.Status.TheVariants.{Done, WriteFault}
 use Rattle.ats_run.specs.Orders.{order_of, Reads, HoldsInput}
-use Rattle.ats_run.specs.Causes.{Call, IsServed, Tells, most_bytes}
+use Rattle.ats_run.specs.Causes.{Call, IsServed, TellsCause, most_bytes}
 use Rattle.ats_run.specs.Complete.{IsGoodInput, IsDoneOrMemory}
 use Rattle.ats_rows.specs.declared.calls.Played.{Played}
 
@@ -38,7 +38,7 @@ call_of line input reads writes played = record {
 pub record IsPlayed (line : List Text) (input reads writes : List ℕ) (played : Played) : Type 0 where
   pub done : played.status ≡ Done → IsServed (order_of line) (Some input) (Some played.left.items) (λ whole. played.written.items ≡ whole)
   pub quiet : played.status ≡ Done → Adds (Some []) (told_by played) []
-  pub refused : played.status ≢ Done → Tells (call_of line input reads writes played) played.status ⊥ (Some []) (told_by played)
+  pub refused : played.status ≢ Done → TellsCause (call_of line input reads writes played) played.status ⊥ (Some []) (told_by played)
   pub nothing : played.status ≢ Done → played.status ≢ WriteFault → played.written.items ≡ []
   pub prefix : played.status ≡ WriteFault
       → IsServed (order_of line) (Some input) (Some played.left.items) (AddsPrefix (Some []) (Some played.written.items))

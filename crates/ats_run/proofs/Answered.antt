@@ -8,7 +8,7 @@ use Rattle.command_words.specs.declared.orders.Order.TheVariants.{Run, Resume, C
 use Rattle.layout_json.specs.Doc.{Doc, table_at}
 use Rattle.ats_run.specs.declared.failure.Failure.{Failure}
 use Rattle.ats_run.specs.declared.failure.Failure.TheVariants as failure
-use Rattle.ats_run.specs.Causes.{Call, call_of, IsRead, IsReadWhole, IsServed, IsCause}
+use Rattle.ats_run.specs.Causes.{Call, call_of, IsOrderOf, IsReadWhole, IsServed, IsCause}
 use Rattle.ats_run.specs.Command.{Comes, RefusesCheck, RefusesVerify, RefusesResume, RefusesDocument, RefusesMake, RefusesDerive}
 use Rattle.ats_run.specs.Deriving.{derived, HasTooManyRings}
 use Rattle.document_generator.specs.Generated.{generated}
@@ -75,7 +75,7 @@ never (Drill s n w) input e o h = never_unmade (generated s n) full_budget e o h
 never (Weave s k) input e o h = outside (RefusesCheck input) (λ n. n) (λ n. n) (λ n. n) (λ n. n) e o h
 
 -- what a command comes to on the bytes that were read is the cause of the end of its call
-pub answered : (call : Call) (order : Order) (bytes : List ℕ) (e : Failure) → call.order ≡ Some order → IsRead call order
+pub answered : (call : Call) (order : Order) (bytes : List ℕ) (e : Failure) → call.order ≡ Some order → IsOrderOf call order
     → OnInput order call.held (λ input. bytes ≡ input) → Comes order bytes (Err e) → IsCause call e
 answered call order bytes failure.Words asked whole same h = absurd (never order bytes failure.Words (inl refl) h)
 answered call order bytes failure.ReadFault asked whole same h = absurd (never order bytes failure.ReadFault (inr (inl refl)) h)
@@ -85,7 +85,7 @@ answered call order bytes failure.Memory asked whole same h = tt
 answered call order bytes e asked whole same h = (order, asked, (whole, of_bytes order call.held bytes (λ input. Comes order input (Err e)) same h))
 
 -- why there is no text is the cause
-no_text : (call : Call) (order : Order) (bytes : List ℕ) (e : Failure) → call.order ≡ Some order → IsRead call order
+no_text : (call : Call) (order : Order) (bytes : List ℕ) (e : Failure) → call.order ≡ Some order → IsOrderOf call order
     → OnInput order call.held (λ input. bytes ≡ input) → (e ≡ failure.Memory) ⊎ Comes order bytes (Err e) → IsCause call e
 no_text call order bytes e asked whole same h = elim h [
   | inl is ↦ subst (IsCause call) (sym is) tt

@@ -7,7 +7,7 @@ use Rattle.layout_json.specs.declared.refused.DocRefused.TheVariants.{Shape}
 use Rattle.layout_json.specs.Reading.{doc_of}
 use Rattle.ats_run.specs.declared.failure.Failure.TheVariants.{Words, Memory, ReadFault, WriteFault, TooLong, Document, NoJournal}
 use Rattle.ats_run.specs.declared.status.Status.TheVariants as status
-use Rattle.ats_run.specs.Causes.{Call, IsCause, Tells, most_bytes}
+use Rattle.ats_run.specs.Causes.{Call, IsCause, TellsCause, most_bytes}
 use Rattle.ats_run.specs.Command.{Comes}
 use Rattle.ats_run.specs.Orders.{Reads, OnInput}
 use Rattle.ats_run.proofs.CutRows.{is_cut, no_cut}
@@ -76,8 +76,8 @@ unread cause =
     (cause.2.0 (subst Reads (sym asked) tt)).0
 
 -- where the error sink fails, a first part of the line is told
-cut_line : Tells (call_of None (Some [])) status.Words (Unit {0}) (Some []) (Some (codes "ats: 201"))
+cut_line : TellsCause (call_of None (Some [])) status.Words (Unit {0}) (Some []) (Some (codes "ats: 201"))
 cut_line = record { failure = Words; ends = refl; cause = refl; prefix = (8, refl); whole = λ works. absurd (works tt) }
 
-whole_line : Tells (call_of None (Some [])) status.Words ⊥ (Some []) (Some (codes "ats: 201 Words\n"))
+whole_line : TellsCause (call_of None (Some [])) status.Words ⊥ (Some []) (Some (codes "ats: 201 Words\n"))
 whole_line = record { failure = Words; ends = refl; cause = refl; prefix = (15, refl); whole = λ works. refl }

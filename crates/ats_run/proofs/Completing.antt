@@ -17,7 +17,7 @@ use Rattle.legal_state.proofs.Verdicts.{illegal_not_legal}
 use Rattle.ats_run.specs.declared.status.Status.{Status}
 use Rattle.ats_run.specs.declared.failure.Failure.{Failure}
 use Rattle.ats_run.specs.declared.failure.Failure.TheVariants as failure
-use Rattle.ats_run.specs.Causes.{Call, Asked, IsRead, IsCause, most_bytes}
+use Rattle.ats_run.specs.Causes.{Call, Asked, IsOrderOf, IsCause, most_bytes}
 use Rattle.ats_run.specs.Command.{Comes, IsDocWith, RefusesDocument, RefusesCheck, IsPairWith, RefusesVerify, RefusesResume, RefusesMake, RefusesDerive, RefusesRepair}
 use Rattle.ats_run.specs.Complete.{IsWholeText, IsRightFront, IsJournalInput, IsDerivable, IsGoodInput, IsDoneOrMemory}
 use Rattle.ats_run.specs.Deriving.{derived, FailsToDerive}
@@ -138,9 +138,9 @@ asked_for call order input g P h =
 
 -- a command's refusal of a good input
 refused : (call : Call) (order : Order) (input : List ℕ) → IsGoodCall call order input → (e : Failure)
-    → Asked call (λ asked. IsRead call asked × OnInput asked call.held (λ input. Comes asked input (Err e))) → ⊥
+    → Asked call (λ asked. IsOrderOf call asked × OnInput asked call.held (λ input. Comes asked input (Err e))) → ⊥
 refused call order input g e h =
-    let here = asked_for call order input g (λ asked. IsRead call asked × OnInput asked call.held (λ input. Comes asked input (Err e))) h in
+    let here = asked_for call order input g (λ asked. IsOrderOf call asked × OnInput asked call.held (λ input. Comes asked input (Err e))) h in
     not_refused order input g.good e (of_input order call.held input (λ input. Comes order input (Err e)) g.held here.1)
 
 too_long : (call : Call) (order : Order) (input : List ℕ) → IsGoodCall call order input → IsCause call failure.TooLong → ⊥

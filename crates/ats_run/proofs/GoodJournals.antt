@@ -9,7 +9,7 @@ use Rattle.move_journal.specs.declared.faults.BadText.TheVariants as text
 use Rattle.move_journal.specs.declared.faults.BadLine.{BadLine}
 use Rattle.move_journal.specs.declared.lines.Part.{Part}
 use Rattle.move_journal.specs.declared.lines.Part.TheVariants.{Whole, Open}
-use Rattle.move_journal.specs.Answers.{HasTextFault, IsPart, AnswersPrefix}
+use Rattle.move_journal.specs.Answers.{HasTextFault, IsTextPart, AnswersPrefix}
 use Rattle.move_journal.specs.Replays.{HasBadLine, IsBrokenJournal}
 use Rattle.move_journal.proofs.OneAnswer.{text_or_fault, one_journal, one_prefix}
 use Rattle.move_journal.proofs.OneBadLine.{right_or_bad}
@@ -27,7 +27,7 @@ verified D given good cause h =
     whole_or_not (offers_of D) (opening D.start) good.0 cause good.2 (subst (λ (J : Journal). IsBrokenJournal (offers_of D) (opening D.start) J cause) same h.fault)
 
 -- the part that good bytes are
-part_of : (D : Doc) (given : List ℕ) → IsWholeText D given ⊎ IsRightFront D given → (part : Part) × IsPart (names_of D) given part
+part_of : (D : Doc) (given : List ℕ) → IsWholeText D given ⊎ IsRightFront D given → (part : Part) × IsTextPart (names_of D) given part
 part_of D given (inl good) = (Whole good.0, good.1)
 part_of D given (inr good) = (Open good.0, good.1)
 
@@ -57,7 +57,7 @@ begins_readable D given good cause h other =
     cc
 
 -- two parts that the same bytes are
-one_part : (N : Names) (given : List ℕ) (a b : Part) → IsNames N → IsPart N given a → IsPart N given b → a ≡ b
+one_part : (N : Names) (given : List ℕ) (a b : Part) → IsNames N → IsTextPart N given a → IsTextPart N given b → a ≡ b
 one_part N given a b names p q =
     let same = one_prefix N given (Ok a) (Ok b) names (λ (e : Ok a ≡ Err text.Memory). cc) (λ (e : Ok b ≡ Err text.Memory). cc) p q in
     let is : a ≡ b = cc in

@@ -42,8 +42,8 @@ Asked call P = (order : Order) × (call.order ≡ Some order) × P order
 abbrev pub IsReadWhole : Order → Option (List ℕ) → Type 0 → Type 0
 IsReadWhole order held at_end = Reads order → at_end × IfSome held (λ input. length input ≤ most_bytes)
 
-abbrev pub IsRead : Call → Order → Type 0
-IsRead call order = IsReadWhole order call.held call.at_end
+abbrev pub IsOrderOf : Call → Order → Type 0
+IsOrderOf call order = IsReadWhole order call.held call.at_end
 
 -- The words ask for an order, what it reads was read whole, and it comes to bytes of which the fact holds. The source held these bytes,
 -- and has these left.
@@ -59,8 +59,8 @@ IsCause call Words = call.order ≡ None
 IsCause call Memory = Unit {0}
 IsCause call ReadFault = Asked call (λ order. Reads order × call.source_failed)
 IsCause call TooLong = Asked call (λ order. Reads order × OnInput order call.held (λ input. most_bytes < length input))
-IsCause call WriteFault = Asked call (λ order. IsRead call order × call.sink_failed)
-IsCause call e = Asked call (λ order. IsRead call order × OnInput order call.held (λ input. Comes order input (Err e)))
+IsCause call WriteFault = Asked call (λ order. IsOrderOf call order × call.sink_failed)
+IsCause call e = Asked call (λ order. IsOrderOf call order × OnInput order call.held (λ input. Comes order input (Err e)))
 
 -- Why an input was not read: being out of memory has no cause.
 abbrev pub IsUnread : Option (List ℕ) → Type 0 → Failure → Type 0
@@ -68,7 +68,7 @@ IsUnread held source_failed e =
     (e ≡ Memory) ⊎ ((e ≡ ReadFault) × source_failed) ⊎ ((e ≡ TooLong) × IfSome held (λ input. most_bytes < length input))
 
 -- A refusal with this status has its cause, and its line was written: whole, unless the error sink failed.
-pub record Tells (call : Call) (status : Status) (err_failed : Type 0) (old new : Option (List ℕ)) : Type 0 where
+pub record TellsCause (call : Call) (status : Status) (err_failed : Type 0) (old new : Option (List ℕ)) : Type 0 where
   pub failure : Failure
   pub ends : status_of failure ≡ status
   pub cause : IsCause call failure

@@ -14,7 +14,7 @@ abbrev pub checked_text : ℕ → ℕ → List ℕ
 checked_text tables nodes = codes "accepted tables=" ++ decimal tables ++ codes " nodes=" ++ decimal nodes ++ codes "\n"
 
 -- Each table accepts its certificate, and the bytes say how many tables and nodes there are.
-pub record IsChecked (D : Doc) (written : List ℕ) : Type 0 where
+pub record WritesChecked (D : Doc) (written : List ℕ) : Type 0 where
   pub trees : List Tree
   pub accepted : AreAccepted D trees
   pub printed : written ≡ checked_text (length D.tables) (nodes_below trees (length trees))

@@ -15,7 +15,7 @@ use Rattle.layout_json.specs.declared.refused.DocRefused.{DocRefused}
 use Rattle.ats_run.specs.declared.failure.Failure.{Failure}
 use Rattle.ats_run.specs.declared.failure.Failure.TheVariants.{Document, Tree, Certificate, NoJournal, Text, Line}
 use Rattle.ats_run.specs.Certificates.{IsBadTable}
-use Rattle.ats_run.specs.Checking.{IsChecked}
+use Rattle.ats_run.specs.Checking.{WritesChecked}
 use Rattle.ats_run.specs.Journals.{IsCutAt, HasNoCut, document_part, journal_part, IsVerified, IsUnreadable, FailsToVerify, IsResumed, FailsToResume}
 use Rattle.ats_run.specs.Generating.{full_budget, IsDrilled, IsDrillLine}
 use Rattle.ats_run.specs.Headline.{IsRun, IsRunBy}
@@ -99,7 +99,7 @@ IsAnyDrill input written = (made : List ℕ) × IsDocWith input (λ D. IsMade D 
 abbrev pub Comes : Order → List ℕ → Result (List ℕ) Failure → Type 0
 Comes (Run workers rounds block) input (Ok written) = IsRunInput (crew_of workers rounds block) input written
 Comes (Run workers rounds block) input (Err e) = RefusesCheck input e
-Comes Check input (Ok written) = IsDocWith input (λ D. IsChecked D written)
+Comes Check input (Ok written) = IsDocWith input (λ D. WritesChecked D written)
 Comes Check input (Err e) = RefusesCheck input e
 Comes Verify input (Ok written) = IsVerifiedInput input written
 Comes Verify input (Err e) = RefusesVerify input e

@@ -3,7 +3,7 @@ ghost use Rattle.std.specs.Prelude.{◌≡◌, ◌⊎◌, ◌<◌, ◌≤◌, le
 ghost use Rattle.rail_model.specs.Certificate.{preorder};
 ghost use Rattle.layout_json.specs.Trees.{tree_at};
 ghost use Rattle.ats_run.specs.Command.{IsDocWith, RefusesCheck};
-ghost use Rattle.ats_run.specs.Checking.{IsChecked, nodes_below, checked_text};
+ghost use Rattle.ats_run.specs.Checking.{WritesChecked, nodes_below, checked_text};
 ghost use Rattle.ats_run.specs.declared.failure.Failure.TheVariants.{Memory as NoMemory};
 
 use crate::Failure;
@@ -14,7 +14,7 @@ use std::thread::Threads;
 
 /// The line that says how many tables accept their certificates, and of how many nodes.
 pub fn check(rt: &(impl Threads + Sync), alloc: Global, input: &[u8]) -> Result<Vec<u8>, Failure>
-    ensures checked { IfOk result (λ text. IsDocWith input.now (λ D. IsChecked D text.items)) }
+    ensures checked { IfOk result (λ text. IsDocWith input.now (λ D. WritesChecked D text.items)) }
 
     ensures unchecked { IfErr result (λ e. (e ≡ NoMemory) ⊎ RefusesCheck input.now e) }
 {

@@ -4,7 +4,7 @@ ghost use Rattle.rail_model.specs.Yard.{opening};
 ghost use Rattle.rail_model.specs.Journal.{after_lines, IsRight};
 ghost use Rattle.rail_model.specs.Certificate.{Tree};
 ghost use Rattle.plain_yard.specs.Keeps.{Keeps};
-ghost use Rattle.move_journal.specs.Answers.{IsTextOf, IsFrontOf, IsPart};
+ghost use Rattle.move_journal.specs.Answers.{IsTextOf, IsFrontOf, IsTextPart};
 ghost use Rattle.layout_json.specs.Doc.{IsDoc, offers_of, names_of};
 ghost use Rattle.ats_run.specs.Certificates.{AreAccepted};
 ghost use Rattle.ats_run.specs.Journals.{IsResumed, IsLineFault, IsFrontFault, IsPartFault};
@@ -49,7 +49,7 @@ pub(crate) fn resume(
 
 // The journal, or its front, whose text the bytes are.
 fn read_part(alloc: Global, doc: &Frame, given: &[u8]) -> Result<Part, Failure>
-    ensures part { IfOk result (IsPart (names_of doc.now) given.now) }
+    ensures part { IfOk result (IsTextPart (names_of doc.now) given.now) }
 
     ensures formed { IsDoc doc.now }
 

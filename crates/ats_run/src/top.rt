@@ -7,7 +7,7 @@ ghost use Rattle.command_words.specs.Subcommands.{HasItsNumbers};
 ghost use Rattle.command_words.specs.declared.orders.Order.{Order as OrderValue};
 ghost use Rattle.command_words.specs.declared.orders.Order.TheVariants.{Run};
 ghost use Rattle.ats_run.specs.Calls.{asked, OnDone, OnRun, OnDrill, OnGoodInput, Wrote, WroteFor, WroteDocument, IsRunOf, IsRoundRobinOf};
-ghost use Rattle.ats_run.specs.Causes.{call_of, IsReadWhole, IsServed, IsCause, IsUnread, Tells, most_bytes};
+ghost use Rattle.ats_run.specs.Causes.{call_of, IsReadWhole, IsServed, IsCause, IsUnread, TellsCause, most_bytes};
 ghost use Rattle.ats_run.specs.Command.{IsRunInput, IsAnyDrill};
 ghost use Rattle.ats_run.specs.Complete.{IsDoneOrMemory};
 ghost use Rattle.ats_run.specs.Orders.{Reads, OnInput, IsAlone};
@@ -256,7 +256,7 @@ pub fn ats<S: Source, K: Sink, E: Sink, R: Threads + Wait + Sync, G: Gate>(
         (WroteDocument order (S.left source.old) (Adds (K.taken out.old) (K.taken out.new))) }
 
     // Any other status has its cause, and the line of it was written to `err`.
-    ensures refused { result ≢ Status.Done → Tells (call_of (asked line.now)
+    ensures refused { result ≢ Status.Done → TellsCause (call_of (asked line.now)
         (S.left source.old) (S.left source.new)
         (Rose (S.faults source.old) (S.faults source.new)) (Rose (K.faults out.old) (K.faults out.new)))
         result (Rose (E.faults err.old) (E.faults err.new)) (E.taken err.old) (E.taken err.new) }

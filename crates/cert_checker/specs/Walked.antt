@@ -10,7 +10,7 @@ use Rattle.cert_checker.specs.declared.faults.CheckFault.TheVariants.{Memory, Ba
 use Rattle.cert_tree.specs.Open.{opened}
 
 -- A step gives a train of the table a range of its places.
-pub record IsStep (T : Table) (step : Step) : Type 0 where
+pub record IsStepOf (T : Table) (step : Step) : Type 0 where
   pub train : step.train < trains T
   pub some : step.span.lo ≤ step.span.hi
   pub in_range : step.span.hi ≤ last T step.train

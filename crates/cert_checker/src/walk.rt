@@ -4,7 +4,7 @@ ghost use Rattle.rail_model.specs.Table.{trains};
 ghost use Rattle.rail_model.specs.Certificate.{Range, range, IsGood};
 ghost use Rattle.state_boxes.specs.Sums.{AreLists, AreSums};
 ghost use Rattle.cert_tree.specs.Open.{opened};
-ghost use Rattle.cert_checker.specs.Walked.{IsStep, IsRefusal, next_train, shown, waiting, walked, StopsAt};
+ghost use Rattle.cert_checker.specs.Walked.{IsStepOf, IsRefusal, next_train, shown, waiting, walked, StopsAt};
 
 use crate::CheckFault;
 use crate::good::is_good;
@@ -78,10 +78,10 @@ fn plan_back(
 ) -> Result<(), AllocError>
     requires sums { AreSums table.now sums.now }
     requires train { train < trains table.now }
-    requires steps { All (λ step. IsStep table.now step) steps.old.items }
+    requires steps { All (λ step. IsStepOf table.now step) steps.old.items }
     ensures boxes { OnOk result ((r : Range) → waiting (slice_set sums.now.ranges train r) (reverse steps.new.items)
         ≡ waiting sums.now.ranges (reverse steps.old.items)) }
-    ensures steps { OnOk result (All (λ step. IsStep table.now step) steps.new.items) }
+    ensures steps { OnOk result (All (λ step. IsStepOf table.now step) steps.new.items) }
 {
     if is_next(steps, train) {
         return Ok(());
@@ -99,10 +99,10 @@ fn plan(
 ) -> Result<(), CheckFault>
     requires sums { AreSums table.now sums.now }
     requires good { IsGood table.now sums.now.ranges node }
-    requires steps { All (λ step. IsStep table.now step) steps.old.items }
+    requires steps { All (λ step. IsStepOf table.now step) steps.old.items }
     ensures boxes { OnOk result (waiting sums.now.ranges (reverse steps.new.items)
         ≡ opened sums.now.ranges node (waiting sums.now.ranges (reverse steps.old.items))) }
-    ensures steps { OnOk result (All (λ step. IsStep table.now step) steps.new.items) }
+    ensures steps { OnOk result (All (λ step. IsStepOf table.now step) steps.new.items) }
     ensures memory { IfErr result (λ e. e ≡ CheckFault.Memory) }
 {
     if let Node::Split { train, place } = node {
@@ -117,9 +117,9 @@ fn plan(
 fn advance(table: &Table, lists: &Lists, sums: &mut RangeSums, steps: &mut Vec<Step>) -> bool
     requires lists { AreLists table.now lists.now }
     requires sums { AreSums table.now sums.old }
-    requires steps { All (λ step. IsStep table.now step) steps.old.items }
+    requires steps { All (λ step. IsStepOf table.now step) steps.old.items }
     ensures sums { AreSums table.now sums.new }
-    ensures steps { All (λ step. IsStep table.now step) steps.new.items }
+    ensures steps { All (λ step. IsStepOf table.now step) steps.new.items }
     ensures boxes { waiting sums.old.ranges (reverse steps.old.items)
         ≡ shown result sums.new.ranges (waiting sums.new.ranges (reverse steps.new.items)) }
     ensures ended { result ≡ false → steps.new.items ≡ [] }

@@ -25,5 +25,5 @@ abbrev pub IsBuiltAs : App → Command → Type 0
 IsBuiltAs app command = (app_of command ≡ app) × IsLocal command
 
 -- What a parse reads of the command, as a subcommand, is `shape`.
-abbrev pub IsLeaf : Shape → Command → Type 0
-IsLeaf shape command = ((app_of command).top ≡ shape) × IsLocal command
+abbrev pub IsSubcommand : Shape → Command → Type 0
+IsSubcommand shape command = ((app_of command).top ≡ shape) × IsLocal command

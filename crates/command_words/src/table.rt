@@ -1,7 +1,7 @@
 // The command as clap takes it.
 ghost use Rattle.std.specs.Prelude.{◌≡◌, false, map, IfOk};
 ghost use Rattle.clap.specs.Words.{app_of, rule_of, with_subcommand};
-ghost use Rattle.command_words.specs.Built.{IsBuiltAs, IsLeaf, IsLocal, leaf, long_option, with_all};
+ghost use Rattle.command_words.specs.Built.{IsBuiltAs, IsSubcommand, IsLocal, leaf, long_option, with_all};
 ghost use Rattle.command_words.specs.Options.{rule_for};
 ghost use Rattle.command_words.specs.Words as spec;
 
@@ -81,7 +81,7 @@ fn leaf<'a>(
     name: &'static str,
     options: &[NumberOption],
 ) -> Result<Command<'a>, AllocError>
-    ensures { IfOk result (IsLeaf (leaf name.entry.now (map rule_for options.now))) }
+    ensures { IfOk result (IsSubcommand (leaf name.entry.now (map rule_for options.now))) }
 {
     let mut command = Command::new(alloc, name);
     for option in options {

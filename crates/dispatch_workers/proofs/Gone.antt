@@ -9,7 +9,7 @@ use native.Mathlib.Decide.{ℕ_discrete}
 use Rattle.zone_yard.specs.Setup.{SharedYard}
 use Rattle.zone_yard.specs.Passes.{Pass}
 use Rattle.dispatch_workers.specs.declared.rounds.Round.{Round}
-use Rattle.dispatch_workers.specs.Rounds.{AllOurs, AllAsked, AllGoRound, GoesRound, HasNoMore, IsOver}
+use Rattle.dispatch_workers.specs.Rounds.{AllOurs, AllAsked, AllGoRound, GoesRound, HasNoMore, HasFinished}
 
 -- a fact at each place of two lists that are as long
 pub zipped : {A : Type 0} (R : A → A → Type 0) (xs ys : List A) → length ys ≡ length xs
@@ -49,7 +49,7 @@ pub record Gone (steps n : ℕ) (over : Bool) (before ds : List Pass) : Type 0 w
   pub long : length told ≡ n
   pub each : (k : ℕ) (r : Round) (d : Pass) → k < n → GoesRound steps (get_or told k r) (get_or before k d) (get_or ds k d)
   pub rest : (k : ℕ) (d : Pass) → n ≤ k → get_or ds k d ≡ get_or before k d
-  pub ends : IsTrue over ↔ IsOver told
+  pub ends : IsTrue over ↔ HasFinished told
 
 -- the round of one more driver
 module _ (told : List Round) (round : Round) where
@@ -59,8 +59,8 @@ module _ (told : List Round) (round : Round) where
   longer : length more ≡ length told + 1
   longer = length-append told (round ∷ [])
 
-  over_more : (over ended over' : Bool) → (IsTrue over ↔ IsOver told) → (IsTrue ended ↔ HasNoMore round) → (IsTrue over' ↔ (IsTrue over × IsTrue ended))
-      → IsTrue over' ↔ IsOver more
+  over_more : (over ended over' : Bool) → (IsTrue over ↔ HasFinished told) → (IsTrue ended ↔ HasNoMore round) → (IsTrue over' ↔ (IsTrue over × IsTrue ended))
+      → IsTrue over' ↔ HasFinished more
   over_more over ended over' were is both = (
     λ t. let now = both.0 t in All-push HasNoMore told round (were.0 now.0) (is.0 now.1),
     λ all. both.1 (

@@ -11,7 +11,7 @@ use Rattle.zone_yard.proofs.Rows.{granted_after}
 use Rattle.dispatch_workers.specs.declared.rounds.Round.{Round}
 use Rattle.dispatch_workers.specs.declared.rounds.Round.TheVariants.{One, Block}
 use Rattle.dispatch_workers.specs.declared.groups.Group.TheVariants.{Control}
-use Rattle.dispatch_workers.specs.Rounds.{IsWhole, GoesRound, HasNoMore, AllGoRound, IsOver, EndsAtFirst, Worked, IsLastTurn, MakesTurns, Turned}
+use Rattle.dispatch_workers.specs.Rounds.{IsBlockAnswer, GoesRound, HasNoMore, AllGoRound, HasFinished, EndsAtFirst, Worked, IsLastTurn, MakesTurns, Turned}
 use Rattle.dispatch_workers.specs.Groups.{IsOurGroup, GroupWorked}
 
 -- a driver that may make one entry, and has made it
@@ -29,17 +29,17 @@ ends : HasNoMore (One (one.Arrived 3)) × HasNoMore (One one.Spent) × HasNoMore
 ends = (tt, tt, tt, λ end. end)
 
 -- after a block that can't be granted whole there is one request more, so the block is no answer
-whole : IsWhole (block.Granted 0 2) × (IsWhole (block.NotWhole 0 1 Arrived) → ⊥)
+whole : IsBlockAnswer (block.Granted 0 2) × (IsBlockAnswer (block.NotWhole 0 1 Arrived) → ⊥)
 whole = (tt, λ none. none)
 
 -- a group is over once no driver has more to ask for
-all_spent : IsOver (One one.Spent ∷ [])
+all_spent : HasFinished (One one.Spent ∷ [])
 all_spent = All-cons HasNoMore (One one.Spent) [] tt (All-nil HasNoMore)
 
-over : IsOver (One (one.Arrived 3) ∷ One one.Spent ∷ [])
+over : HasFinished (One (one.Arrived 3) ∷ One one.Spent ∷ [])
 over = All-cons HasNoMore (One (one.Arrived 3)) (One one.Spent ∷ []) tt all_spent
 
-not_over : IsOver (One one.Spent ∷ One (one.Granted 0) ∷ []) → ⊥
+not_over : HasFinished (One one.Spent ∷ One (one.Granted 0) ∷ []) → ⊥
 not_over over = over 1 (One one.Spent) (lit< tt)
 
 -- one round of five, since nobody has more to ask for
@@ -47,7 +47,7 @@ worked : Worked 5 1 (made ∷ []) (made ∷ [])
 worked = record {
   told = (One one.Spent ∷ []) ∷ [];
   made = (made ∷ [], refl, (spent, tt));
-  ends = (All-nil (λ one. IsOver one → ⊥), inr (lit< tt, all_spent));
+  ends = (All-nil (λ one. HasFinished one → ⊥), inr (lit< tt, all_spent));
 }
 
 -- no round at all, where none is wanted
@@ -60,19 +60,19 @@ not_left_out [] none = none
 not_left_out (round ∷ told) none = none
 
 -- no more rounds are made than are wanted, and fewer only up to the first that is over
-no_more : EndsAtFirst IsOver 0 ((One (one.Granted 0) ∷ []) ∷ []) → ⊥
+no_more : EndsAtFirst HasFinished 0 ((One (one.Granted 0) ∷ []) ∷ []) → ⊥
 no_more ends = elim ends.1 [
   | inl all ↦ omega (arith, all)
   | inr few ↦ let lt = few.0 in omega (arith, lt)
 ]
 
-no_fewer : EndsAtFirst IsOver 5 ((One (one.Granted 0) ∷ []) ∷ []) → ⊥
+no_fewer : EndsAtFirst HasFinished 5 ((One (one.Granted 0) ∷ []) ∷ []) → ⊥
 no_fewer ends = elim ends.1 [
   | inl all ↦ omega (arith, all)
   | inr few ↦ few.1 0 (One one.Spent) (lit< tt)
 ]
 
-not_after_the_first : EndsAtFirst IsOver 2 ((One one.Spent ∷ []) ∷ (One one.Spent ∷ []) ∷ []) → ⊥
+not_after_the_first : EndsAtFirst HasFinished 2 ((One one.Spent ∷ []) ∷ (One one.Spent ∷ []) ∷ []) → ⊥
 not_after_the_first ends = ends.0 0 [] (lit< tt) all_spent
 
 -- the control of a yard with one table has nothing to try

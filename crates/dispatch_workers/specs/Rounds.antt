@@ -12,14 +12,14 @@ use Rattle.dispatch_workers.specs.declared.rounds.Round.{Round}
 use Rattle.dispatch_workers.specs.declared.rounds.Round.TheVariants.{One, Block, Halved}
 
 -- The answer to a block isn't that it can't be granted whole.
-abbrev pub IsWhole : BlockReply → Type 0
-IsWhole (block.NotWhole ticket step ask) = ⊥
-IsWhole reply = Unit {0}
+abbrev pub IsBlockAnswer : BlockReply → Type 0
+IsBlockAnswer (block.NotWhole ticket step ask) = ⊥
+IsBlockAnswer reply = Unit {0}
 
 -- One round of a driver: a request for one step; or one for a block of steps, and where it can't be granted whole, then one for one step.
 abbrev pub GoesRound : ℕ → Round → Pass → Pass → Type 0
 GoesRound steps (One reply) old new = (steps ≡ 1) × Replies old reply new × IsUnhindered reply
-GoesRound steps (Block reply) old new = (1 < steps) × BlockReplies steps old reply new × IsBlockServed reply × IsWhole reply
+GoesRound steps (Block reply) old new = (1 < steps) × BlockReplies steps old reply new × IsBlockServed reply × IsBlockAnswer reply
 GoesRound steps (Halved ticket step ask reply) old new =
     (1 < steps) × ((middle : Pass) × BlockReplies steps old (block.NotWhole ticket step ask) middle × Replies middle reply new × IsUnhindered reply)
 
@@ -42,12 +42,12 @@ AllGoRound steps (round ∷ rounds) (old ∷ olds) (new ∷ news) = GoesRound st
 AllGoRound steps rounds olds news = ⊥
 
 -- No driver has more to ask for.
-abbrev pub IsOver : List Round → Type 0
-IsOver told = All HasNoMore told
+abbrev pub HasFinished : List Round → Type 0
+HasFinished told = All HasNoMore told
 
 -- Every driver went a round, and this tells whether no driver has more to ask for.
 abbrev pub AllAsked : ℕ → Bool → List Pass → List Pass → Type 0
-AllAsked steps over olds news = (told : List Round) × AllGoRound steps told olds news × (IsTrue over ↔ IsOver told)
+AllAsked steps over olds news = (told : List Round) × AllGoRound steps told olds news × (IsTrue over ↔ HasFinished told)
 
 -- Rounds of all drivers, one after the other; the list begins with the last.
 abbrev pub MakesRounds : ℕ → List (List Round) → List Pass → List Pass → Type 0
@@ -64,7 +64,7 @@ EndsAtFirst AtEnd wanted (last ∷ earlier) =
 pub record Worked (rounds steps : ℕ) (olds news : List Pass) : Type 0 where
   pub told : List (List Round)
   pub made : MakesRounds steps told olds news
-  pub ends : EndsAtFirst IsOver rounds told
+  pub ends : EndsAtFirst HasFinished rounds told
 
 -- The turn had nothing to try.
 abbrev pub IsLastTurn : Turn → Type 0

@@ -11,7 +11,7 @@ pub record Pair : Type 0 where
   pub times : List (List ℕ)
 
 -- The number, the first point and the loops of a pair among at most 16, each of at most 8 loops.
-pub record IsPair (g q c : ℕ) : Type 0 where
+pub record IsLoopPair (g q c : ℕ) : Type 0 where
   pub number : g < 16
   pub first : q ≤ 400
   pub loops : c ≤ 8

@@ -27,13 +27,13 @@ pub(crate) struct Pair {
 }
 
 impl Model for Pair {
-    ghost use Rattle.document_generator.specs.Pairs.{Pair as PairValue, IsPair};
+    ghost use Rattle.document_generator.specs.Pairs.{Pair as PairValue, IsLoopPair};
 
     ghost Value = { PairValue };
 
     ghost view = { λ g. record { number = g.number; first = g.first; loops = g.loops; times = g.times.items } };
 
-    ghost invariant = { λ g. IsPair g.number g.first g.loops };
+    ghost invariant = { λ g. IsLoopPair g.number g.first g.loops };
 }
 
 impl Pair {

@@ -2,7 +2,7 @@
 use Rattle.std.proofs.Common.{pos, [], ◌∷◌, true, false, refl, zero, suc, arith, inl, inr, lit<, lit≤}
 use Rattle.rail_model.specs.Table.{Table, Section, Connection}
 use Rattle.layout_json.specs.Doc.{Doc}
-use Rattle.document_lint.specs.Told.{IsAsEarlier, KeepsForGood, StartsFrom, StartsPast, HoldsNobody, IsKept, IsNeverDue}
+use Rattle.document_lint.specs.Told.{IsAsEarlier, KeepsForGood, StartsFrom, StartsPast, HoldsNobody, IsKeptSection, IsNeverDue}
 
 -- a section of one train that is in it at its second place
 abbrev first : Section
@@ -48,7 +48,7 @@ starts_past_it = (lit< tt, lit< tt)
 passed_at_the_start : HoldsNobody (1 ∷ 0 ∷ []) (record { train = 0; place = 0; other = 1; reached = 2 })
 passed_at_the_start = inr (lit< tt, lit< tt)
 
-first_is_kept : IsKept document 0 yard 0
+first_is_kept : IsKeptSection document 0 yard 0
 first_is_kept = (lit< tt, (0, lit< tt, refl))
 
 due_after_three_moves : IsNeverDue document 1

@@ -48,8 +48,8 @@ abbrev pub HoldsNobody : List ℕ → Connection → Type 0
 HoldsNobody start c = StartsFrom start c.other c.reached ⊎ StartsPast start c.train c.place
 
 -- Table t of the document has a section like this one of the former document's table t.
-abbrev pub IsKept : Doc → ℕ → Table → ℕ → Type 0
-IsKept D t former s = (t < length D.tables) × Contains (table_at D t).sections (section former s)
+abbrev pub IsKeptSection : Doc → ℕ → Table → ℕ → Type 0
+IsKeptSection D t former s = (t < length D.tables) × Contains (table_at D t).sections (section former s)
 
 -- Under each table before table t all trains have arrived after fewer moves than table t is due after.
 abbrev pub IsNeverDue : Doc → ℕ → Type 0

@@ -1,7 +1,7 @@
 // Sections of a former document that are gone.
 ghost use Rattle.std.specs.Prelude.{◌<◌, ◌≤◌, ◌↔◌, IsTrue, length};
 ghost use Rattle.rail_model.specs.Table.{trains, last};
-ghost use Rattle.document_lint.specs.Told.{IsKept, SaysOnlyWhere};
+ghost use Rattle.document_lint.specs.Told.{IsKeptSection, SaysOnlyWhere};
 
 use crate::exact::most;
 use crate::remark::Remarks;
@@ -73,7 +73,7 @@ fn add_gone(remarks: &mut Remarks, former: &Subject, section: u32) -> Result<(),
 // Whether a table of a document, if it is there, has a section of a table of the former one.
 fn is_kept(doc: &Doc, former: &Subject, section: u32) -> bool
     requires { section < length former.now.table.now.sections }
-    ensures { IsTrue result ↔ IsKept doc.now former.now.number former.now.table.now section }
+    ensures { IsTrue result ↔ IsKeptSection doc.now former.now.number former.now.table.now section }
 {
     let table = former.number;
     let sections = former.table.sections();
@@ -88,7 +88,7 @@ fn add_if_gone(
     section: u32,
 ) -> Result<(), AllocError>
     requires { section < length former.now.table.now.sections }
-    ensures { SaysOnlyWhere (IsKept doc.now former.now.number former.now.table.now section → ⊥) remarks.old remarks.new }
+    ensures { SaysOnlyWhere (IsKeptSection doc.now former.now.number former.now.table.now section → ⊥) remarks.old remarks.new }
 {
     if is_kept(doc, former, section) {
         return Ok(());

@@ -8,7 +8,7 @@ use Rattle.rail_model.specs.Table.{Section}
 use Rattle.rail_model.specs.Turns.{in_turn}
 use Rattle.serde_json.specs.Data.{Data, object, Items, no_items, item, Members}
 use Rattle.serde_json.specs.Find.{as_array, get_member}
-use Rattle.document_shapes.specs.DocumentFound.{DocumentFinds, IsWhole}
+use Rattle.document_shapes.specs.DocumentFound.{DocumentFinds, IsWholeDocument}
 use Rattle.document_shapes.specs.Each.{each_from}
 use Rattle.document_shapes.specs.Parts.{changes, section, connection, node}
 use Rattle.document_shapes.specs.Raw.{IsOfVersion, table_members, doc_members, known_version}
@@ -138,7 +138,7 @@ module _ (version : ℕ) (v : Vec TableMembers Global) (of : All (IsOfVersion ve
 
 -- ---- a document
 
-pub document-found : (ms : Members) (f : FoundDocument) (m : DocMembers) → IsWhole f m → DocumentFinds ms f → doc_members (object ms) ≡ Ok (seen_document m)
+pub document-found : (ms : Members) (f : FoundDocument) (m : DocMembers) → IsWholeDocument f m → DocumentFinds ms f → doc_members (object ms) ≡ Ok (seen_document m)
 document-found ms f m is h =
     let g : DocumentFinds ms (record {
       version = Some m.version;

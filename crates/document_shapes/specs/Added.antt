@@ -19,6 +19,6 @@ given_tokens name None = []
 given_tokens name (Some d) = member_tokens name d
 
 -- The writer has these tokens more, and nothing else has changed.
-pub record Adds (ts : List Token) (old new : Written) : Type 0 where
+pub record AddsTokens (ts : List Token) (old new : Written) : Type 0 where
   pub tokens : new.tokens ≡ old.tokens ++ ts
   pub before : new.before ≡ old.before

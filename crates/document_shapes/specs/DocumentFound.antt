@@ -21,7 +21,7 @@ pub record DocumentFinds (ms : Members) (f : FoundDocument) : Type 0 where
   pub tables : ReadsGiven (λ d v. ReadsList ReadsTable d v.items) (codes "tables") (object ms) f.tables
 
 -- The members are those that were found, and they are of their version.
-pub record IsWhole (f : FoundDocument) (m : DocMembers) : Type 0 where
+pub record IsWholeDocument (f : FoundDocument) (m : DocMembers) : Type 0 where
   pub version : f.version ≡ Some m.version
   pub points : f.points ≡ Some m.points
   pub links : f.links ≡ Some m.links

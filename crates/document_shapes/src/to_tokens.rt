@@ -1,7 +1,7 @@
 // Values of one shape, written as the tokens of JSON.
 ghost use Rattle.std.specs.Prelude.{All, IsUtf8, OnOk, ⊤, codes, string_bytes};
 ghost use Rattle.serde_json.specs.Data.{Data, boolean, string};
-ghost use Rattle.document_shapes.specs.Added.{Adds, member_tokens, tokens_of};
+ghost use Rattle.document_shapes.specs.Added.{AddsTokens, member_tokens, tokens_of};
 ghost use Rattle.document_shapes.specs.InRange.{IsSmall, IsChange, NodeIsSmall, ConnectionIsSmall, SectionIsSmall};
 ghost use Rattle.document_shapes.specs.Written as written;
 ghost use Rattle.document_shapes.specs.Written.{list_data, pair_data};
@@ -20,7 +20,7 @@ pub(crate) trait ToTokens {
 
     /// Writes the data.
     fn to_tokens(&self, writer: &mut Writer) -> Result<(), AllocError>
-        ensures tokens { OnOk result (Adds (tokens_of (stands self.now)) writer.old writer.new) }
+        ensures tokens { OnOk result (AddsTokens (tokens_of (stands self.now)) writer.old writer.new) }
         ensures in_range { OnOk result (in_range self.now) };
 }
 
@@ -116,7 +116,7 @@ impl ToTokens for Changes {
 // Writes the changes of a section, a list for each train.
 fn write_changes(writer: &mut Writer, changes: &[Changes]) -> Result<(), AllocError>
     ensures tokens { OnOk result
-        (Adds (member_tokens (codes "changes") (list_data (list_data written.change_data) changes.now)) writer.old writer.new) }
+        (AddsTokens (member_tokens (codes "changes") (list_data (list_data written.change_data) changes.now)) writer.old writer.new) }
     ensures in_range { OnOk result (All (All IsChange) changes.now) }
 {
     writer.key("changes")?;
@@ -142,7 +142,7 @@ pub(crate) fn write_named<T: ToTokens>(
     name: &str,
     item: &T,
 ) -> Result<(), AllocError>
-    ensures tokens { OnOk result (Adds (member_tokens name.now (T.ToTokens.stands item.now)) writer.old writer.new) }
+    ensures tokens { OnOk result (AddsTokens (member_tokens name.now (T.ToTokens.stands item.now)) writer.old writer.new) }
     ensures in_range { OnOk result (T.ToTokens.in_range item.now) }
 {
     writer.key(name)?;
@@ -161,7 +161,7 @@ impl<T: ToTokens> ToTokens for Vec<T> {
 
 // Writes the list of what stands for each item.
 fn write_list<T: ToTokens>(writer: &mut Writer, items: &[T]) -> Result<(), AllocError>
-    ensures tokens { OnOk result (Adds (tokens_of (list_data T.ToTokens.stands items.now)) writer.old writer.new) }
+    ensures tokens { OnOk result (AddsTokens (tokens_of (list_data T.ToTokens.stands items.now)) writer.old writer.new) }
     ensures in_range { OnOk result (All T.ToTokens.in_range items.now) }
 {
     writer.begin_array()?;

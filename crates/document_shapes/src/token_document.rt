@@ -2,7 +2,7 @@
 ghost use Rattle.std.specs.Prelude.{◌≡◌, IfSome, Some, Ok, option_map};
 ghost use Rattle.std.specs.List.{list_all};
 ghost use Rattle.serde_json.specs.Read.{read};
-ghost use Rattle.document_shapes.specs.DocumentFound.{IsWhole};
+ghost use Rattle.document_shapes.specs.DocumentFound.{IsWholeDocument};
 ghost use Rattle.document_shapes.specs.Raw.{members_of, doc_members};
 ghost use Rattle.document_shapes.specs.Seen.{seen_document};
 ghost use Rattle.document_shapes.specs.TableRead as of_version;
@@ -67,7 +67,7 @@ fn are_of_version(tables: &[TableMembers], version: u32) -> bool
 
 // A document of a known version whose tables have only members of that version.
 fn of_known_version(found: FoundDocument) -> Option<DocMembers>
-    ensures { IfSome result (λ m. IsWhole found m) }
+    ensures { IfSome result (λ m. IsWholeDocument found m) }
 {
     let FoundDocument {
         version,

@@ -1,6 +1,6 @@
 // The text of a document.
 ghost use Rattle.std.specs.Prelude.{◌≡◌, IfOk, OnOk, Ok, option_map};
-ghost use Rattle.document_shapes.specs.Added.{Adds, member_tokens, given_tokens};
+ghost use Rattle.document_shapes.specs.Added.{AddsTokens, member_tokens, given_tokens};
 ghost use Rattle.document_shapes.specs.InRange.{InRange, TableInRange, IfGiven};
 ghost use Rattle.document_shapes.specs.Members.{name_of};
 ghost use Rattle.document_shapes.specs.Raw.{members_of, IsRead};
@@ -19,7 +19,7 @@ fn write_member<T: ToTokens>(
     item: &T,
 ) -> Result<(), AllocError>
     ensures tokens { OnOk result
-        (Adds (member_tokens (name_of member) (T.ToTokens.stands item.now)) writer.old writer.new) }
+        (AddsTokens (member_tokens (name_of member) (T.ToTokens.stands item.now)) writer.old writer.new) }
     ensures in_range { OnOk result (T.ToTokens.in_range item.now) }
 {
     write_named(writer, member.name(), item)
@@ -32,7 +32,7 @@ fn write_given<T: ToTokens>(
     item: &Option<T>,
 ) -> Result<(), AllocError>
     ensures tokens { OnOk result
-        (Adds (given_tokens (name_of member) (option_map T.ToTokens.stands item.now)) writer.old writer.new) }
+        (AddsTokens (given_tokens (name_of member) (option_map T.ToTokens.stands item.now)) writer.old writer.new) }
     ensures in_range { OnOk result (IfGiven T.ToTokens.in_range item.now) }
 {
     match item {

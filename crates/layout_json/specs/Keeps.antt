@@ -45,7 +45,7 @@ pub record AreMembersOf (D : Doc) (m : DocMembers) : Type 0 where
   pub taken : IsTaken D
 
 -- The parts of a document that is taken.
-pub record Keeps (version : ℕ) (L : Layout) (N : Names) (tables : List Untimed) (times : List (List (List ℕ))) (start : List ℕ) : Type 0 where
+pub record HasParts (version : ℕ) (L : Layout) (N : Names) (tables : List Untimed) (times : List (List (List ℕ))) (start : List ℕ) : Type 0 where
   pub first : 1 ≤ version
   pub last : version ≤ 3
   pub named : N ≡ names_of (doc_of_parts version L N tables times start)

@@ -90,7 +90,7 @@ impl Model for Doc {
 impl Doc {
     ghost use Rattle.std.specs.Prelude.{◌≡◌, IfOk, map};
     ghost use Rattle.layout_json.specs.Doc.{IsDoc};
-    ghost use Rattle.layout_json.specs.Keeps.{Keeps, doc_of_parts, untimed};
+    ghost use Rattle.layout_json.specs.Keeps.{HasParts, doc_of_parts, untimed};
 
     /// The document of these parts.
     pub(crate) fn new(
@@ -102,7 +102,7 @@ impl Doc {
         times: Times,
         start: State,
     ) -> Result<Self, AllocError>
-        requires { Keeps version layout names tables.items times start }
+        requires { HasParts version layout names tables.items times start }
         ensures { IfOk result (λ d. d ≡ doc_of_parts version layout names tables.items times start) }
     {
         let frame = Frame::new(alloc, version, layout, names, &tables, times, start)?;

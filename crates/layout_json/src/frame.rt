@@ -1,7 +1,7 @@
 // A document whose tables were taken out.
 ghost use Rattle.std.specs.Prelude.{◌≡◌, ◌<◌, ◌≤◌, ℕ, IfOk, length, map};
 ghost use Rattle.layout_json.specs.Doc.{IsDoc, names_of, times_of, doc_table};
-ghost use Rattle.layout_json.specs.Keeps.{Keeps, IsTaken, doc_of_parts};
+ghost use Rattle.layout_json.specs.Keeps.{HasParts, IsTaken, doc_of_parts};
 
 use crate::doc::Untimed;
 use rail_model::{Layout, Names, State, Times};
@@ -25,13 +25,13 @@ pub struct Frame {
 impl Model for Frame {
     ghost use Rattle.std.specs.Prelude.{◌≡◌, map};
     ghost use Rattle.layout_json.specs.Doc.{Doc as DocValue};
-    ghost use Rattle.layout_json.specs.Keeps.{Keeps, doc_of_parts};
+    ghost use Rattle.layout_json.specs.Keeps.{HasParts, doc_of_parts};
 
     ghost Value = { DocValue };
 
     ghost view = { λ f. doc_of_parts f.version f.layout f.names f.tables.value.items f.times f.start };
 
-    ghost invariant = { λ f. Keeps f.version f.layout f.names f.tables.value.items f.times f.start
+    ghost invariant = { λ f. HasParts f.version f.layout f.names f.tables.value.items f.times f.start
         × (f.afters.items ≡ map (λ t. t.after) f.tables.value.items) };
 }
 
@@ -46,7 +46,7 @@ impl Frame {
         times: Times,
         start: State,
     ) -> Result<Self, AllocError>
-        requires { Keeps version layout names tables.now.items times start }
+        requires { HasParts version layout names tables.now.items times start }
         ensures { IfOk result (λ f. f ≡ doc_of_parts version layout names tables.now.items times start) }
     {
         let afters = tables.iter().map(|table| table.after()).collect(alloc)?;

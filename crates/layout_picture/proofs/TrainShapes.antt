@@ -8,10 +8,10 @@ use Rattle.rail_model.specs.Table.{Table, IsTable, trains, last}
 use Rattle.layout_picture.specs.declared.tracks.Way.{Way}
 use Rattle.layout_picture.specs.declared.arrows.Heading.{Heading}
 use Rattle.layout_picture.specs.declared.arrows.Outline.{Outline}
-use Rattle.layout_picture.specs.Marks.{Ends, ends_of, ends_at, stroke_of, painted}
+use Rattle.layout_picture.specs.Marks.{WayEnds, ends_of, ends_at, stroke_of, painted}
 use Rattle.layout_picture.specs.Red.{IsColour}
 use Rattle.layout_picture.specs.Arrows.{mark_of, outline_of, IsMark}
-use Rattle.layout_picture.specs.Drawn.{AreLines, step_between}
+use Rattle.layout_picture.specs.Drawn.{AreLinkLines, step_between}
 
 -- the number of the next place is small
 pub next_place : (T : Table) (i k : ℕ) → IsTable T → i < trains T → k ≤ last T i → min (k + 1) (2 ^ 32 - 1) ≡ k + 1
@@ -21,10 +21,10 @@ next_place T i k formed lt low =
 
 -- the line of a way is that of a step
 pub step_line : (spots : List Spot) (here next : ℕ) (w : Way) (shape : Shape) → ends_of w ≡ ends_at spots here next → shape ≡ stroke_of w
-    → AreLines spots (step_between (Some here) (Some next)) (shape ∷ [])
+    → AreLinkLines spots (step_between (Some here) (Some next)) (shape ∷ [])
 step_line spots here next w shape ends line = record {
   ways = w ∷ [];
-  ends = ap (λ (e : Ends). e ∷ []) ends;
+  ends = ap (λ (e : WayEnds). e ∷ []) ends;
   lines = ap (λ (s : Shape). s ∷ []) line;
 }
 

@@ -22,13 +22,13 @@ shapes_of class [] = []
 shapes_of class (g ∷ later) = if pointwise nat_eq class g.class then g.shapes ++ shapes_of class later else shapes_of class later
 
 -- The shapes are lines, one for each link, between the spots of its points.
-pub record AreLines (spots : List Spot) (links : List Link) (shapes : List Shape) : Type 0 where
+pub record AreLinkLines (spots : List Spot) (links : List Link) (shapes : List Shape) : Type 0 where
   pub ways : List Way
   pub ends : map ends_of ways ≡ map (link_ends spots) links
   pub lines : shapes ≡ map stroke_of ways
 
 -- Some shapes are added to others, and they are as P says.
-pub record Adds (P : List Shape → Type 0) (before after : List Shape) : Type 0 where
+pub record AddsShapes (P : List Shape → Type 0) (before after : List Shape) : Type 0 where
   pub own : List Shape
   pub joined : after ≡ before ++ own
   pub is_own : P own
@@ -36,7 +36,7 @@ pub record Adds (P : List Shape → Type 0) (before after : List Shape) : Type 0
 -- The shapes are those of the trains 0 to n - 1, one train after another, and of each train as P says.
 abbrev pub AreOfTrains : (ℕ → List Shape → Type 0) → ℕ → List Shape → Type 0
 AreOfTrains P zero shapes = shapes ≡ []
-AreOfTrains P (suc n) shapes = (before : List Shape) × AreOfTrains P n before × Adds (P n) before shapes
+AreOfTrains P (suc n) shapes = (before : List Shape) × AreOfTrains P n before × AddsShapes (P n) before shapes
 
 -- a step between two points, if there are both
 abbrev pub step_between : Option ℕ → Option ℕ → List Link
@@ -52,7 +52,7 @@ next_step T p i = step_between (point T i (place p i)) (point T i (place p i + 1
 pub record IsWait (T : Table) (p : List ℕ) (spots : List Spot) (i : ℕ) (shapes : List Shape) : Type 0 where
   pub red : Bool
   pub is_red : Decides red (IsInCircle T p i)
-  pub line : AreLines spots (if red then next_step T p i else []) shapes
+  pub line : AreLinkLines spots (if red then next_step T p i else []) shapes
 
 -- a ground of this size
 abbrev pub ground_of : ℕ → ℕ → Shape
@@ -70,7 +70,7 @@ pub record IsDrawn (L : Layout) (T : Table) (p : List ℕ) (width height : ℕ) 
   pub spot_for_each : length spots ≡ length L.points
   pub ground : shapes_of (codes "background") groups ≡ ground_of width height ∷ []
   pub dots : shapes_of (codes "points") groups ≡ map dot_at spots
-  pub lines : AreLines spots L.links (shapes_of (codes "links") groups)
+  pub lines : AreLinkLines spots L.links (shapes_of (codes "links") groups)
   pub areas : map first_attribute (shapes_of (codes "sections") groups)
       ≡ map (way_of L spots) (map (inside T (length L.points)) (below (length T.sections)))
   pub arrows : AreOfTrains (IsArrow T p spots) (trains T) (shapes_of (codes "arrows") groups)

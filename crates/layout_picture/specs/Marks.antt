@@ -36,11 +36,11 @@ abbrev pub stroke_of : Way → Shape
 stroke_of w = line_along w.from w.toward w.to
 
 -- Where a way begins and ends.
-pub record Ends : Type 0 where
+pub record WayEnds : Type 0 where
   pub from : Spot
   pub to : Spot
 
-abbrev pub ends_of : Way → Ends
+abbrev pub ends_of : Way → WayEnds
 ends_of w = record { from = w.from; to = w.to }
 
 -- the spot of a point
@@ -48,9 +48,9 @@ abbrev pub spot_at : List Spot → ℕ → Spot
 spot_at spots point = slice_index_or spots point (record { x = 0; y = 0 })
 
 -- the spots of two points
-abbrev pub ends_at : List Spot → ℕ → ℕ → Ends
+abbrev pub ends_at : List Spot → ℕ → ℕ → WayEnds
 ends_at spots first second = record { from = spot_at spots first; to = spot_at spots second }
 
 -- the spots of the points of a link
-abbrev pub link_ends : List Spot → Link → Ends
+abbrev pub link_ends : List Spot → Link → WayEnds
 link_ends spots k = ends_at spots k.first k.second

@@ -1,6 +1,6 @@
 // The whole picture.
 ghost use Rattle.std.specs.Prelude.{◌≡◌, ◌++◌, ◌∷◌, [], IfOk, OnOk, length, map, codes};
-ghost use Rattle.layout_picture.specs.Drawn.{AreLines, AreOfTrains, IsWait, IsDrawn, group_with, ground_of};
+ghost use Rattle.layout_picture.specs.Drawn.{AreLinkLines, AreOfTrains, IsWait, IsDrawn, group_with, ground_of};
 ghost use Rattle.layout_picture.specs.Marks.{dot_at};
 ghost use Rattle.layout_picture.specs.Arrows.{IsArrow};
 ghost use Rattle.layout_picture.specs.Areas.{inside, way_of, first_attribute};
@@ -70,7 +70,7 @@ struct Signs {
 fn tracks_of(view: &View, height: u64) -> Result<Tracks, AllocError>
     ensures ground { IfOk result (λ tracks. tracks.ground.items ≡ ground_of view.now.frame.now.grid.width height ∷ []) }
     ensures dots { IfOk result (λ tracks. tracks.dots.items ≡ map dot_at view.now.frame.now.spots.items) }
-    ensures lines { IfOk result (λ tracks. AreLines view.now.frame.now.spots.items view.now.layout.now.links tracks.strokes.items) }
+    ensures lines { IfOk result (λ tracks. AreLinkLines view.now.frame.now.spots.items view.now.layout.now.links tracks.strokes.items) }
     ensures areas { IfOk result (λ tracks. map first_attribute tracks.areas.items
         ≡ map (way_of view.now.layout.now view.now.frame.now.spots.items) view.now.frame.now.insides.items) }
     ensures waits { IfOk result (λ tracks. AreOfTrains

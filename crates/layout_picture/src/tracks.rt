@@ -1,6 +1,6 @@
 // Points as dots, and links as lines.
 ghost use Rattle.std.specs.Prelude.{◌≡◌, IfOk, map};
-ghost use Rattle.layout_picture.specs.Drawn.{AreLines};
+ghost use Rattle.layout_picture.specs.Drawn.{AreLinkLines};
 ghost use Rattle.layout_picture.specs.Marks.{dot_at, painted as painted_in, bow_of, stroke_of, ends_of, ends_at, link_ends};
 
 use crate::frame::{Frame, Grid, View};
@@ -156,7 +156,7 @@ fn strokes(alloc: Global, ways: &[Way]) -> Result<Vec<Shape>, AllocError>
 
 /// A line for each link.
 pub(crate) fn links(view: &View) -> Result<Vec<Shape>, AllocError>
-    ensures { IfOk result (λ shapes. AreLines view.now.frame.now.spots.items view.now.layout.now.links shapes.items) }
+    ensures { IfOk result (λ shapes. AreLinkLines view.now.frame.now.spots.items view.now.layout.now.links shapes.items) }
 {
     let ways = ways_of(view.alloc, view.layout.links(), view.frame)?;
     strokes(view.alloc, &ways)

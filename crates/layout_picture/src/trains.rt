@@ -3,7 +3,7 @@ ghost use Rattle.std.specs.Prelude.{◌≡◌, ◌+◌, ◌<◌, ◌∷◌, [], 
 ghost use Rattle.rail_model.specs.Table.{trains, point, place};
 ghost use Rattle.layout_picture.specs.Marks.{spot_at as spot_of};
 ghost use Rattle.layout_picture.specs.Arrows.{IsMark, IsArrow, outline_of as train_outline};
-ghost use Rattle.layout_picture.specs.Drawn.{Adds, AreLines, AreOfTrains, IsWait, step_between};
+ghost use Rattle.layout_picture.specs.Drawn.{AddsShapes, AreLinkLines, AreOfTrains, IsWait, step_between};
 
 use crate::arrows::{ARROW, Heading, Outline, SQUARE};
 use crate::circles::{colour_of, is_in_circle};
@@ -80,7 +80,7 @@ fn arrow(view: &View, train: u32, point: u32) -> Result<Shape, AllocError>
 // Adds the arrow of a train, if it is in the layout.
 fn push_arrow(shapes: &mut Vec<Shape>, view: &View, train: u32) -> Result<(), AllocError>
     requires { train < trains view.now.scene.now.table.now }
-    ensures { OnOk result (Adds
+    ensures { OnOk result (AddsShapes
         (IsArrow view.now.scene.now.table.now view.now.scene.now.state.now view.now.frame.now.spots.items train)
         shapes.old.items shapes.new.items) }
 {
@@ -105,7 +105,7 @@ pub(crate) fn arrows(view: &View) -> Result<Vec<Shape>, AllocError>
 
 // The line of a step between two points.
 fn step(view: &View, here: u32, next: u32) -> Result<Shape, AllocError>
-    ensures { IfOk result (λ shape. AreLines view.now.frame.now.spots.items (step_between (Some here) (Some next)) (shape ∷ [])) }
+    ensures { IfOk result (λ shape. AreLinkLines view.now.frame.now.spots.items (step_between (Some here) (Some next)) (shape ∷ [])) }
 {
     let shape = stroke(view.alloc, way_between(view.frame, here, next))?;
     Ok(shape)
@@ -118,7 +118,7 @@ fn push_step(
     here: Option<u32>,
     next: Option<u32>,
 ) -> Result<(), AllocError>
-    ensures { OnOk result (Adds (AreLines view.now.frame.now.spots.items (step_between here next)) shapes.old.items shapes.new.items) }
+    ensures { OnOk result (AddsShapes (AreLinkLines view.now.frame.now.spots.items (step_between here next)) shapes.old.items shapes.new.items) }
 {
     match here {
         None => Ok(()),
@@ -132,7 +132,7 @@ fn push_step(
 // Adds a line from a train to its next point, if the train is in a circle.
 fn push_wait(shapes: &mut Vec<Shape>, view: &View, train: u32) -> Result<(), AllocError>
     requires { train < trains view.now.scene.now.table.now }
-    ensures { OnOk result (Adds
+    ensures { OnOk result (AddsShapes
         (IsWait view.now.scene.now.table.now view.now.scene.now.state.now view.now.frame.now.spots.items train)
         shapes.old.items shapes.new.items) }
 {

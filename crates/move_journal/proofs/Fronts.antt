@@ -7,7 +7,7 @@ use Rattle.rail_model.specs.Names.{Names}
 use Rattle.rail_model.specs.Journal.{Journal, words, end_text, lines_text, text}
 use Rattle.move_journal.specs.declared.faults.BadText.TheVariants.{NoEnd}
 use Rattle.move_journal.specs.Printable.{IsPrintable}
-use Rattle.move_journal.specs.Answers.{BeginsWithLine, Reads, HasTextFault, IsFrontOf}
+use Rattle.move_journal.specs.Answers.{BeginsWithLine, ReadsLines, HasTextFault, IsFrontOf}
 use Rattle.move_journal.proofs.Begins.{line_cut}
 
 -- the text of lines and further lines
@@ -39,7 +39,7 @@ text_goes_on N bytes front whole added is longer =
     ∙ append_assoc bytes (lines_text N (length front.lines + 1) added) ending
 
 pub reads_more : (N : Names) (bytes : List ℕ) (lines : List Line) (rest : List ℕ) (n : ℕ) (l : Line) (later : List ℕ)
-    → Reads N bytes lines rest → BeginsWithLine N rest n l later → n ≡ length lines + 1 → Reads N bytes (lines ++ l ∷ []) later
+    → ReadsLines N bytes lines rest → BeginsWithLine N rest n l later → n ≡ length lines + 1 → ReadsLines N bytes (lines ++ l ∷ []) later
 reads_more N bytes lines rest n l later r b e =
     let line = decimal n ++ words N l ++ codes "\n" in
     record {

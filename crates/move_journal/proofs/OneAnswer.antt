@@ -9,14 +9,14 @@ use Rattle.move_journal.specs.declared.faults.BadText.{BadText}
 use Rattle.move_journal.specs.declared.faults.BadText.TheVariants.{Line as BadLine, Number, After, NoEnd, Memory}
 use Rattle.move_journal.specs.declared.lines.Part.{Part}
 use Rattle.move_journal.specs.declared.lines.Part.TheVariants.{Whole, Open}
-use Rattle.move_journal.specs.Answers.{Reads, HasTextFault, IsTextOf, IsFrontOf, IsPart, ReadsJournal, AnswersPrefix, GivesValue}
+use Rattle.move_journal.specs.Answers.{ReadsLines, HasTextFault, IsTextOf, IsFrontOf, IsTextPart, ReadsJournal, AnswersPrefix, GivesValue}
 use Rattle.move_journal.proofs.Once.{Ending, bad, ended, Ends, same_front, same_ending}
 use Rattle.move_journal.proofs.Fronts.{no_end}
 
 -- a way to read the bytes
 pub record Way (N : Names) (bytes : List ℕ) (lines : List Line) (e : Ending) : Type 0 where
   pub rest : List ℕ
-  pub reads : Reads N bytes lines rest
+  pub reads : ReadsLines N bytes lines rest
   pub ends : Ends N (length lines + 1) rest e
 
 one_way : (N : Names) (bytes : List ℕ) (xs ys : List Line) (a b : Ending) → IsNames N → Way N bytes xs a → Way N bytes ys b → (xs ≡ ys) × (a ≡ b)
@@ -123,7 +123,7 @@ gives N bytes K (Err After) names p q = text_or_fault N bytes K After names p q
 gives N bytes K (Err NoEnd) names p q = text_or_fault N bytes K NoEnd names p q
 gives N bytes K (Err Memory) names p q = tt
 
-pub gives_part : (N : Names) (bytes : List ℕ) (part : Part) (r : Result Part BadText) → IsNames N → IsPart N bytes part → AnswersPrefix N bytes r → GivesValue part r
+pub gives_part : (N : Names) (bytes : List ℕ) (part : Part) (r : Result Part BadText) → IsNames N → IsTextPart N bytes part → AnswersPrefix N bytes r → GivesValue part r
 gives_part N bytes part (Ok other) names p q = one_part N bytes other part names q p
 gives_part N bytes part (Err (BadLine j)) names p q = part_or_fault N bytes part (BadLine j) names p (λ e. absurd cc) q
 gives_part N bytes part (Err (Number j)) names p q = part_or_fault N bytes part (Number j) names p (λ e. absurd cc) q

@@ -13,7 +13,7 @@ use Rattle.move_journal.specs.declared.faults.BadText.TheVariants.{Line as BadLi
 use Rattle.move_journal.specs.declared.lines.Part.TheVariants.{Whole, Open}
 use Rattle.move_journal.specs.declared.reading.Head.TheVariants.{Other}
 use Rattle.move_journal.specs.Printable.{IsNamed, IsPrintable, ArePrintable}
-use Rattle.move_journal.specs.Answers.{IsTextOf, IsFrontOf, Reads, HasTextFault, ReadsJournal, AnswersPrefix}
+use Rattle.move_journal.specs.Answers.{IsTextOf, IsFrontOf, ReadsLines, HasTextFault, ReadsJournal, AnswersPrefix}
 use Rattle.move_journal.specs.Words.{word_list, called, target_of, move_of, table_of, differs_of, over_of, kept_of, line_of, numbered_of, field_of, end_of}
 use Rattle.move_journal.proofs.Again.{IsOneLine}
 use Rattle.move_journal.proofs.Begins.{begins_with, begins_none}
@@ -104,7 +104,7 @@ named_exit : IsNamed names (Move 0 2 None)
 named_exit = (lit< tt, lit< tt, tt)
 
 -- no line was read
-nothing : (bytes : List ℕ) → Reads names bytes [] bytes
+nothing : (bytes : List ℕ) → ReadsLines names bytes [] bytes
 nothing bytes = record { printable = record { few = lit< tt; each = All-nil (IsPrintable names) }; text = refl }
 
 one_line : (w : List ℕ) → list_all (λ b. not (b == 10)) w ≡ true → IsOneLine w

@@ -13,7 +13,7 @@ use Rattle.move_journal.specs.declared.lines.Part.TheVariants.{Whole, Open}
 use Rattle.move_journal.specs.declared.reading.Head.{Head}
 use Rattle.move_journal.specs.declared.reading.Head.TheVariants.{Numbered, End, Other}
 use Rattle.move_journal.specs.Printable.{IsPrintable}
-use Rattle.move_journal.specs.Answers.{IsTextOf, IsFrontOf, BeginsWithEnd, Reads, Stops, ReadsJournal, AnswersPrefix}
+use Rattle.move_journal.specs.Answers.{IsTextOf, IsFrontOf, BeginsWithEnd, ReadsLines, Stops, ReadsJournal, AnswersPrefix}
 use Rattle.move_journal.specs.Heads.{IsHead, IsContent}
 use Rattle.move_journal.specs.Words.{word_list, numbered_of, end_of}
 use Rattle.move_journal.proofs.Again.{IsOneLine}
@@ -53,17 +53,17 @@ abbrev Readable : Names → List ℕ → Type 0
 Readable N bytes = (lines : List Line) × (e : Ending) × Way N bytes lines e
 
 -- the reader stops here
-stops : (N : Names) (bytes : List ℕ) (lines : List Line) (rest : List ℕ) (e : BadText) → Reads N bytes lines rest → Stops N (length lines + 1) rest e → Readable N bytes
+stops : (N : Names) (bytes : List ℕ) (lines : List Line) (rest : List ℕ) (e : BadText) → ReadsLines N bytes lines rest → Stops N (length lines + 1) rest e → Readable N bytes
 stops N bytes lines rest e reads why = (lines, bad e, record { rest = rest; reads = reads; ends = why })
 
 -- an end line, with nothing after it or with something
-at_end : (N : Names) (bytes : List ℕ) (lines : List Line) (rest : List ℕ) (m t : ℕ) (later : List ℕ) → Reads N bytes lines rest → BeginsWithEnd rest m t later → Readable N bytes
+at_end : (N : Names) (bytes : List ℕ) (lines : List Line) (rest : List ℕ) (m t : ℕ) (later : List ℕ) → ReadsLines N bytes lines rest → BeginsWithEnd rest m t later → Readable N bytes
 at_end N bytes lines rest m t [] reads is = (lines, ended m t, record { rest = rest; reads = reads; ends = is })
 at_end N bytes lines rest m t (b ∷ later) reads is = stops N bytes lines rest After reads (m, t, b ∷ later, is, omega arith)
 
 -- what comes of the first line of the rest, where shorter rests can be read
-by_head : (N : Names) (bytes : List ℕ) (lines : List Line) (rest : List ℕ) (head : Head) (later : List ℕ) → 0 < length rest → Reads N bytes lines rest → IsHead N rest head later
-    → ((more : List Line) (behind : List ℕ) → length behind < length rest → Reads N bytes more behind → Readable N bytes) → Readable N bytes
+by_head : (N : Names) (bytes : List ℕ) (lines : List Line) (rest : List ℕ) (head : Head) (later : List ℕ) → 0 < length rest → ReadsLines N bytes lines rest → IsHead N rest head later
+    → ((more : List Line) (behind : List ℕ) → length behind < length rest → ReadsLines N bytes more behind → Readable N bytes) → Readable N bytes
 by_head N bytes lines rest (Numbered n l) later some reads is reads_on = elim (cases_eq n (length lines + 1)) [
   | inl next ↦ reads_on (lines ++ l ∷ []) later (line_shorter N rest n l later is) (reads_more N bytes lines rest n l later reads is next)
   | inr other ↦ stops N bytes lines rest (Number (length lines + 1)) reads (refl, (n, l, later, is, other))
@@ -71,7 +71,7 @@ by_head N bytes lines rest (Numbered n l) later some reads is reads_on = elim (c
 by_head N bytes lines rest (End m t) later some reads is reads_on = at_end N bytes lines rest m t later reads is
 by_head N bytes lines rest Other later some reads is reads_on = stops N bytes lines rest (BadLine (length lines + 1)) reads (refl, some, is)
 
-reads_up_to : (N : Names) (bytes : List ℕ) (most : ℕ) (lines : List Line) (rest : List ℕ) → IsNames N → length rest ≤ most → Reads N bytes lines rest → Readable N bytes
+reads_up_to : (N : Names) (bytes : List ℕ) (most : ℕ) (lines : List Line) (rest : List ℕ) → IsNames N → length rest ≤ most → ReadsLines N bytes lines rest → Readable N bytes
 reads_up_to N bytes most lines [] names short reads = stops N bytes lines [] NoEnd reads refl
 reads_up_to N bytes zero lines (b ∷ bs) names short reads = absurd (omega (arith, short))
 reads_up_to N bytes (suc most) lines (b ∷ bs) names short reads =

@@ -39,7 +39,7 @@ pub record BeginsWithNone (N : Names) (bytes : List ℕ) : Type 0 where
   pub no_end : (moves tables : ℕ) (later : List ℕ) → BeginsWithEnd bytes moves tables later → ⊥
 
 -- The lines are at the front, numbered from 1, and the rest is left.
-pub record Reads (N : Names) (bytes : List ℕ) (lines : List Line) (rest : List ℕ) : Type 0 where
+pub record ReadsLines (N : Names) (bytes : List ℕ) (lines : List Line) (rest : List ℕ) : Type 0 where
   pub printable : ArePrintable N lines
   pub text : bytes ≡ lines_text N 1 lines ++ rest
 
@@ -53,7 +53,7 @@ Stops N k rest Memory = ⊥
 
 -- The fault that comes first: all lines before it are there with their numbers.
 abbrev pub HasTextFault : Names → List ℕ → BadText → Type 0
-HasTextFault N bytes e = (lines : List Line) × (rest : List ℕ) × Reads N bytes lines rest × Stops N (length lines + 1) rest e
+HasTextFault N bytes e = (lines : List Line) × (rest : List ℕ) × ReadsLines N bytes lines rest × Stops N (length lines + 1) rest e
 
 -- What `read` answers: the journal of the text, or the first fault.
 abbrev pub ReadsJournal : Names → List ℕ → Result Journal BadText → Type 0
@@ -62,13 +62,13 @@ ReadsJournal N bytes (Err Memory) = Unit {0}
 ReadsJournal N bytes (Err e) = HasTextFault N bytes e
 
 -- The bytes are a text with its end line, or without it.
-abbrev pub IsPart : Names → List ℕ → Part → Type 0
-IsPart N bytes (Whole J) = IsTextOf N bytes J
-IsPart N bytes (Open J) = IsFrontOf N bytes J
+abbrev pub IsTextPart : Names → List ℕ → Part → Type 0
+IsTextPart N bytes (Whole J) = IsTextOf N bytes J
+IsTextPart N bytes (Open J) = IsFrontOf N bytes J
 
 -- What `read_prefix` answers: a text or its front, or the first fault, which is never a missing end line.
 abbrev pub AnswersPrefix : Names → List ℕ → Result Part BadText → Type 0
-AnswersPrefix N bytes (Ok part) = IsPart N bytes part
+AnswersPrefix N bytes (Ok part) = IsTextPart N bytes part
 AnswersPrefix N bytes (Err Memory) = Unit {0}
 AnswersPrefix N bytes (Err NoEnd) = ⊥
 AnswersPrefix N bytes (Err e) = HasTextFault N bytes e

@@ -52,14 +52,14 @@ HasBadLine tables y lines e =
     × IsRight tables y front × IsBad tables (after_lines y front) (length front + 1) l e
 
 -- The lines are right, and lead to the state.
-pub record Leads (tables : List Offer) (y : Yard) (all : List Line) (plain : Plain) : Type 0 where
+pub record LeadsThrough (tables : List Offer) (y : Yard) (all : List Line) (plain : Plain) : Type 0 where
   pub right : IsRight tables y all
   pub yard : plain.yard ≡ after_lines y all
   pub lines : plain.lines ≡ all
 
 -- What `replay` answers: the state that the lines lead to, or the first line that isn't right.
 abbrev pub Replays : List Offer → Yard → Journal → Result Plain BadLine → Type 0
-Replays tables y J (Ok plain) = Leads tables y J.lines plain
+Replays tables y J (Ok plain) = LeadsThrough tables y J.lines plain
 Replays tables y J (Err bad.Memory) = Unit {0}
 Replays tables y J (Err e) = HasBadLine tables y J.lines e
 

@@ -3,7 +3,7 @@ ghost use Rattle.std.specs.Prelude.{◌≡◌, ℕ, List};
 ghost use Rattle.rail_model.specs.Journal.{Journal as JournalValue};
 ghost use Rattle.rail_model.specs.Names.{Names as NamesValue, IsNames};
 ghost use Rattle.move_journal.specs.declared.lines.Part.{Part as PartValue};
-ghost use Rattle.move_journal.specs.Answers.{ReadsJournal, AnswersPrefix, GivesValue, IsPart, IsTextOf};
+ghost use Rattle.move_journal.specs.Answers.{ReadsJournal, AnswersPrefix, GivesValue, IsTextPart, IsTextOf};
 ghost use Rattle.move_journal.specs.Heads.{IsHead, IsContent};
 
 use crate::words::{end_of, numbered_of, split_once};
@@ -35,7 +35,7 @@ pub fn read_prefix(alloc: Global, names: &Names, bytes: &[u8]) -> Result<Part, B
     // A text or its front, or the first fault.
     ensures exact { AnswersPrefix names.now bytes.now result }
     // What was written is read again, unless memory runs out.
-    ensures again { (part : PartValue) → IsPart names.now bytes.now part → GivesValue part result }
+    ensures again { (part : PartValue) → IsTextPart names.now bytes.now part → GivesValue part result }
     ensures formed { IsNames names.now }
 {
     // Read for the proof: the names are well formed.

@@ -80,16 +80,16 @@ abbrev pub AgreesInTables : Members → Plan → TablePlan → List TablePlan �
 AgreesInTables text plan first later = AgreesFirst text plan first × (agree_all is_due (entries_at (codes "table") text) later ≡ true)
 
 -- a plan has the trains of a text, in order, by their names; its first table agrees with the text, and the others are due when the text says
-pub record Agrees (text : Members) (plan : Plan) : Type 0 where
+pub record IsPlanOf (text : Members) (plan : Plan) : Type 0 where
   pub trains : agree_all is_named (entries_at (codes "train") text) plan.trains.items ≡ true
   pub tables : InTables plan.tables.items (AgreesInTables text plan)
 
 -- a table of keys is read right: as a plan that agrees with it, or with one fault at least
 abbrev pub IsReading : Members → PlanRead → Type 0
-IsReading text (PlanRead.Plan plan) = Agrees text plan
+IsReading text (PlanRead.Plan plan) = IsPlanOf text plan
 IsReading text (PlanRead.Faults faults) = 0 < vec_len faults
 
 -- a text is read right: as a plan only if it is UTF-8 and TOML, and the plan agrees with it; with one fault at least otherwise
 abbrev pub IsPlanRead : List ℕ → PlanRead → Type 0
-IsPlanRead text (PlanRead.Plan plan) = IsUtf8 text × IsSomeAnd (parse_document text) (λ document. Agrees document plan)
+IsPlanRead text (PlanRead.Plan plan) = IsUtf8 text × IsSomeAnd (parse_document text) (λ document. IsPlanOf document plan)
 IsPlanRead text (PlanRead.Faults faults) = 0 < vec_len faults

@@ -3,7 +3,7 @@ ghost use Rattle.std.specs.Prelude.{◌≡◌, true};
 ghost use Rattle.toml.specs.View.{items_view, table_view};
 ghost use Rattle.plan_reading.specs.Agreeing.{agree_values};
 ghost use Rattle.plan_reading.specs.Said as spec;
-ghost use Rattle.plan_reading.specs.Said.{Agrees, AgreesFirst, AgreesInTables};
+ghost use Rattle.plan_reading.specs.Said.{IsPlanOf, AgreesFirst, AgreesInTables};
 
 use crate::matching::{is_due, is_exit, is_limited, is_named, is_routed, is_start, is_wait};
 use plan_document::{Plan, SectionPlan, TablePlan, Wait};
@@ -130,7 +130,7 @@ fn agree_tables(table: &Table, plan: &Plan, first: &TablePlan, later: &[TablePla
 
 /// Whether a plan has the trains of its text by their names, agrees with the text in its first table, and has the others due when the text says.
 pub(crate) fn agrees(table: &Table, plan: &Plan) -> bool
-    ensures { result ≡ true → Agrees (table_view table.now) plan.now }
+    ensures { result ≡ true → IsPlanOf (table_view table.now) plan.now }
 {
     match plan.tables.split_first() {
         Some((first, later)) => {

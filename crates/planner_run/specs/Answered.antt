@@ -15,7 +15,7 @@ use Rattle.refusal_sentences.specs.ExplainedLines.{ExplainsLine}
 use Rattle.refusal_sentences.specs.declared.explained.Explained.{Explained}
 use Rattle.refusal_sentences.specs.declared.explained.Explained.TheVariants.{State, Refusal, NotLegal, NoTable, NoDocument, NoLine}
 use Rattle.run_timetable.specs.declared.run.Run.{Run}
-use Rattle.timed_reading.specs.Runs.{IsRunOf}
+use Rattle.timed_reading.specs.Runs.{IsToldRun}
 use Rattle.train_graph.specs.Marks.{IsGraph}
 use Rattle.layout_picture.specs.Drawn.{IsDrawn}
 use Rattle.svg_text.specs.Tree.{Picture}
@@ -71,7 +71,7 @@ pub record IsGraphText (text : List ℕ) : Type 0 where
   pub document : Doc
   pub run : Run
   pub picture : Picture
-  pub is_run : IsRunOf document run
+  pub is_run : IsToldRun document run
   pub is_graph : IsGraph run picture
   pub is_text : text ≡ svg_text picture
 

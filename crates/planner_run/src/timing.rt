@@ -1,6 +1,6 @@
 // Timetables and graphs of timed runs.
 ghost use Rattle.std.specs.Prelude.{◌≡◌, IfOk};
-ghost use Rattle.timed_reading.specs.Runs.{IsRunOf};
+ghost use Rattle.timed_reading.specs.Runs.{IsToldRun};
 ghost use Rattle.planner_run.specs.Answered.{IfText, IsGraphText};
 
 use crate::Answer;
@@ -38,7 +38,7 @@ pub(crate) fn graph(alloc: Global, input: &[u8], train: Option<&str>) -> Result<
 
 // The graph of a run of a document.
 fn graph_of(alloc: Global, doc: &Doc, run: &Run, train: Option<&str>) -> Result<Answer, AllocError>
-    requires { IsRunOf doc.now run.now }
+    requires { IsToldRun doc.now run.now }
     ensures { IfOk result (IfText IsGraphText) }
 {
     let chosen = match train {

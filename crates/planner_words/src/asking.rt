@@ -2,7 +2,7 @@
 ghost use Rattle.std.specs.Prelude.{◌≡◌, false, IfOk, map};
 ghost use Rattle.clap.specs.Built.{IsPlainArg};
 ghost use Rattle.clap.specs.Words.{app_of, rule_of, with_subcommand};
-ghost use Rattle.command_words.specs.Built.{IsBuiltAs, IsLeaf, IsLocal, leaf, long_option, with_all};
+ghost use Rattle.command_words.specs.Built.{IsBuiltAs, IsSubcommand, IsLocal, leaf, long_option, with_all};
 ghost use Rattle.planner_words.specs.Line as spec;
 
 use clap::{Arg, ArgAction, Command};
@@ -137,7 +137,7 @@ fn leaf<'a>(
     about: &'static str,
     choices: &[Choice],
 ) -> Result<Command<'a>, AllocError>
-    ensures { IfOk result (IsLeaf (leaf name.entry.now (map spec.rule_for choices.now))) }
+    ensures { IfOk result (IsSubcommand (leaf name.entry.now (map spec.rule_for choices.now))) }
 {
     let mut command = Command::new(alloc, name).about(about);
     for choice in choices {

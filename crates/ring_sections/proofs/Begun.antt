@@ -7,7 +7,7 @@ use Rattle.std.proofs.lemmas.Bool.Decides.{Decides-and, Decides-ltb, Decides-eqb
 use Rattle.std.proofs.Math.Nat.{mod_self, mod-eq_of_lt}
 use Rattle.rail_model.specs.Table.{Mission}
 use Rattle.ring_sections.specs.Ring.{Pair, IsRing, pair_at, point_at, next_point}
-use Rattle.ring_sections.specs.Search.{IsPair, WantsPointOf, IsPointTaken, fits}
+use Rattle.ring_sections.specs.Search.{IsTrainPlace, WantsPointOf, IsPointTaken, fits}
 use Rattle.ring_sections.proofs.RingTests.{Decides-any_index}
 
 pub at_old : (r later : List Pair) (k : ℕ) → k < length r → pair_at (r ++ later) k ≡ pair_at r k
@@ -44,8 +44,8 @@ module _ (M : List Mission) (r : List Pair) (w : Pair) (later : List Pair) (some
       (subst (λ v. WantsPointOf M (pair_at x k) v) (ap (pair_at x) m ∙ at_new r w later) (ring.waits k (omega (arith, longer))))
 
   -- what comes next is a pair, at the point that is wanted
-  pub next_valid : IsPair M w
-  next_valid = subst (IsPair M) (at_new r w later) (ring.train (length r) longer, ring.unfinished (length r) longer)
+  pub next_valid : IsTrainPlace M w
+  next_valid = subst (IsTrainPlace M) (at_new r w later) (ring.train (length r) longer, ring.unfinished (length r) longer)
 
   pub next_stands : (q : ℕ) → next_point M (pair_at r (length r - 1)) ≡ Some q → point_at M w ≡ Some q
   next_stands q wanted = waits_for_next.2 ∙ ap Some (same_Some waits_for_next.0 q (sym waits_for_next.1 ∙ wanted))

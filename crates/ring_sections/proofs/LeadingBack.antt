@@ -11,7 +11,7 @@ use Rattle.ring_sections.specs.declared.train_set.TrainSet.{TrainSet}
 use Rattle.ring_sections.specs.Ring.{Pair, IsRing, pair_at, point_at, next_point}
 use Rattle.ring_sections.specs.Search.{IsPointTaken, standing_at, rings_from}
 use Rattle.ring_sections.specs.Levels.{AreLevels}
-use Rattle.ring_sections.specs.Leading.{HasTrain, MayStand, LeadsBack, IsLost, IsLostBy, IsBehind, IsCovered}
+use Rattle.ring_sections.specs.Leading.{HasTrain, MayBeAt, LeadsBack, IsLost, IsLostBy, IsBehind, IsCovered}
 use Rattle.ring_sections.proofs.RingLists.{among-index}
 use Rattle.ring_sections.proofs.StepLists.{stands-among}
 use Rattle.ring_sections.proofs.TrainSets.{count_all}
@@ -94,7 +94,7 @@ module _ (M : List Mission) (way : List Pair) (shut : ℕ) where
       let m : length x ≡ length r + suc (length later) = length-append r (w ∷ later) in
       let next = wants_some M r' later (omega arith) ring' in
       let fit = (Decides-fits r w).0 (next_fits M r w later some ring) in
-      let may : MayStand M way shut q w = record {
+      let may : MayBeAt M way shut q w = record {
         pair = next_valid M r w later some ring;
         stands = next_stands M r w later some ring q wanted;
         fits = (Decides-fits way w).1 (

@@ -6,7 +6,7 @@ use Rattle.rail_model.specs.Table.{point}
 use Rattle.ring_sections.specs.declared.leading.Reach.{Reach}
 use Rattle.ring_sections.specs.declared.train_set.TrainSet.{TrainSet}
 use Rattle.ring_sections.specs.Ring.{Pair, pair_at, point_at}
-use Rattle.ring_sections.specs.Leading.{HasTrain, Avoids, count_outside, MayStand, LeadsBack, IsLost, IsLostBy, IsBehind, IsFurther, IsKnown, IsCovered}
+use Rattle.ring_sections.specs.Leading.{HasTrain, Avoids, count_outside, MayBeAt, LeadsBack, IsLost, IsLostBy, IsBehind, IsFurther, IsKnown, IsCovered}
 use Rattle.ring_sections.proofs.RingRows.{uneven}
 use Rattle.ring_sections.proofs.TrainSets.{has_only}
 
@@ -36,7 +36,7 @@ one_outside : count_outside two ((0, 1) ∷ (1, 2) ∷ (2, 7) ∷ []) ≡ 1
 one_outside = refl
 
 -- after T0 at point 1, with point 3 shut, T1 may be at point 2
-may_stand : MayStand uneven ((0, 1) ∷ []) 3 2 (1, 2)
+may_stand : MayBeAt uneven ((0, 1) ∷ []) 3 2 (1, 2)
 may_stand = record { pair = (lit< tt, lit< tt); stands = refl; fits = refl; free = free; open_point = λ e. cc }
   where
     free : (j : ℕ) × (j < 1) × (point_at uneven (pair_at ((0, 1) ∷ []) j) ≡ Some 2) → ⊥

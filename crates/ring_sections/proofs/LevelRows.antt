@@ -6,7 +6,7 @@ use Rattle.forbidden_states.specs.Forbid.{unmarked}
 use Rattle.ring_sections.specs.declared.levels.Step.{Step}
 use Rattle.ring_sections.specs.Ring.{Pair, point_at, next_point}
 use Rattle.ring_sections.specs.Search.{standing_at, standing}
-use Rattle.ring_sections.specs.Levels.{IsStep, IsStepMade, MakesStep, AreSteps, IsStepBelow, IsSettled, AreLevels, IsChart}
+use Rattle.ring_sections.specs.Levels.{IsStep, IsStepMade, MakesStep, AreStepsBelow, IsStepBelow, IsSettled, AreLevels, IsChart}
 use Rattle.ring_sections.proofs.PointBounds.{low_points}
 use Rattle.ring_sections.proofs.RingRows.{uneven}
 
@@ -38,7 +38,7 @@ makes b next = let same : 2 ≡ b = cc in subst (λ x. IsStepMade some_steps (re
 abbrev one : List Mission
 one = record { points = 0 ∷ 1 ∷ []; exits = false } ∷ []
 
-are_steps : AreSteps one 2 (record { train = 0; from = 0; to = 1 } ∷ [])
+are_steps : AreStepsBelow one 2 (record { train = 0; from = 0; to = 1 } ∷ [])
 are_steps = record { are_steps = own; all = all }
   where
     own : All (IsStep one) (record { train = 0; from = 0; to = 1 } ∷ [])
@@ -51,7 +51,7 @@ are_steps = record { are_steps = own; all = all }
     all (suc zero) less k d lt b next = absurd (omega (arith, lt))
     all (suc (suc q)) less k d lt b next = absurd (omega (arith, less))
 
-step_is_missing : AreSteps one 2 [] → ⊥
+step_is_missing : AreStepsBelow one 2 [] → ⊥
 step_is_missing are = let made = are.all 0 (lit< tt) 0 (0, 0) (lit< tt) 1 refl in absurd (omega (arith, made.1.1))
 
 step_below : IsStepBelow 7 (record { train = 1; from = 1; to = 6 })

@@ -2,15 +2,15 @@
 use Rattle.std.proofs.Common.{◌≡◌, ℕ, zero, suc, ◌<◌, List, [], ◌∷◌, false, true, refl, lit<, arith}
 use Rattle.rail_model.specs.Table.{Mission}
 use Rattle.ring_sections.specs.Ring.{pair_at}
-use Rattle.ring_sections.specs.Search.{IsPair, WantsPointOf, AreApart, IsPlaced, stands_at, standing_at, standing, ArePointsBelow, IsPointTaken, fits, own_ring, rings_from}
+use Rattle.ring_sections.specs.Search.{IsTrainPlace, WantsPointOf, AreApart, IsPlaced, stands_at, standing_at, standing, ArePointsBelow, IsPointTaken, fits, own_ring, rings_from}
 use Rattle.ring_sections.proofs.PointBounds.{low_points}
 use Rattle.ring_sections.proofs.RingRows.{uneven, ring}
 
 -- T1 has places 0 to 4, and its last is none of a pair
-is_pair : IsPair uneven (1, 3)
+is_pair : IsTrainPlace uneven (1, 3)
 is_pair = (lit< tt, lit< tt)
 
-last_is_none : IsPair uneven (1, 4) → ⊥
+last_is_none : IsTrainPlace uneven (1, 4) → ⊥
 last_is_none pair = omega (arith, pair.1)
 
 waits_for : WantsPointOf uneven (0, 1) (1, 2)

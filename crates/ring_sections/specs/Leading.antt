@@ -5,7 +5,7 @@ use Rattle.rail_model.specs.Table.{Mission}
 use Rattle.ring_sections.specs.declared.train_set.TrainSet.{TrainSet}
 use Rattle.ring_sections.specs.declared.leading.Reach.{Reach}
 use Rattle.ring_sections.specs.Ring.{Pair, pair_at, point_at, next_point}
-use Rattle.ring_sections.specs.Search.{IsPair, IsPointTaken, fits}
+use Rattle.ring_sections.specs.Search.{IsTrainPlace, IsPointTaken, fits}
 
 -- The train is in the set.
 abbrev pub HasTrain : TrainSet → ℕ → Type 0
@@ -21,8 +21,8 @@ count_outside s [] = 0
 count_outside s (w ∷ later) = cond (bit_at s.bits w.0 == 1) 0 1 + count_outside s later
 
 -- The pair may be at the point after these pairs: none of them takes it, and it isn't shut.
-pub record MayStand (M : List Mission) (way : List Pair) (shut q : ℕ) (w : Pair) : Type 0 where
-  pub pair : IsPair M w
+pub record MayBeAt (M : List Mission) (way : List Pair) (shut q : ℕ) (w : Pair) : Type 0 where
+  pub pair : IsTrainPlace M w
   pub stands : point_at M w ≡ Some q
   pub fits : fits way w ≡ true
   pub free : IsPointTaken M way q → ⊥
@@ -32,7 +32,7 @@ pub record MayStand (M : List Mission) (way : List Pair) (shut q : ℕ) (w : Pai
 abbrev pub LeadsBack : List Mission → List Pair → ℕ → ℕ → List Pair → Type 0
 LeadsBack M way shut q [] = point_at M (pair_at way 0) ≡ Some q
 LeadsBack M way shut q (w ∷ later) =
-    MayStand M way shut q w × All (λ v. v.0 ≢ w.0) later × ((b : ℕ) × (next_point M w ≡ Some b) × LeadsBack M way shut b later)
+    MayBeAt M way shut q w × All (λ v. v.0 ≢ w.0) later × ((b : ℕ) × (next_point M w ≡ Some b) × LeadsBack M way shut b later)
 
 -- No way leads back from the point with at most as many pairs as are left, none of them of a used train.
 abbrev pub IsLost : List Mission → List Pair → ℕ → Reach → Type 0

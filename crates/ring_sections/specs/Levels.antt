@@ -18,7 +18,7 @@ abbrev pub MakesStep : List Mission → List Step → ℕ → Pair → Type 0
 MakesStep M steps q w = (b : ℕ) → next_point M w ≡ Some b → IsStepMade steps (record { train = w.0; from = q; to = b })
 
 -- The steps between all points below n, not each of them by every train.
-pub record AreSteps (M : List Mission) (n : ℕ) (steps : List Step) : Type 0 where
+pub record AreStepsBelow (M : List Mission) (n : ℕ) (steps : List Step) : Type 0 where
   pub are_steps : All (IsStep M) steps
   pub all : (q : ℕ) → q < n → All (MakesStep M steps q) (standing_at M q)
 

@@ -7,8 +7,8 @@ use Rattle.forbidden_states.specs.Forbid.{unmarked}
 use Rattle.ring_sections.specs.Ring.{Pair, pair_at, point_at, next_point, is_ring, pairs, lists_of}
 
 -- The place is one below the train's last.
-abbrev pub IsPair : List Mission → Pair → Type 0
-IsPair M w = (w.0 < length M) × (w.1 < last (unmarked M) w.0)
+abbrev pub IsTrainPlace : List Mission → Pair → Type 0
+IsTrainPlace M w = (w.0 < length M) × (w.1 < last (unmarked M) w.0)
 
 -- The pair wants the point of the other.
 abbrev pub WantsPointOf : List Mission → Pair → Pair → Type 0

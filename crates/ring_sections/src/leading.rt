@@ -2,7 +2,7 @@
 ghost use Rattle.std.specs.Prelude.{◌≡◌, ◌≢◌, ℕ, ◌<◌, ◌≤◌, ◌^◌, ◌++◌, ◌∷◌, [], All, IfOk, IfSome, length, false, true};
 ghost use Rattle.std.specs.Int.Bits.{bit_and};
 ghost use Rattle.ring_sections.specs.Ring.{pair_at, point_at};
-ghost use Rattle.ring_sections.specs.Search.{IsPair, rings_from};
+ghost use Rattle.ring_sections.specs.Search.{IsTrainPlace, rings_from};
 ghost use Rattle.ring_sections.specs.Levels.{AreLevels, IsChart};
 ghost use Rattle.ring_sections.specs.Leading.{IsLost, IsLostBy, IsBehind, IsKnown, IsCovered};
 
@@ -58,7 +58,7 @@ fn is_covered(known: &[Reach], from: Reach, hit: TrainSet, left: u32) -> bool
 // Whether it is plain at once that nothing leads back from a point that isn't the first pair's.
 fn is_lost(chart: &Chart<'_>, way: &[(u32, u32)], shut: u32, from: Reach, lost: &[Reach]) -> bool
     requires levels { AreLevels chart.now.missions.now (pair_at way.now 0) chart.now.levels.now }
-    requires way { All (IsPair chart.now.missions.now) way.now }
+    requires way { All (IsTrainPlace chart.now.missions.now) way.now }
     requires point { from.point < length chart.now.levels.now }
     requires away { point_at chart.now.missions.now (pair_at way.now 0) ≢ Some from.point }
     requires lost { All (IsLost chart.now.missions.now way.now shut) lost.now }
@@ -86,7 +86,7 @@ fn onward(
 ) -> Option<Reach>
     requires some { 0 < length way.now }
     requires trains { length chart.now.missions.now ≤ 32 }
-    requires next { IsPair chart.now.missions.now next }
+    requires next { IsTrainPlace chart.now.missions.now next }
     requires left { 0 < from.left }
     ensures behind { IfSome result (λ behind. IsBehind chart.now.missions.now from next behind) }
     ensures none { (shut : ℕ) → result ≡ None → IsLostBy chart.now.missions.now way.now shut from next }
@@ -115,7 +115,7 @@ fn may_lead(
 ) -> Result<bool, AllocError>
     requires chart { IsChart chart.now.missions.now chart.now.standing.now chart.now.levels.now (pair_at way.now 0) }
     requires some { 0 < length way.now }
-    requires way { All (IsPair chart.now.missions.now) way.now }
+    requires way { All (IsTrainPlace chart.now.missions.now) way.now }
     requires point { from.point < length chart.now.levels.now }
     requires lost { All (IsLost chart.now.missions.now way.now shut) lost.old.items }
     ensures lost { IfOk result (λ _. All (IsLost chart.now.missions.now way.now shut) lost.new.items) }
@@ -150,8 +150,8 @@ pub(crate) fn may_follow(
 ) -> Result<bool, AllocError>
     requires chart { IsChart chart.now.missions.now chart.now.standing.now chart.now.levels.now (pair_at way.now 0) }
     requires some { 0 < length way.now }
-    requires way { All (IsPair chart.now.missions.now) way.now }
-    requires next { IsPair chart.now.missions.now next }
+    requires way { All (IsTrainPlace chart.now.missions.now) way.now }
+    requires next { IsTrainPlace chart.now.missions.now next }
     requires stands { point_at chart.now.missions.now next ≡ Some shut }
     requires lost { All (IsLost chart.now.missions.now way.now shut) lost.old.items }
     ensures lost { IfOk result (λ _. All (IsLost chart.now.missions.now way.now shut) lost.new.items) }

@@ -2,8 +2,8 @@
 ghost use Rattle.std.specs.Prelude.{◌≡◌, ℕ, ◌<◌, ◌≤◌, All, IfOk, OnOk, Some, length, sum, slice_index, false, true};
 ghost use Rattle.ring_sections.specs.declared.levels.Step.{Step as StepValue};
 ghost use Rattle.ring_sections.specs.Ring.{point_at};
-ghost use Rattle.ring_sections.specs.Search.{IsPair, ArePointsBelow, standing as standing_at_all};
-ghost use Rattle.ring_sections.specs.Levels.{IsStep, IsStepMade, MakesStep, AreSteps, IsStepBelow, IsSettled, AreLevels};
+ghost use Rattle.ring_sections.specs.Search.{IsTrainPlace, ArePointsBelow, standing as standing_at_all};
+ghost use Rattle.ring_sections.specs.Levels.{IsStep, IsStepMade, MakesStep, AreStepsBelow, IsStepBelow, IsSettled, AreLevels};
 
 use crate::placed::{next_point_of, point_of};
 use crate::standing::Standing;
@@ -40,7 +40,7 @@ fn add_step(
     from: u32,
     steps: &mut Vec<Step>,
 ) -> Result<(), AllocError>
-    requires pair { IsPair missions.now pair }
+    requires pair { IsTrainPlace missions.now pair }
     requires stands { point_at missions.now pair ≡ Some from }
     requires steps { All (IsStep missions.now) steps.old.items }
     ensures steps { OnOk result (All (IsStep missions.now) steps.new.items) }
@@ -65,7 +65,7 @@ fn add_steps(
     from: u32,
     steps: &mut Vec<Step>,
 ) -> Result<(), AllocError>
-    requires pairs { All (IsPair missions.now) pairs.now }
+    requires pairs { All (IsTrainPlace missions.now) pairs.now }
     requires stand { All (λ w. point_at missions.now w ≡ Some from) pairs.now }
     requires steps { All (IsStep missions.now) steps.old.items }
     ensures steps { OnOk result (All (IsStep missions.now) steps.new.items) }
@@ -86,7 +86,7 @@ pub(crate) fn steps_of(
 ) -> Result<Vec<Step>, AllocError>
     requires standing { standing.now ≡ standing_at_all missions.now (length standing.now) }
     requires few { length standing.now ≤ 512 }
-    ensures { IfOk result (λ steps. AreSteps missions.now (length standing.now) steps.items) }
+    ensures { IfOk result (λ steps. AreStepsBelow missions.now (length standing.now) steps.items) }
 {
     let mut steps = Vec::new(alloc);
     for point in 0..standing.len() as u32 {
@@ -145,9 +145,9 @@ pub(crate) fn levels_of(
     first: (u32, u32),
     most: u32,
 ) -> Result<Vec<u32>, AllocError>
-    requires steps { AreSteps missions.now size steps.now }
+    requires steps { AreStepsBelow missions.now size steps.now }
     requires size { ArePointsBelow missions.now size }
-    requires first { IsPair missions.now first }
+    requires first { IsTrainPlace missions.now first }
     ensures levels { IfOk result (λ levels. AreLevels missions.now first levels.items) }
     ensures size { IfOk result (λ levels. length levels.items ≡ size) }
 {

@@ -2,13 +2,13 @@
 ghost use Rattle.std.specs.Prelude.{◌≡◌, ℕ, ◌+◌, ◌<◌, ◌≤◌, ◌==◌, ◌↔◌, ◌%◌, All, IsTrue, length, Some};
 ghost use Rattle.std.specs.List.{list_any};
 ghost use Rattle.ring_sections.specs.Ring.{point_at, next_point, pair_at, IsRing};
-ghost use Rattle.ring_sections.specs.Search.{IsPair, WantsPointOf, AreApart, IsPlaced, IsPointTaken, fits as fits_after};
+ghost use Rattle.ring_sections.specs.Search.{IsTrainPlace, WantsPointOf, AreApart, IsPlaced, IsPointTaken, fits as fits_after};
 
 use rail_model::Missions;
 
 // The point of a pair.
 pub(crate) fn point_of(missions: &Missions, pair: (u32, u32)) -> Option<u32>
-    requires { IsPair missions.now pair }
+    requires { IsTrainPlace missions.now pair }
     ensures { result ≡ point_at missions.now pair }
 {
     missions.mission(pair.0).point(pair.1)
@@ -16,7 +16,7 @@ pub(crate) fn point_of(missions: &Missions, pair: (u32, u32)) -> Option<u32>
 
 // The point that a pair wants.
 pub(crate) fn next_point_of(missions: &Missions, pair: (u32, u32)) -> Option<u32>
-    requires { IsPair missions.now pair }
+    requires { IsTrainPlace missions.now pair }
     ensures { result ≡ next_point missions.now pair }
 {
     let points = missions.mission(pair.0).as_slice();
@@ -25,8 +25,8 @@ pub(crate) fn next_point_of(missions: &Missions, pair: (u32, u32)) -> Option<u32
 
 // Whether a pair wants the point of another.
 fn waits_for(missions: &Missions, pair: (u32, u32), other: (u32, u32)) -> bool
-    requires pair { IsPair missions.now pair }
-    requires other { IsPair missions.now other }
+    requires pair { IsTrainPlace missions.now pair }
+    requires other { IsTrainPlace missions.now other }
     ensures { IsTrue result ↔ WantsPointOf missions.now pair other }
 {
     match next_point_of(missions, pair) {
@@ -37,8 +37,8 @@ fn waits_for(missions: &Missions, pair: (u32, u32), other: (u32, u32)) -> bool
 
 // Whether two pairs are of two trains at two points.
 fn are_apart(missions: &Missions, first: (u32, u32), second: (u32, u32)) -> bool
-    requires first { IsPair missions.now first }
-    requires second { IsPair missions.now second }
+    requires first { IsTrainPlace missions.now first }
+    requires second { IsTrainPlace missions.now second }
     ensures { IsTrue result ↔ AreApart missions.now first second }
 {
     if first.0 == second.0 {
@@ -52,7 +52,7 @@ fn are_apart(missions: &Missions, first: (u32, u32), second: (u32, u32)) -> bool
 
 // Whether a pair is apart from those before it.
 fn is_new(missions: &Missions, way: &[(u32, u32)], index: usize) -> bool
-    requires way { All (IsPair missions.now) way.now }
+    requires way { All (IsTrainPlace missions.now) way.now }
     requires index { index < length way.now }
     ensures { IsTrue result ↔ ((j : ℕ) → j < index → AreApart missions.now (pair_at way.now j) (pair_at way.now index)) }
 {
@@ -66,7 +66,7 @@ fn is_new(missions: &Missions, way: &[(u32, u32)], index: usize) -> bool
 
 // Whether a pair is as in a circular wait.
 fn is_placed(missions: &Missions, way: &[(u32, u32)], index: usize) -> bool
-    requires way { All (IsPair missions.now) way.now }
+    requires way { All (IsTrainPlace missions.now) way.now }
     requires index { index < length way.now }
     ensures { IsTrue result ↔ IsPlaced missions.now way.now index }
 {
@@ -92,7 +92,7 @@ pub(crate) fn fits(way: &[(u32, u32)], next: (u32, u32)) -> bool
 
 // Whether one of the pairs is at a point.
 pub(crate) fn is_taken(missions: &Missions, way: &[(u32, u32)], point: u32) -> bool
-    requires { All (IsPair missions.now) way.now }
+    requires { All (IsTrainPlace missions.now) way.now }
     ensures { IsTrue result ↔ IsPointTaken missions.now way.now point }
 {
     for &pair in way {
@@ -105,7 +105,7 @@ pub(crate) fn is_taken(missions: &Missions, way: &[(u32, u32)], point: u32) -> b
 
 // Whether the pairs are a circular wait. The last pair, which may not close it, is looked at first.
 pub(crate) fn is_ring(missions: &Missions, way: &[(u32, u32)]) -> bool
-    requires { All (IsPair missions.now) way.now }
+    requires { All (IsTrainPlace missions.now) way.now }
     ensures { IsTrue result ↔ IsRing missions.now way.now }
 {
     if way.len() < 2 {

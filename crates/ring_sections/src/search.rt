@@ -3,8 +3,8 @@ ghost use Rattle.std.specs.Prelude.{◌≡◌, ◌<◌, ◌≤◌, ◌-◌, ◌+
 ghost use Rattle.std.specs.List.{list_any};
 ghost use Rattle.rail_model.specs.Turns.{AnswersAs};
 ghost use Rattle.ring_sections.specs.Ring.{pair_at, IsRing};
-ghost use Rattle.ring_sections.specs.Search.{IsPair, ArePointsBelow, standing as standing_at_all, own_ring, rings_from};
-ghost use Rattle.ring_sections.specs.Levels.{AreSteps, IsChart};
+ghost use Rattle.ring_sections.specs.Search.{IsTrainPlace, ArePointsBelow, standing as standing_at_all, own_ring, rings_from};
+ghost use Rattle.ring_sections.specs.Levels.{AreStepsBelow, IsChart};
 ghost use Rattle.ring_sections.specs.Answer.{AddsRings, all_rings};
 
 use crate::chart::Chart;
@@ -26,7 +26,7 @@ fn keep_ring(
     way: &[(u32, u32)],
     found: &mut Vec<Ring>,
 ) -> Result<(), Rings>
-    requires way { All (IsPair missions.now) way.now }
+    requires way { All (IsTrainPlace missions.now) way.now }
     requires few { length found.old.items ≤ 64 }
     ensures { AddsRings found.old.items found.new.items (own_ring missions.now way.now) result }
 {
@@ -66,7 +66,7 @@ fn extend(
 ) -> Result<(), Rings>
     requires chart { IsChart chart.now.missions.now chart.now.standing.now chart.now.levels.now (pair_at way.now 0) }
     requires some { 0 < length way.now }
-    requires way { All (IsPair chart.now.missions.now) way.now }
+    requires way { All (IsTrainPlace chart.now.missions.now) way.now }
     requires few { length found.old.items ≤ 64 }
     ensures { AddsRings found.old.items found.new.items (rings_from chart.now.missions.now way.now left) result }
 {
@@ -110,8 +110,8 @@ fn add_from(
     requires trains { length missions.now ≤ 32 }
     requires points { ArePointsBelow missions.now (length standing.now) }
     requires standing { standing.now ≡ standing_at_all missions.now (length standing.now) }
-    requires steps { AreSteps missions.now (length standing.now) steps.now }
-    requires first { IsPair missions.now first }
+    requires steps { AreStepsBelow missions.now (length standing.now) steps.now }
+    requires first { IsTrainPlace missions.now first }
     requires few { length found.old.items ≤ 64 }
     requires most { 0 < most }
     ensures { AddsRings found.old.items found.new.items (rings_from missions.now (first ∷ []) (most - 1)) result }

@@ -3,7 +3,7 @@ ghost use Rattle.std.specs.Prelude.{◌≡◌, ℕ, ◌<◌, ◌≤◌, ◌++◌
 ghost use Rattle.rail_model.specs.Table.{IsMission};
 ghost use Rattle.rail_model.specs.Checks.{same_point};
 ghost use Rattle.ring_sections.specs.Ring.{point_at, train_pairs, pairs as all_pairs};
-ghost use Rattle.ring_sections.specs.Search.{IsPair, ArePointsBelow, stands_at as stands_at_point, standing as standing_at_all};
+ghost use Rattle.ring_sections.specs.Search.{IsTrainPlace, ArePointsBelow, stands_at as stands_at_point, standing as standing_at_all};
 
 use crate::placed::{next_point_of, point_of};
 use crate::train_set::MOST_TRAINS;
@@ -98,7 +98,7 @@ fn points_of(
     missions: &Missions,
     pairs: &[(u32, u32)],
 ) -> Result<Vec<Option<u32>>, AllocError>
-    requires { All (IsPair missions.now) pairs.now }
+    requires { All (IsTrainPlace missions.now) pairs.now }
     ensures { IfOk result (λ points. points.items ≡ map (point_at missions.now) pairs.now) }
 {
     let mut points = Vec::new(alloc);
@@ -118,7 +118,7 @@ fn is_there(points: &[Option<u32>], index: usize, point: u32) -> bool
 
 // The least of the last `many` trains of the pairs that want a point; 0 where there are fewer.
 fn last_of_many(missions: &Missions, pairs: &[(u32, u32)], to: Option<u32>, many: u32) -> u32
-    requires { All (IsPair missions.now) pairs.now }
+    requires { All (IsTrainPlace missions.now) pairs.now }
 {
     let mut last = MOST_TRAINS;
     let mut left = many;
@@ -141,7 +141,7 @@ fn lasts_of(
     pairs: &[(u32, u32)],
     many: u32,
 ) -> Result<Vec<u32>, AllocError>
-    requires { All (IsPair missions.now) pairs.now }
+    requires { All (IsTrainPlace missions.now) pairs.now }
 {
     let mut lasts = Vec::new(alloc);
     for &pair in pairs {
@@ -158,7 +158,7 @@ fn standers_at(
     point: u32,
     most: u32,
 ) -> Result<Standers, AllocError>
-    requires pairs { All (IsPair missions.now) pairs.now }
+    requires pairs { All (IsTrainPlace missions.now) pairs.now }
     requires points { points.now ≡ map (point_at missions.now) pairs.now }
     ensures { IfOk result (λ standers. standers ≡ filter (stands_at_point missions.now point) pairs.now) }
 {

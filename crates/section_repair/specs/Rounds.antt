@@ -17,6 +17,6 @@ pub record IsUnderWay (M : List Mission) (r : Round) : Type 0 where
 
 -- What a round leads to under a budget, after which this many states were treated: one more round, within the rounds, or
 -- the answer.
-abbrev pub Leads : List Mission → ℕ → ℕ → ℕ → Turn → Type 0
-Leads M budget rounds used (Next r) = IsUnderWay M r × (r.budget ≡ budget) × (r.used ≡ suc used) × (r.used ≤ rounds)
-Leads M budget rounds used (End repair) = Repairs M budget rounds repair
+abbrev pub LeadsOn : List Mission → ℕ → ℕ → ℕ → Turn → Type 0
+LeadsOn M budget rounds used (Next r) = IsUnderWay M r × (r.budget ≡ budget) × (r.used ≡ suc used) × (r.used ≤ rounds)
+LeadsOn M budget rounds used (End repair) = Repairs M budget rounds repair

@@ -6,7 +6,7 @@ ghost use Rattle.cert_maker.specs.Rule.{Makes};
 ghost use Rattle.cert_maker.specs.declared.made.Made.TheVariants.{Stuck as stuck_at};
 ghost use Rattle.forbidden_states.specs.Forbid.{marked as marked_of};
 ghost use Rattle.section_repair.specs.Repairs.{treated as treated_of, Repairs};
-ghost use Rattle.section_repair.specs.Rounds.{IsUnderWay, Leads};
+ghost use Rattle.section_repair.specs.Rounds.{IsUnderWay, LeadsOn};
 ghost use Rattle.section_repair.specs.Claims.{LosesNothing, IsExact, DoomsAlike};
 
 use crate::Repair;
@@ -91,7 +91,7 @@ fn treat(
     requires stuck { Makes round.table round.budget (stuck_at at) }
     requires legal { Legal round.table at }
     requires draft { IsDraft round.table draft }
-    ensures { IfOk result (Leads round.table.missions round.budget rounds round.used) }
+    ensures { IfOk result (LeadsOn round.table.missions round.budget rounds round.used) }
 {
     let Round {
         sections,
@@ -126,7 +126,7 @@ fn play(alloc: Global, round: Round, rounds: u32) -> Result<Turn, AllocError>
     requires most { round.budget ≤ 1000000 }
     requires under_way { IsUnderWay round.table.missions round }
     requires within { round.used ≤ rounds }
-    ensures { IfOk result (Leads round.table.missions round.budget rounds round.used) }
+    ensures { IfOk result (LeadsOn round.table.missions round.budget rounds round.used) }
 {
     let Remade { made, draft } = remake(
         alloc,

@@ -12,8 +12,8 @@ use Rattle.dispatch_workers.specs.declared.groups.Group.TheVariants.{Control}
 use Rattle.dispatch_workers.specs.Rounds.{Worked}
 use Rattle.shared_run.specs.Crews.{crew_of, IsCrew, trains_of, dealt}
 use Rattle.shared_run.specs.Shared.{fresh_pass, fresh_passes, IsRecorded, IsWorked, IsShared, IsAddedBy}
-use Rattle.shared_run.specs.Boarding.{onto, AreOnce, passes_in, IsFresh, HaveBoarded, AreAshore, IsControl}
-use Rattle.shared_run.specs.Leaving.{entries_with, HaveLeft, IsDone}
+use Rattle.shared_run.specs.Boarding.{onto, AreOnce, passes_in, IsFresh, HaveBoarded, AreAshore, IsControlGroup}
+use Rattle.shared_run.specs.Leaving.{entries_with, HaveLeft, HasLeft}
 
 -- five trains dealt to two workers, and two to three
 dealt_to_two : (dealt 5 2 0 ≡ 0 ∷ 2 ∷ 4 ∷ []) × (dealt 5 2 1 ≡ 1 ∷ 3 ∷ [])
@@ -47,10 +47,10 @@ has_left : HaveLeft (with_pass (fresh_root one_zone) 0) (granted_after one_zone 
     (record (fresh_root one_zone) { seen = yes 0 ∷ []; done = entries_with (granted_after one_zone 0 []) ∷ []; boarded = 0 ∷ [] })
 has_left = record { out = refl; done = refl; yard = refl }
 
-is_done : IsDone (record (fresh_root one_zone) { done = entries_with (granted_after one_zone 0 []) ∷ [] }) (granted_after one_zone 0 [])
+is_done : HasLeft (record (fresh_root one_zone) { done = entries_with (granted_after one_zone 0 []) ∷ [] }) (granted_after one_zone 0 [])
 is_done = record { low = lit< tt; entries = refl; room = lit< tt }
 
-one_control : IsControl (fresh_pass one_zone 32) (Control (boarded one_zone 32)) × (passes_in (Control (boarded one_zone 32) ∷ []) ≡ boarded one_zone 32 ∷ [])
+one_control : IsControlGroup (fresh_pass one_zone 32) (Control (boarded one_zone 32)) × (passes_in (Control (boarded one_zone 32) ∷ []) ≡ boarded one_zone 32 ∷ [])
 one_control = (refl, refl)
 
 -- a crew without workers adds the round robin's lines, and any other those of a history and then the round robin's

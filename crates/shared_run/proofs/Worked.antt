@@ -9,14 +9,14 @@ use Rattle.zone_yard.specs.Entering.{HasRoom}
 use Rattle.zone_yard.specs.Boarding.{fresh_root}
 use Rattle.dispatch_workers.specs.declared.groups.Group.{Group}
 use Rattle.dispatch_workers.specs.declared.groups.Group.TheVariants.{Drivers, Control}
-use Rattle.dispatch_workers.specs.Rounds.{IsOver, IsLastTurn, Worked, Turned}
+use Rattle.dispatch_workers.specs.Rounds.{HasFinished, IsLastTurn, Worked, Turned}
 use Rattle.dispatch_workers.specs.Groups.{GroupWorked}
 use Rattle.dispatch_workers.proofs.Ended.{ended_within}
 use Rattle.shared_run.specs.declared.crews.Crew.{Crew}
 use Rattle.shared_run.specs.Crews.{IsCrew}
 use Rattle.shared_run.specs.Shared.{fresh_pass, fresh_passes}
-use Rattle.shared_run.specs.Boarding.{onto, AreOnce, numbers, passes_of, passes_in, IsFresh, HaveBoarded, HasDrivers, IsControl, AreDealt}
-use Rattle.shared_run.specs.Leaving.{HaveLeft, IsDone, HasWorked, entries_with}
+use Rattle.shared_run.specs.Boarding.{onto, AreOnce, numbers, passes_of, passes_in, IsFresh, HaveBoarded, HasDrivers, IsControlGroup, AreDealt}
+use Rattle.shared_run.specs.Leaving.{HaveLeft, HasLeft, HasWorked, entries_with}
 use Rattle.shared_run.proofs.Lists.{each_part, zip_weaker, zip_parts, all_zipped, zip_long}
 use Rattle.shared_run.proofs.Grown.{Grew, grew_more, rounds_grew, turns_grew}
 use Rattle.shared_run.proofs.Done.{each_done}
@@ -24,7 +24,7 @@ use Rattle.shared_run.proofs.Done.{each_done}
 -- each pass of a group that has worked is the same, with some entries more
 group_grew : (rounds steps : ℕ) (old new : Group) → steps ≤ 4 → GroupWorked rounds steps old new → AllZip (Grew (4 * rounds)) (passes_of old) (passes_of new)
 group_grew rounds steps (Drivers olds) (Drivers news) le worked =
-    let most = ended_within IsOver rounds worked.told worked.ends in
+    let most = ended_within HasFinished rounds worked.told worked.ends in
     zip_weaker (Grew (4 * length worked.told)) (Grew (4 * rounds)) (λ x y. grew_more (4 * length worked.told) (4 * rounds) x y (omega (arith, most)))
     olds.items news.items (rounds_grew steps worked.told olds.items news.items le worked.made)
 group_grew rounds steps (Control old) (Control new) le turned =
@@ -46,7 +46,7 @@ drivers_worked rounds steps passes (Drivers olds) (Control new) has none = absur
 drivers_worked rounds steps passes (Control old) new none worked = absurd none
 
 -- a group that was this control
-control_worked : (rounds steps : ℕ) (pass : Pass) (old new : Group) → IsControl pass old → GroupWorked rounds steps old new
+control_worked : (rounds steps : ℕ) (pass : Pass) (old new : Group) → IsControlGroup pass old → GroupWorked rounds steps old new
     → (control : Pass) × (passes_of new ≡ control ∷ []) × Turned rounds pass control
 control_worked rounds steps pass (Control old) (Control new) is turned = (new, refl, subst (λ p. Turned rounds p new) is turned)
 control_worked rounds steps pass (Control old) (Drivers news) is none = absurd none
@@ -86,8 +86,8 @@ module _ (yard : SharedYard) (crew : Crew) (groups news : List Group) (old mid n
       left.done ∙ ap (λ ds. onto (map entries_with (passes_in news)) ds) (ap (λ (r : Root). r.done) boarded.now ∙ ap (λ (r : Root). r.done) fresh) in
       let entries : AllByRecursion (λ (p : Pass). done_of p.number new.done ≡ p.mine) (passes_in news) =
       subst (λ ds. AllByRecursion (λ (p : Pass). done_of p.number ds ≡ p.mine) (passes_in news)) (sym done) (each_done (passes_in news) [] once) in
-      let each : AllByRecursion (IsDone new) (passes_in news) =
-      both_hold IsLow (λ (p : Pass). done_of p.number new.done ≡ p.mine) (IsDone new) (λ p l e. record { low = l.0; entries = e; room = l.1 }) (passes_in news)
+      let each : AllByRecursion (HasLeft new) (passes_in news) =
+      both_hold IsLow (λ (p : Pass). done_of p.number new.done ≡ p.mine) (HasLeft new) (λ p l e. record { low = l.0; entries = e; room = l.1 }) (passes_in news)
       (all_zipped (Grew (4 * crew.rounds)) (IsFresh yard) IsLow (low is calls) (passes_in groups) (passes_in news) grew
       (recursion_from_All (IsFresh yard) (passes_in groups) (subst (λ y. All (IsFresh y) (passes_in groups)) (ap (λ (r : Root). r.yard) fresh) boarded.each)))
       entries in
@@ -106,8 +106,8 @@ module _ (yard : SharedYard) (crew : Crew) (groups news : List Group) (old mid n
         drivers = λ g. passes_of (get_or news g none);
         worked = λ g lt. drivers_worked crew.rounds crew.block (fresh_passes yard crew.workers g) (get_or groups g none) (get_or news g none) (dealt.drivers g none lt)
             (AllZip-get_or (GroupWorked crew.rounds crew.block) groups news g none none worked (omega (arith, lt, last_in)));
-        done = λ g lt. All-from_recursion (IsDone new) (passes_of (get_or news g none)) (each_part (IsDone new) passes_of news each g none (omega (arith, lt, long)));
+        done = λ g lt. All-from_recursion (HasLeft new) (passes_of (get_or news g none)) (each_part (HasLeft new) passes_of news each g none (omega (arith, lt, long)));
         control = turned.0;
         turned = turned.2;
-        told = (subst (AllByRecursion (IsDone new)) turned.1 (each_part (IsDone new) passes_of news each crew.workers none (omega (arith, long)))).0;
+        told = (subst (AllByRecursion (HasLeft new)) turned.1 (each_part (HasLeft new) passes_of news each crew.workers none (omega (arith, long)))).0;
       }

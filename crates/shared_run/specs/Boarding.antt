@@ -52,12 +52,12 @@ HasDrivers passes (Drivers drivers) = drivers.items ≡ passes
 HasDrivers passes (Control control) = ⊥
 
 -- The group is this control.
-abbrev pub IsControl : Pass → Group → Type 0
-IsControl pass (Drivers drivers) = ⊥
-IsControl pass (Control control) = control ≡ pass
+abbrev pub IsControlGroup : Pass → Group → Type 0
+IsControlGroup pass (Drivers drivers) = ⊥
+IsControlGroup pass (Control control) = control ≡ pass
 
 -- There is a group for each worker, with the passes of its trains, and then the control's.
 pub record AreDealt (yard : SharedYard) (workers : ℕ) (groups : List Group) : Type 0 where
   pub count : length groups ≡ workers + 1
   pub drivers : (g : ℕ) (d : Group) → g < workers → HasDrivers (fresh_passes yard workers g) (slice_index_or groups g d)
-  pub control : (d : Group) → IsControl (fresh_pass yard control_number) (slice_index_or groups workers d)
+  pub control : (d : Group) → IsControlGroup (fresh_pass yard control_number) (slice_index_or groups workers d)

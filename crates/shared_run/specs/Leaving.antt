@@ -20,7 +20,7 @@ pub record HaveLeft (old : Root) (passes : List Pass) (new : Root) : Type 0 wher
   pub yard : new.yard ≡ old.yard
 
 -- The root has the entries of the pass that left, which may have made more.
-pub record IsDone (root : Root) (pass : Pass) : Type 0 where
+pub record HasLeft (root : Root) (pass : Pass) : Type 0 where
   pub low : pass.number < most_passes
   pub entries : done_of pass.number root.done ≡ pass.mine
   pub room : HasRoom pass
@@ -31,7 +31,7 @@ pub record HasWorked (yard : SharedYard) (crew : Crew) (root : Root) : Type 0 wh
   pub nobody : root.out ≡ 0
   pub drivers : ℕ → List Pass
   pub worked : (g : ℕ) → g < crew.workers → Worked crew.rounds crew.block (fresh_passes yard crew.workers g) (drivers g)
-  pub done : (g : ℕ) → g < crew.workers → All (IsDone root) (drivers g)
+  pub done : (g : ℕ) → g < crew.workers → All (HasLeft root) (drivers g)
   pub control : Pass
   pub turned : Turned crew.rounds (fresh_pass yard control_number) control
-  pub told : IsDone root control
+  pub told : HasLeft root control

@@ -10,7 +10,7 @@ use Rattle.state_boxes.specs.declared.extremes.Extremes.{Extremes}
 use Rattle.state_boxes.specs.declared.rises.Rise.{Rise}
 use Rattle.state_boxes.specs.declared.sums.Sum.{Sum}
 use Rattle.state_boxes.specs.Extremes.{IsExtremes}
-use Rattle.state_boxes.specs.Sums.{greatest_count, IsFew, IsRise, IsSmall, IsSum}
+use Rattle.state_boxes.specs.Sums.{greatest_count, IsFew, IsRise, IsSmallSum, IsSum}
 use Rattle.state_boxes.proofs.Counts.{others_share, own_share, other_share, most_is}
 use Rattle.state_boxes.proofs.Summed.{sum_small, extremes_few, some_span}
 
@@ -24,7 +24,7 @@ most_sum T B s i k lt =
 
 -- What the sum, the train's own extremes in its range and its share after the rise make together.
 pub record IsRoom (T : Table) (B : List Range) (i : ℕ) (r : Rise) (sum : Sum) (own : Extremes) : Type 0 where
-  pub small : IsSmall sum
+  pub small : IsSmallSum sum
   pub few : IsFew own
   pub low : pos 0 ≤ℤ r.share
   pub high : r.share ≤ℤ pos 4
@@ -49,7 +49,7 @@ room T B i r q sum own table boxed lt rise same is extremes =
 
 -- The same where the train has one place, that of the rise.
 pub record IsRoomFromOne (T : Table) (B : List Range) (i : ℕ) (r : Rise) (sum : Sum) : Type 0 where
-  pub small : IsSmall sum
+  pub small : IsSmallSum sum
   pub low : pos 0 ≤ℤ r.by
   pub high : r.by ≤ℤ pos 4
   pub most : sum.greatest +ℤ r.by ≡ most_with T B r.section i (r.place + 1)

@@ -6,7 +6,7 @@ use Rattle.rail_model.specs.Certificate.{Range}
 use Rattle.state_boxes.specs.declared.moves.Reason.TheVariants.{Unknown, AtEnd, Blocked, Full}
 use Rattle.state_boxes.specs.declared.rises.Rise.{Rise}
 use Rattle.state_boxes.specs.Extremes.{IsQuiet, AreListed, AreShared, AreMembers}
-use Rattle.state_boxes.specs.Reasons.{Tells}
+use Rattle.state_boxes.specs.Reasons.{TellsStanding}
 use Rattle.state_boxes.specs.Sums.{rises_at, AreSteps, AreRises, IsRise, is_tight, AreAllMembers}
 
 -- section 0 counts both trains: T0 as 1 at its first two places and as 3 at its last, T1 as 1 at its last;
@@ -155,14 +155,14 @@ not_there : is_tight narrow (spans 0 0) 0 rise_0 ≡ false
 not_there = refl
 
 -- a train at its end and a blocked one have no move; a rise and an unknown reason tell nothing
-end_tells : Tells AtEnd
+end_tells : TellsStanding AtEnd
 end_tells = tt
 
-block_tells : Tells (Blocked (record { place = 0; spot = record { train = 1; place = 2 } }))
+block_tells : TellsStanding (Blocked (record { place = 0; spot = record { train = 1; place = 2 } }))
 block_tells = tt
 
-rise_tells_not : Tells (Full (record { place = 1; number = 0 })) → ⊥
+rise_tells_not : TellsStanding (Full (record { place = 1; number = 0 })) → ⊥
 rise_tells_not tells = tells
 
-unknown_tells_not : Tells Unknown → ⊥
+unknown_tells_not : TellsStanding Unknown → ⊥
 unknown_tells_not tells = tells

@@ -12,7 +12,7 @@ use Rattle.rail_model.proofs.Sums.{total_step, not_below_least, least_le, le_gre
 use Rattle.state_boxes.specs.declared.extremes.Extremes.{Extremes}
 use Rattle.state_boxes.specs.declared.sums.Sum.{Sum}
 use Rattle.state_boxes.specs.Extremes.{nothing, joined, IsExtremes, IsRow, TrainShares, IsTrainShares, reach}
-use Rattle.state_boxes.specs.Sums.{no_sum, IsSum, IsFew, IsSmall}
+use Rattle.state_boxes.specs.Sums.{no_sum, IsSum, IsFew, IsSmallSum}
 use Rattle.state_boxes.proofs.Joins.{extremes_join, not_above_greatest}
 
 -- the extremes of a span from those of its front and its back
@@ -58,7 +58,7 @@ box_few T B s i table boxed s_in lt =
     (record { least_is = refl; greatest_is = refl })
 
 -- the sums of a table are small
-pub sum_small : (T : Table) (B : List Range) (s : ℕ) (sum : Sum) → IsTable T → IsBox T B → s < length T.sections → IsSum T B s sum → IsSmall sum
+pub sum_small : (T : Table) (B : List Range) (s : ℕ) (sum : Sum) → IsTable T → IsBox T B → s < length T.sections → IsSum T B s sum → IsSmallSum sum
 sum_small T B s sum table boxed s_in is =
     let few = table.few_trains in
     let low = total_low (least_share T B s) (trains T) (λ i lt. let e = box_few T B s i table boxed s_in lt in (e.least_low, e.least_high)) in

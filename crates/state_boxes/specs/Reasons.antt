@@ -14,8 +14,8 @@ Holds T B i (Blocked b) = MayBlock T B i b.spot.train
 Holds T B i (Full k) = Unit {0}
 
 -- Where the reason holds, it tells that the train may have no move.
-abbrev pub Tells : Reason → Type 0
-Tells Unknown = ⊥
-Tells AtEnd = Unit {0}
-Tells (Blocked b) = Unit {0}
-Tells (Full k) = ⊥
+abbrev pub TellsStanding : Reason → Type 0
+TellsStanding Unknown = ⊥
+TellsStanding AtEnd = Unit {0}
+TellsStanding (Blocked b) = Unit {0}
+TellsStanding (Full k) = ⊥

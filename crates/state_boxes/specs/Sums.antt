@@ -24,7 +24,7 @@ pub record IsSum (T : Table) (B : List Range) (s : ℕ) (sum : Sum) : Type 0 whe
   pub greatest_is : sum.greatest ≡ greatest_count T B s
 
 -- No sum is below 0 or above four for each of 32 trains.
-pub record IsSmall (sum : Sum) : Type 0 where
+pub record IsSmallSum (sum : Sum) : Type 0 where
   pub least_low : pos 0 ≤ℤ sum.least
   pub least_high : sum.least ≤ℤ pos 128
   pub greatest_low : pos 0 ≤ℤ sum.greatest

@@ -5,7 +5,7 @@ ghost use Rattle.rail_model.specs.Table.{trains, last};
 ghost use Rattle.rail_model.specs.Certificate.{range, IsBox, IsGood, full_box as full_box_of};
 ghost use Rattle.state_boxes.specs.Each.{IsEach};
 ghost use Rattle.state_boxes.specs.Extremes.{IsShares};
-ghost use Rattle.state_boxes.specs.Sums.{no_sum, IsSum, IsFew, IsSmall, AreSums};
+ghost use Rattle.state_boxes.specs.Sums.{no_sum, IsSum, IsFew, IsSmallSum, AreSums};
 
 use crate::extremes::Extremes;
 use crate::shares::extremes_in;
@@ -54,7 +54,7 @@ fn sum_of(table: &Table, ranges: &Ranges, section: u32) -> Sum
 
 // A section's sums after the extremes of one train have changed.
 fn moved(sum: Sum, old: Extremes, new: Extremes) -> Sum
-    requires sum { IsSmall sum }
+    requires sum { IsSmallSum sum }
     requires old { IsFew old }
     requires new { IsFew new }
     ensures least { result.least ≡ sum.least +ℤ (new.least -ℤ old.least) }

@@ -4,7 +4,7 @@ use Rattle.rail_model.specs.Names.{Names, point_name}
 use Rattle.rail_model.specs.Table.{Table, trains, point}
 
 -- Each train and each point of the table has a name.
-pub record IsNamed (N : Names) (T : Table) : Type 0 where
+pub record HasNames (N : Names) (T : Table) : Type 0 where
   pub trains : length N.trains ≡ trains T
   pub points : (i k q : ℕ) → point T i k ≡ Some q → q < length N.points
 

@@ -5,7 +5,7 @@ ghost use Rattle.rail_model.specs.Table.{IsTable, trains, last, place as place_o
 ghost use Rattle.rail_model.specs.State.{Legal};
 ghost use Rattle.rail_model.specs.Move.{Answers};
 ghost use Rattle.rail_model.specs.Checks.{ask};
-ghost use Rattle.state_sentences.specs.Named.{IsNamed, name_at};
+ghost use Rattle.state_sentences.specs.Named.{HasNames, name_at};
 
 use legal_state::can_move;
 use rail_model::{Ask, Names, State, Table, point_of, trains_of};
@@ -18,7 +18,7 @@ pub struct Scene<'a> {
     pub state: &'a State,
     ghost formed: { IsTable table.now },
     ghost legal: { Legal table.now state.now },
-    ghost named: { IsNamed names.now table.now },
+    ghost named: { HasNames names.now table.now },
 }
 
 impl<'a> Scene<'a> {

@@ -3,13 +3,13 @@ use Rattle.std.proofs.Common.{◌≡◌, ◌∙◌, ℕ, List, ◌++◌, Ok, sym
 use Rattle.layout_json.specs.Doc.{Doc}
 use Rattle.layout_json.specs.Reading.{doc_of}
 use Rattle.timed_reading.specs.Reads.{IsInputOf, IsReadFrom, IsTimedRun, ToldBy, mark}
-use Rattle.timed_reading.specs.Runs.{IsRunOf}
+use Rattle.timed_reading.specs.Runs.{IsToldRun}
 use Rattle.timed_reading.specs.declared.reading.Timed.{Timed}
 use Rattle.timed_reading.specs.declared.reading.Timed.TheVariants.{Run, Fault}
 
 -- what a journal tells is a run of the document
 pub told_is_run : (D : Doc) (journal : List ℕ) (timed : Timed) → ToldBy D journal timed → IsTimedRun timed
-told_is_run D journal (Run doc run) told = subst (λ (d : Doc). IsRunOf d run) (sym told.0) (record { lines = told.1.lines; tells = told.1.tells })
+told_is_run D journal (Run doc run) told = subst (λ (d : Doc). IsToldRun d run) (sym told.0) (record { lines = told.1.lines; tells = told.1.tells })
 told_is_run D journal (Fault words) told = tt
 
 -- and the input is its text

@@ -9,7 +9,7 @@ use Rattle.rail_model.specs.Names.{Names}
 use Rattle.move_journal.specs.Answers.{IsFrontOf, IsTextOf}
 use Rattle.move_journal.specs.Printable.{IsPrintable, ArePrintable}
 use Rattle.timed_reading.specs.declared.ticks.Timed.{Timed}
-use Rattle.timed_reading.specs.Told.{line_of, ticked, ticked_text, moves_in, tables_in, last_tick, last_text, IsLine, IsTicked, IsOneMore, IsTimedText}
+use Rattle.timed_reading.specs.Told.{line_of, ticked, ticked_text, moves_in, tables_in, last_tick, last_text, IsLineAfterTick, IsTicked, IsOneMore, IsTimedText}
 
 -- the text of one line more
 ticked_more : (N : Names) (lines : List Timed) (t : Timed) → ticked_text N (lines ++ t ∷ []) ≡ ticked_text N lines ++ (ticked N t ++ codes "\n")
@@ -54,11 +54,11 @@ module _ (N : Names) (bytes : List ℕ) where
     }
 
 -- a line with its tick
-pub is_ticked : (N : Names) (bytes rest : List ℕ) (t : Timed) → bytes ≡ decimal t.tick ++ 32 ∷ rest → IsLine N (32 ∷ rest) t.line → IsTicked N bytes t
+pub is_ticked : (N : Names) (bytes rest : List ℕ) (t : Timed) → bytes ≡ decimal t.tick ++ 32 ∷ rest → IsLineAfterTick N (32 ∷ rest) t.line → IsTicked N bytes t
 is_ticked N bytes rest t cut is = record { printable = is.printable; text = cut ∙ ap (λ (left : List ℕ). decimal t.tick ++ left) is.text }
 
 -- the only line of a journal whose text was made of some bytes
-pub only_line_is : (N : Names) (bytes made : List ℕ) (J : Journal) (l : Line) → made ≡ codes "1 " ++ bytes ++ codes "\n" → IsFrontOf N made J → J.lines ≡ l ∷ [] → IsLine N (32 ∷ bytes) l
+pub only_line_is : (N : Names) (bytes made : List ℕ) (J : Journal) (l : Line) → made ≡ codes "1 " ++ bytes ++ codes "\n" → IsFrontOf N made J → J.lines ≡ l ∷ [] → IsLineAfterTick N (32 ∷ bytes) l
 only_line_is N bytes made J l made_of front only =
     let told : codes "1 " ++ bytes ++ codes "\n" ≡ decimal 1 ++ words N l ++ codes "\n" =
     sym made_of ∙ front.text ∙ ap (lines_text N 1) only ∙ append-nil (decimal 1 ++ words N l ++ codes "\n") in

@@ -3,7 +3,7 @@ use Rattle.std.specs.Prelude.{◌≡◌, ℕ, List, ◌++◌, codes, Ok}
 use Rattle.layout_json.specs.Doc.{Doc, names_of}
 use Rattle.layout_json.specs.Reading.{doc_of}
 use Rattle.run_timetable.specs.declared.run.Run.{Run as RunValue}
-use Rattle.timed_reading.specs.Runs.{IsRunOf, IsToldIn, TellsRun}
+use Rattle.timed_reading.specs.Runs.{IsToldRun, IsToldIn, TellsRun}
 use Rattle.timed_reading.specs.Told.{timed_text}
 use Rattle.timed_reading.specs.declared.reading.Timed.{Timed}
 use Rattle.timed_reading.specs.declared.reading.Timed.TheVariants.{Run, Fault}
@@ -11,7 +11,7 @@ use Rattle.timed_reading.specs.declared.ticks.Timed.{Timed as TimedLine}
 
 -- The run is one of the document, and of its journal.
 abbrev pub IsTimedRun : Timed → Type 0
-IsTimedRun (Run doc run) = IsRunOf doc run
+IsTimedRun (Run doc run) = IsToldRun doc run
 IsTimedRun (Fault words) = Unit {0}
 
 -- the line between a document and a journal, with the newline before it

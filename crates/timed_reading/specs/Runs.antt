@@ -66,7 +66,7 @@ pub record TellsRun (D : Doc) (lines : List Timed) (run : Run) : Type 0 where
   pub in_range : All (IsStepIn (names_of D)) run.steps.items
 
 -- Some lines tell the run.
-pub record IsRunOf (D : Doc) (run : Run) : Type 0 where
+pub record IsToldRun (D : Doc) (run : Run) : Type 0 where
   pub lines : List Timed
   pub tells : TellsRun D lines run
 

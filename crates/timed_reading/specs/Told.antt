@@ -47,7 +47,7 @@ pub record IsTicked (N : Names) (bytes : List ℕ) (t : Timed) : Type 0 where
   pub text : bytes ≡ ticked N t
 
 -- The bytes are a line without its tick, from the space after that on.
-pub record IsLine (N : Names) (bytes : List ℕ) (l : Line) : Type 0 where
+pub record IsLineAfterTick (N : Names) (bytes : List ℕ) (l : Line) : Type 0 where
   pub printable : IsPrintable N l
   pub text : bytes ≡ words N l
 

@@ -2,7 +2,7 @@
 ghost use Rattle.std.specs.Prelude.{◌≡◌, ◌<◌, ◌++◌, ◌∷◌, [], IfOk, IfSome, OnOk, codes, decimal, length};
 ghost use Rattle.rail_model.specs.Journal.{end_text};
 ghost use Rattle.timed_reading.specs.Told as spec;
-ghost use Rattle.timed_reading.specs.Told.{IsLine, IsOneMore, IsTimedText, last_text, moves_in, tables_in};
+ghost use Rattle.timed_reading.specs.Told.{IsLineAfterTick, IsOneMore, IsTimedText, last_text, moves_in, tables_in};
 
 use crate::faults::{Fault, LineFault};
 use crate::parts::split_once;
@@ -121,7 +121,7 @@ fn ticked(words: &[u8]) -> Option<(u32, &[u8])>
 
 // The line that words are, if they are one.
 fn line_in(alloc: Global, names: &Names, words: &[u8]) -> Result<Option<Line>, AllocError>
-    ensures { IfOk result (λ found. IfSome found (IsLine names.now (32 ∷ words.now))) }
+    ensures { IfOk result (λ found. IfSome found (IsLineAfterTick names.now (32 ∷ words.now))) }
 {
     let mut text = Vec::new(alloc);
     text.extend_from_slice(FIRST)?;

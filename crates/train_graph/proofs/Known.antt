@@ -6,10 +6,10 @@ use Rattle.std.proofs.lemmas.Bool.{cases_lt}
 use Rattle.std.proofs.lemmas.List.{map-append, get_or-map, get_or-reverse, get_or_default, length-map, length-reverse}
 use Rattle.std.proofs.lemmas.List.Elements.{Contains-append_left, Contains-push}
 use Rattle.train_graph.specs.declared.order.Depth.{Depth}
-use Rattle.train_graph.specs.Rows.{points_of, IsDepthKnown, Keeps, KnowsBehind, KnowsWay}
+use Rattle.train_graph.specs.Rows.{points_of, IsDepthKnown, StaysKnown, KnowsBehind, KnowsWay}
 
 -- a point stays known when one more is added
-pub known_more : (depths : List Depth) (d : Depth) → Keeps depths (depths ++ d ∷ [])
+pub known_more : (depths : List Depth) (d : Depth) → StaysKnown depths (depths ++ d ∷ [])
 known_more depths d p known =
     subst (λ (points : List ℕ). Contains points p) (sym (map-append (λ e. e.point) depths (d ∷ []))) (Contains-append_left (points_of depths) (d.point ∷ []) p known)
 
@@ -25,7 +25,7 @@ known_at depths k d lt here =
 
 -- one more point of a way that begins below all others
 pub fresh_more : (before now after : List Depth) (d : Depth) (way : List ℕ) (i : ℕ) → after ≡ now ++ d ∷ [] → d.point ≡ get_or way i 0
-    → Keeps before now → (0 < i → IsDepthKnown now (get_or way 0 0)) → Keeps before after × (0 < i + 1 → IsDepthKnown after (get_or way 0 0))
+    → StaysKnown before now → (0 < i → IsDepthKnown now (get_or way 0 0)) → StaysKnown before after × (0 < i + 1 → IsDepthKnown after (get_or way 0 0))
 fresh_more before now after d way i grown here kept first = (
   λ p known. onto p (known_more now d p (kept p known)),
   λ some. elim (cases_lt 0 i) [
@@ -40,19 +40,19 @@ fresh_more before now after d way i grown here kept first = (
     onto p = subst (λ (depths : List Depth). IsDepthKnown depths p) (sym grown)
 
 -- a point that was known, or that is added
-pub still_known : (now after : List Depth) (p : ℕ) → after ≡ now → IsDepthKnown now p → Keeps now after × IsDepthKnown after p
+pub still_known : (now after : List Depth) (p : ℕ) → after ≡ now → IsDepthKnown now p → StaysKnown now after × IsDepthKnown after p
 still_known now after p same known =
     let onto = λ (q : ℕ) (k : IsDepthKnown now q). subst (λ (depths : List Depth). IsDepthKnown depths q) (sym same) k in
     (onto, onto p known)
 
-pub newly_known : (now after : List Depth) (d : Depth) (p : ℕ) → after ≡ now ++ d ∷ [] → d.point ≡ p → Keeps now after × IsDepthKnown after p
+pub newly_known : (now after : List Depth) (d : Depth) (p : ℕ) → after ≡ now ++ d ∷ [] → d.point ≡ p → StaysKnown now after × IsDepthKnown after p
 newly_known now after d p grown here =
     let onto = λ (q : ℕ) (k : IsDepthKnown (now ++ d ∷ []) q). subst (λ (depths : List Depth). IsDepthKnown depths q) (sym grown) k in
     (λ q k. onto q (known_more now d q k), onto p (subst (IsDepthKnown (now ++ d ∷ [])) here (known_last now d)))
 
 -- what holds after the first n points of a way
 pub record IsAlong (before now : List Depth) (way : List ℕ) (n : ℕ) (last : Option ℕ) : Type 0 where
-  pub kept : Keeps before now
+  pub kept : StaysKnown before now
   pub behind : KnowsBehind before now way n
   pub found : (j : ℕ) → j < n → IsDepthKnown before (get_or way j 0) → IsSome last
 
@@ -94,7 +94,7 @@ along_skips before now way n last depth along found none first = record {
 
 -- the next point is known afterwards
 pub along_goes : (before now after : List Depth) (way : List ℕ) (n : ℕ) (last next : Option ℕ) → IsAlong before now way n last
-    → Keeps now after → IsDepthKnown after (get_or way n 0) → (next ≡ None → ⊥) → IsAlong before after way (n + 1) next
+    → StaysKnown now after → IsDepthKnown after (get_or way n 0) → (next ≡ None → ⊥) → IsAlong before after way (n + 1) next
 along_goes before now after way n last next along keeps here some = record {
   kept = λ p known. keeps p (along.kept p known);
   behind = λ j k le lt known. elim (cases_lt k n) [
@@ -112,7 +112,7 @@ known_none depths p none (k, lt, here) =
 
 -- A way is known if one of its points was, and all after that one became known along it, and then along the way back.
 pub known_both_ways : (a b c : List Depth) (way : List ℕ) (m : ℕ) → m < length way → IsDepthKnown a (get_or way m 0)
-    → Keeps b c → KnowsBehind a b way (length way) → KnowsBehind b c (reverse way) (length (reverse way)) → KnowsWay c way
+    → StaysKnown b c → KnowsBehind a b way (length way) → KnowsBehind b c (reverse way) (length (reverse way)) → KnowsWay c way
 known_both_ways a b c way m within known keeps there back p (k, lt, here) = elim (cases_lt k m) [
   | inl before ↦
       let size : length (reverse way) ≡ length way = length-reverse way in

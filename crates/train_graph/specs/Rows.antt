@@ -26,8 +26,8 @@ abbrev pub IsDepthKnown : List Depth → ℕ → Type 0
 IsDepthKnown depths p = Contains (points_of depths) p
 
 -- What was known stays known.
-abbrev pub Keeps : List Depth → List Depth → Type 0
-Keeps before after = (p : ℕ) → IsDepthKnown before p → IsDepthKnown after p
+abbrev pub StaysKnown : List Depth → List Depth → Type 0
+StaysKnown before after = (p : ℕ) → IsDepthKnown before p → IsDepthKnown after p
 
 -- All points of a way are known.
 abbrev pub KnowsWay : List Depth → List ℕ → Type 0

@@ -2,7 +2,7 @@
 ghost use Rattle.std.specs.Prelude.{◌≡◌, ◌<◌, ◌≤◌, ◌↔◌, ℕ, false, IfOk, OnOk, IsSome, length, slice_index, vec_len};
 ghost use Rattle.std.specs.Bool.{OnTrue};
 ghost use Rattle.run_timetable.specs.Timetable.{trains_of};
-ghost use Rattle.train_graph.specs.Rows.{HasRows, IsDepthKnown, Keeps, KnowsBehind, KnowsWay, way_in};
+ghost use Rattle.train_graph.specs.Rows.{HasRows, IsDepthKnown, StaysKnown, KnowsBehind, KnowsWay, way_in};
 
 use run_timetable::Run;
 use std::alloc::{AllocError, Global};
@@ -57,7 +57,7 @@ fn push_trains(
     run: &Run,
     known: bool,
 ) -> Result<(), AllocError>
-    ensures kept { OnOk result (Keeps depths.old.items depths.new.items) }
+    ensures kept { OnOk result (StaysKnown depths.old.items depths.new.items) }
     ensures all { OnOk result (known ≡ false → (i : ℕ) → i < trains_of run.now.starts.items → KnowsWay depths.new.items (way_in run.now i)) }
 {
     for train in 0..run.trains() {
@@ -74,7 +74,7 @@ fn push_train(
     train: u32,
     known: bool,
 ) -> Result<(), AllocError>
-    ensures kept { OnOk result (Keeps depths.old.items depths.new.items) }
+    ensures kept { OnOk result (StaysKnown depths.old.items depths.new.items) }
     ensures all { OnOk result (known ≡ false → KnowsWay depths.new.items (way_in run.now train)) }
 {
     let mut way = way_of(alloc, run, train)?;
@@ -142,7 +142,7 @@ fn has_known(depths: &[Depth], way: &[u32]) -> bool
 
 // Adds the points of a way: those after a known point, and then, from its end, those before one.
 fn push_way(depths: &mut Vec<Depth>, way: &mut [u32]) -> Result<(), AllocError>
-    ensures kept { OnOk result (Keeps depths.old.items depths.new.items) }
+    ensures kept { OnOk result (StaysKnown depths.old.items depths.new.items) }
     ensures all { OnOk result (KnowsWay depths.new.items way.old) }
 {
     if !has_known(depths, way) {
@@ -164,7 +164,7 @@ fn next_depth(depths: &[Depth]) -> u64 {
 
 // Adds the points of a way without known ones below all others, up to the first that comes again.
 fn push_fresh(depths: &mut Vec<Depth>, way: &[u32]) -> Result<(), AllocError>
-    ensures kept { OnOk result (Keeps depths.old.items depths.new.items) }
+    ensures kept { OnOk result (StaysKnown depths.old.items depths.new.items) }
     ensures first { OnOk result (0 < length way.now → IsDepthKnown depths.new.items (slice_index way.now 0)) }
 {
     let mut depth = next_depth(depths);
@@ -183,7 +183,7 @@ fn push_fresh(depths: &mut Vec<Depth>, way: &[u32]) -> Result<(), AllocError>
 
 // Adds the points after the first known one.
 fn push_along(depths: &mut Vec<Depth>, way: &[u32]) -> Result<(), AllocError>
-    ensures kept { OnOk result (Keeps depths.old.items depths.new.items) }
+    ensures kept { OnOk result (StaysKnown depths.old.items depths.new.items) }
     ensures behind { OnOk result (KnowsBehind depths.old.items depths.new.items way.now (length way.now)) }
 {
     let mut before: Option<u64> = None;

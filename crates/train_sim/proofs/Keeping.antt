@@ -18,14 +18,14 @@ use Rattle.table_exchange.specs.Tables.{AreTables, Stands}
 use Rattle.plain_yard.specs.Lines.{most_lines}
 use Rattle.plain_yard.proofs.Keeping.{few_moves}
 use Rattle.plain_yard.proofs.Turns.{falls, left}
-use Rattle.train_sim.specs.Steps.{Watched, Grants, IsKept, not_before}
+use Rattle.train_sim.specs.Steps.{Watched, Grants, IsTimedSoFar, not_before}
 use Rattle.train_sim.proofs.Waiting.{put_cases}
 
 -- all tables have the trains that have due ticks
-pub same_trains : (tables : List Offer) (y : Yard) (w : Watched) (lines : List Line) → AreTables tables → Stands tables y → IsKept tables y w lines → length w.due ≡ trains (in_force tables y)
+pub same_trains : (tables : List Offer) (y : Yard) (w : Watched) (lines : List Line) → AreTables tables → Stands tables y → IsTimedSoFar tables y w lines → length w.due ≡ trains (in_force tables y)
 same_trains tables y w lines are stands kept = kept.one_each ∙ sym (are.same y.table stands.in_range)
 
-pub low_due : (tables : List Offer) (y : Yard) (w : Watched) (lines : List Line) (i : ℕ) → AreTables tables → Stands tables y → IsTable (in_force tables y) → IsKept tables y w lines
+pub low_due : (tables : List Offer) (y : Yard) (w : Watched) (lines : List Line) (i : ℕ) → AreTables tables → Stands tables y → IsTable (in_force tables y) → IsTimedSoFar tables y w lines
     → i < trains (in_force tables y) → slice_index w.due i ≤ 4064000
 low_due tables y w lines i are stands formed kept i_in =
     omega (arith, kept.low i (omega (arith, same_trains tables y w lines are stands kept)), few_moves tables y stands formed)
@@ -34,13 +34,13 @@ low_due tables y w lines i are stands formed kept i_in =
 pub may_ask : (tables : List Offer) (y : Yard) (i : ℕ) (a : Ask) → Move (in_force tables y) y.positions i (advance y.positions i) → Answers (in_force tables y) y.positions i a → a ≡ Yes
 may_ask tables y i a move answer = told_once (in_force tables y) y.positions i a Yes move.before answer move
 
-pub room_granted : (tables : List Offer) (y : Yard) (w : Watched) (lines longer : List Line) (l : Line) → IsKept tables y w lines → longer ≡ lines ++ l ∷ [] → length longer ≤ most_lines → length w.ticks < most_lines
+pub room_granted : (tables : List Offer) (y : Yard) (w : Watched) (lines longer : List Line) (l : Line) → IsTimedSoFar tables y w lines → longer ≡ lines ++ l ∷ [] → length longer ≤ most_lines → length w.ticks < most_lines
 room_granted tables y w lines longer l kept adds few =
     let all : length longer ≡ length lines + 1 = ap length adds ∙ length-append lines (l ∷ []) in
     omega (arith, kept.counted)
 
-pub kept_granted : (tables : List Offer) (y : Yard) (w v : Watched) (lines longer : List Line) (l : Line) (i takes : ℕ) → IsKept tables y w lines → i < length w.due → Grants w i takes v → takes ≤ 1000
-    → longer ≡ lines ++ l ∷ [] → IsKept tables (moved y i) v longer
+pub kept_granted : (tables : List Offer) (y : Yard) (w v : Watched) (lines longer : List Line) (l : Line) (i takes : ℕ) → IsTimedSoFar tables y w lines → i < length w.due → Grants w i takes v → takes ≤ 1000
+    → longer ≡ lines ++ l ∷ [] → IsTimedSoFar tables (moved y i) v longer
 kept_granted tables y w v lines longer l i takes kept i_in g short adds =
     let tick : ℕ = slice_index w.due i in
     let due_length : length v.due ≡ length w.due = ap length g.due ∙ length-set g.later i (tick + takes) ∙ g.puts_off.0 in

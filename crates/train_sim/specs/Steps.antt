@@ -57,7 +57,7 @@ pub record Grants (w : Watched) (i takes : ℕ) (v : Watched) : Type 0 where
   pub ticks : v.ticks ≡ w.ticks ++ slice_index w.due i ∷ []
 
 -- One due tick per train, low enough after the moves made, and one tick per line.
-pub record IsKept (tables : List Offer) (y : Yard) (w : Watched) (lines : List Line) : Type 0 where
+pub record IsTimedSoFar (tables : List Offer) (y : Yard) (w : Watched) (lines : List Line) : Type 0 where
   pub one_each : length w.due ≡ trains (offer tables 0).table
   pub low : (i : ℕ) → i < length w.due → slice_index w.due i ≤ 1000 * y.moves
   pub counted : length w.ticks ≡ length lines

@@ -10,7 +10,7 @@ ghost use Rattle.table_exchange.specs.Tables.{Stands};
 ghost use Rattle.plain_yard.specs.Keeps.{Keeps};
 ghost use Rattle.plain_yard.specs.Lines.{most_lines};
 ghost use Rattle.train_sim.specs.Report.{HaveTimes};
-ghost use Rattle.train_sim.specs.Steps.{IsKept, Leads, MovesNext};
+ghost use Rattle.train_sim.specs.Steps.{IsTimedSoFar, Leads, MovesNext};
 
 use crate::mover::first_mover;
 use crate::watch::Watch;
@@ -19,14 +19,14 @@ use rail_model::{Ask, Times};
 
 // Tries the next table, and says whether it was due.
 fn try_next<A: CheckedTable>(run: &mut PlainYard<'_, A>, watch: &mut Watch) -> bool
-    requires { IsKept run.old.tables run.old.yard watch.old run.old.lines }
+    requires { IsTimedSoFar run.old.tables run.old.yard watch.old run.old.lines }
     ensures due { IsTrue result ↔ IsNextDue run.old.tables run.old.yard }
     ensures tried { run.new.yard.tried ≡ run.old.yard.tried + (if result then 1 else 0) }
     ensures stays { result ≡ false → run.new.yard ≡ run.old.yard }
     ensures leads { (times : List (List (List ℕ))) → Leads run.old.tables times run.old.yard watch.old run.old.lines run.new.yard watch.new run.new.lines }
     ensures formed { IsTable (in_force run.new.tables run.new.yard) }
     ensures stands { Stands run.new.tables run.new.yard }
-    ensures kept { IsKept run.new.tables run.new.yard watch.new run.new.lines }
+    ensures kept { IsTimedSoFar run.new.tables run.new.yard watch.new run.new.lines }
     ensures tables { run.new.tables ≡ run.old.tables }
 {
     if !has_answer(run.try_table()) {
@@ -38,13 +38,13 @@ fn try_next<A: CheckedTable>(run: &mut PlainYard<'_, A>, watch: &mut Watch) -> b
 
 // Tries tables as long as the next one is due.
 fn try_due<A: CheckedTable>(run: &mut PlainYard<'_, A>, watch: &mut Watch)
-    requires { IsKept run.old.tables run.old.yard watch.old run.old.lines }
+    requires { IsTimedSoFar run.old.tables run.old.yard watch.old run.old.lines }
     ensures moved { (run.new.yard ≡ run.old.yard) ⊎ (run.old.yard.tried < run.new.yard.tried) }
     ensures leads { (times : List (List (List ℕ))) → Leads run.old.tables times run.old.yard watch.old run.old.lines run.new.yard watch.new run.new.lines }
     ensures none { IsNextDue run.new.tables run.new.yard → ⊥ }
     ensures formed { IsTable (in_force run.new.tables run.new.yard) }
     ensures stands { Stands run.new.tables run.new.yard }
-    ensures kept { IsKept run.new.tables run.new.yard watch.new run.new.lines }
+    ensures kept { IsTimedSoFar run.new.tables run.new.yard watch.new run.new.lines }
     ensures tables { run.new.tables ≡ run.old.tables }
 {
     while try_next(run, watch) {}
@@ -52,7 +52,7 @@ fn try_due<A: CheckedTable>(run: &mut PlainYard<'_, A>, watch: &mut Watch)
 
 // The train that moves next; none where no train may move.
 fn next_mover<A: CheckedTable>(run: &PlainYard<'_, A>, watch: &Watch) -> Option<u32>
-    requires { IsKept run.now.tables run.now.yard watch.now run.now.lines }
+    requires { IsTimedSoFar run.now.tables run.now.yard watch.now run.now.lines }
     ensures next { MatchOption result ((i : ℕ) → Move (in_force run.now.tables run.now.yard) run.now.yard.positions i (advance run.now.yard.positions i) → ⊥)
         (λ train. MovesNext (in_force run.now.tables run.now.yard) run.now.yard.positions watch.now.due train) }
     ensures live { Live (in_force run.now.tables run.now.yard) }
@@ -95,14 +95,14 @@ fn move_next<A: CheckedTable>(
     times: &Times,
     train: u32,
 )
-    requires kept { IsKept run.old.tables run.old.yard watch.old run.old.lines }
+    requires kept { IsTimedSoFar run.old.tables run.old.yard watch.old run.old.lines }
     requires times { HaveTimes run.old.tables times.now }
     requires next { MovesNext (in_force run.old.tables run.old.yard) run.old.yard.positions watch.old.due train }
     requires undue { IsNextDue run.old.tables run.old.yard → ⊥ }
     requires formed { IsTable (in_force run.old.tables run.old.yard) }
     ensures moved { run.new.yard ≡ moved run.old.yard train }
     ensures leads { Leads run.old.tables times.now run.old.yard watch.old run.old.lines run.new.yard watch.new run.new.lines }
-    ensures kept { IsKept run.new.tables run.new.yard watch.new run.new.lines }
+    ensures kept { IsTimedSoFar run.new.tables run.new.yard watch.new run.new.lines }
     ensures tables { run.new.tables ≡ run.old.tables }
 {
     let takes = step_time(run, times, train);
@@ -112,7 +112,7 @@ fn move_next<A: CheckedTable>(
 
 /// Makes all that is left: tables as soon as they are due, and else the train that moves next.
 pub(crate) fn play<A: CheckedTable>(run: &mut PlainYard<'_, A>, watch: &mut Watch, times: &Times)
-    requires kept { IsKept run.old.tables run.old.yard watch.old run.old.lines }
+    requires kept { IsTimedSoFar run.old.tables run.old.yard watch.old run.old.lines }
     requires times { HaveTimes run.old.tables times.now }
     ensures done { IsDone run.new.tables run.new.yard }
     ensures leads { Leads run.old.tables times.now run.old.yard watch.old run.old.lines run.new.yard watch.new run.new.lines }

@@ -16,13 +16,13 @@ use Rattle.zone_yard.specs.Blocks.{needs, replies_of, granted_steps, CanAnswer, 
 use Rattle.zone_yard.specs.Views.{new_entries, pass_of}
 use Rattle.zone_yard.specs.Aboard.{IsIdle}
 use Rattle.zone_yard.specs.Tells.{Sat, Appends}
-use Rattle.zone_yard.specs.Holding.{Holds, Learns, StillOwes, Frees}
+use Rattle.zone_yard.specs.Holding.{HoldsZones, Learns, StillOwes, Frees}
 use Rattle.zone_yard.specs.Attempts.{IsBack, IsToldBlock}
 
 module _ (S : Setup) (id : TableId) (w : Wanted) (f : Footprint) (answer : BlockAsk) (ticket : ℕ) (held : List ℕ) (m0 m1 m2 m3 m4 m5 : Sat)
     (made : m0.0.setup ≡ S) (train : m0.0.number ≡ w.train) (aboard : m0.0.aboard ≡ true) (idle : IsIdle m0.0.actor.position m0.0.actor)
     (is : f ≡ needs S w m0.0.actor.position)
-    (holds : Holds m0 m1 held) (learns : Learns m1 m2) (known : number_of TableCell m2.0.actor.known ≡ Some w.table)
+    (holds : HoldsZones m0 m1 held) (learns : Learns m1 m2) (known : number_of TableCell m2.0.actor.known ≡ Some w.table)
     (appends : Appends w.steps m2 ticket m3) (tells : new_entries w.steps m2.0 ≡ told w.train (replies_of f.claim.steps answer))
     (stands : m3.0.actor.position ≡ m2.0.actor.position + granted_steps f.claim.steps answer) (stage : m3.0.actor.stage ≡ m2.0.actor.stage)
     (can : CanAnswer f.claim.steps answer) (pays : StillOwes m3 [] m4) (frees : Frees m4 m5) where

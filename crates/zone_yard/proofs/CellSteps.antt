@@ -20,8 +20,8 @@ use Rattle.zone_machine.proofs.Together.{step_sound}
 use Rattle.zone_machine.proofs.Words.{word_apart, cell_word}
 use Rattle.zone_yard.specs.Setup.{Setup, core}
 use Rattle.zone_yard.specs.Views.{View, glanced, read, read_table, paid}
-use Rattle.zone_yard.specs.Kept.{Kept}
-use Rattle.zone_yard.specs.Tells.{Sat, Glances, ReadsCell, ReadsTable, PaysCell}
+use Rattle.zone_yard.specs.Kept.{KeepsRule}
+use Rattle.zone_yard.specs.Tells.{Sat, Glances, ReadsCell, ReadsInForce, PaysCell}
 use Rattle.zone_yard.proofs.Apart.{found_apart}
 use Rattle.zone_yard.proofs.Keeps.{St, own_keeps, Stays}
 
@@ -39,28 +39,28 @@ same_word : (w : World) (i p : ℕ) (a : Actor) → with_actor w p a ≡ with_wo
 same_word w i p a = λ j. record { words = sym (set-get_or w.words i 0) j; history = w.history; actors = set w.actors p a }
 
 -- the table's word is one of a table
-pub table_low : (S : Setup) (s : St) (k : Kept S s) → word (core S) k.world TableCell < length S.tables
+pub table_low : (S : Setup) (s : St) (k : KeepsRule S s) → word (core S) k.world TableCell < length S.tables
 table_low S s k =
     let stands = stands_history S.tables S.opening.yard k.world.history k.formed.tables k.formed.opening k.sound.legal in
     let a = stands.in_range in
     let b = k.sound.lags in omega arith
 
 -- a load of a word by a pass, whose actor and notes change
-load_keeps : (S : Setup) (s : St) (k : Kept S s) (id i j : ℕ) (v v' : View) (c : List (ℕ × Unit {0})) → j ≡ 8 * i → get_elem? s.views id ≡ some v
+load_keeps : (S : Setup) (s : St) (k : KeepsRule S s) (id i j : ℕ) (v v' : View) (c : List (ℕ × Unit {0})) → j ≡ 8 * i → get_elem? s.views id ≡ some v
     → v.aboard ≡ true → Stays v v' → v'.actor.stage ≡ Aboard → v'.noted ≤ word (core S) k.world TableCell → Sound (core S) (with_actor k.world v.number v'.actor)
-    → Kept S (stepped s j (get_or s.words j 0) id c v' keeps)
+    → KeepsRule S (stepped s j (get_or s.words j 0) id c v' keeps)
 load_keeps S s k id i j v v' c is at aboard stays stage noted sound =
     let w : World = k.world in
     let n : ℕ = get_or s.words j 0 in
     let found : n ≡ get_or w.words i 0 = found_apart s.words w.words i j k.words is in
     let same : with_actor w v.number v'.actor ≡ with_word w i n v.number v'.actor = same_word w i v.number v'.actor ∙ ap (λ m. with_word w i m v.number v'.actor) (sym found) in
-    subst (λ x. Kept S (stepped s x n id c v' keeps)) (sym is)
+    subst (λ x. KeepsRule S (stepped s x n id c v' keeps)) (sym is)
     (own_keeps S s k id i n v v' c at aboard stays stage (subst (Sound (core S)) same sound)
     (subst (λ x. word (core S) w TableCell ≤ word (core S) x TableCell) same (omega arith))
     (subst (λ x. v'.noted ≤ word (core S) x TableCell) same noted))
 
 pub glance_allows : (S : Setup) → (slots id i : ℕ) (me : Sat) → i ≡ 8 * word_of (core S) TableCell → me.0.aboard ≡ true → me.0.actor.held ≡ []
-    → Allows (Kept S) slots id me i (λ n. n) (Glances (step slots i 0 0 none) me)
+    → Allows (KeepsRule S) slots id me i (λ n. n) (Glances (step slots i 0 0 none) me)
 glance_allows S slots id i me is aboard free s k _ at _ =
     let v : View = me.0 in
     let w : World = k.world in
@@ -83,7 +83,7 @@ glance_allows S slots id i me is aboard free s k _ at _ =
 
 -- the table in force is read under a zone
 pub read_table_allows : (S : Setup) → (slots id i : ℕ) (me : Sat) → i ≡ 8 * word_of (core S) TableCell → me.0.aboard ≡ true → me.0.actor.closing ≡ false
-    → may_read (core S) me.0.actor.held TableCell ≡ true → Allows (Kept S) slots id me i (λ n. n) (ReadsTable (step slots i 0 0 none) me)
+    → may_read (core S) me.0.actor.held TableCell ≡ true → Allows (KeepsRule S) slots id me i (λ n. n) (ReadsInForce (step slots i 0 0 none) me)
 read_table_allows S slots id i me is aboard still guard s k _ at _ =
     let v : View = me.0 in
     let w : World = k.world in
@@ -106,7 +106,7 @@ read_table_allows S slots id i me is aboard still guard s k _ at _ =
 
 -- a cell is read under its guard
 pub read_allows : (S : Setup) → (slots id i : ℕ) (c : Cell) (me : Sat) → i ≡ 8 * word_of (core S) c → me.0.aboard ≡ true → me.0.actor.closing ≡ false
-    → is_cell (core S) c ≡ true → may_read (core S) me.0.actor.held c ≡ true → Allows (Kept S) slots id me i (λ n. n) (ReadsCell c me)
+    → is_cell (core S) c ≡ true → may_read (core S) me.0.actor.held c ≡ true → Allows (KeepsRule S) slots id me i (λ n. n) (ReadsCell c me)
 read_allows S slots id i c me is aboard still cell guard s k _ at _ =
     let v : View = me.0 in
     let w : World = k.world in
@@ -156,7 +156,7 @@ table_rises S w p n c a a' ok sound is low due =
 
 -- an owed cell is written
 pub pay_allows : (S : Setup) → (slots id i n : ℕ) (c : Cell) (me : Sat) → i ≡ 8 * word_of (core S) c → me.0.aboard ≡ true
-    → number_of c me.0.actor.owed ≡ Some n → Allows (Kept S) slots id me i (λ _. n) (λ _. PaysCell c me)
+    → number_of c me.0.actor.owed ≡ Some n → Allows (KeepsRule S) slots id me i (λ _. n) (λ _. PaysCell c me)
 pay_allows S slots id i n c me is aboard due s k _ at _ =
     let v : View = me.0 in
     let w : World = k.world in
@@ -168,7 +168,7 @@ pay_allows S slots id i n c me is aboard due s k _ at _ =
       paid c v,
       keeps,
       tt,
-      subst (λ j. Kept S (stepped s j n id me.1 (paid c v) keeps)) (sym is)
+      subst (λ j. KeepsRule S (stepped s j n id me.1 (paid c v) keeps)) (sym is)
           (own_keeps S s k id (word_of (core S) c) n v (paid c v) me.1 at aboard record { setup = refl; aboard = aboard; number = refl; seen = refl; mine = refl; joined = refl } here.stage
           (step_sound (core S) w v.number (Pay c) seen.Done (with_word w (word_of (core S) c) n v.number a') k.formed k.sound (pays_it (core S) v.number n c w v.actor here.actor here.stage due))
           rises (omega arith)),

@@ -23,7 +23,7 @@ use Rattle.zone_yard.specs.Setup.{Setup, core, state_after, IsLegalHistory, most
 use Rattle.zone_yard.specs.Passes.{entries_of, done_of}
 use Rattle.zone_yard.specs.Views.{View, root_of}
 use Rattle.zone_yard.specs.Boarding.{Closes}
-use Rattle.zone_yard.specs.Kept.{Kept}
+use Rattle.zone_yard.specs.Kept.{KeepsRule}
 use Rattle.zone_yard.specs.Lines.{AreLeft}
 use Rattle.zone_yard.proofs.Keeps.{St}
 use Rattle.zone_yard.proofs.Closes.{seen_whole, words_are}
@@ -50,7 +50,7 @@ rows_are v rows formed legal left passes =
       low = subst (λ n. AreOf n v.seen) (sym left.wide) (low_of v.seen (low_history v.setup.tables v.setup.opening.yard v.seen (all_few v.setup formed) legal));
     }
 
-module _ (v : View) (s : St) (k : Kept v.setup s) (at : get_elem? s.views 0 ≡ some v) (nobody : v.out ≡ 0) where
+module _ (v : View) (s : St) (k : KeepsRule v.setup s) (at : get_elem? s.views 0 ≡ some v) (nobody : v.out ≡ 0) where
   abbrev S : Setup
   S = v.setup
 

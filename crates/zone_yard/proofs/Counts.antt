@@ -12,7 +12,7 @@ use Rattle.rail_model.specs.Yard.{Offer, Yard, offer, after_entry, IsAnswer, IsH
 use Rattle.zone_machine.specs.Sound.{IsSetup as IsCoreSetup}
 use Rattle.zone_yard.specs.Setup.{Setup, core, most_passes}
 use Rattle.zone_yard.specs.Passes.{entries_from, entries_of}
-use Rattle.zone_yard.specs.Kept.{Kept}
+use Rattle.zone_yard.specs.Kept.{KeepsRule}
 use Rattle.zone_yard.proofs.Keeps.{St}
 
 -- Each entry is of a pass that there can be.
@@ -93,7 +93,7 @@ all_few S formed t = elim (cases_lt t (length S.tables)) [
 ]
 
 -- a pass that may make this many entries more finds room for them in the history
-pub bounded : (S : Setup) (s : St) (kept : Kept S s) (p more : ℕ) → p < most_passes → length (entries_of p kept.world.history) + more ≤ S.calls
+pub bounded : (S : Setup) (s : St) (kept : KeepsRule S s) (p more : ℕ) → p < most_passes → length (entries_of p kept.world.history) + more ≤ S.calls
     → length kept.world.history + more ≤ most_passes * S.calls
 bounded S s kept p more low room =
     let H = kept.world.history in

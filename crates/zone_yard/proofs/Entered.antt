@@ -23,7 +23,7 @@ use Rattle.zone_machine.specs.World.{Setup as CoreSetup, Actor, World, actor, go
 use Rattle.zone_machine.specs.Entries.{known_table, appended, own_claim, answer, tried, driver_after, control_after}
 use Rattle.rail_model.specs.Blocks.{block_entries}
 use Rattle.zone_machine.specs.Steps.{room_for, step_of, missing_zone, unknown_cell}
-use Rattle.zone_machine.specs.Ready.{IsReady}
+use Rattle.zone_machine.specs.Ready.{IsReadyToTry}
 use Rattle.zone_machine.specs.ControlAsked.{IsTold}
 use Rattle.zone_machine.specs.Needs.{zones, cells}
 use Rattle.zone_machine.specs.Sound.{Sound, IsSetup as IsCoreSetup}
@@ -34,7 +34,7 @@ use Rattle.zone_yard.specs.Core.{MayEnter}
 use Rattle.zone_yard.specs.Setup.{Setup, core, most_passes, state_after, IsLegalHistory}
 use Rattle.zone_yard.specs.Passes.{StartsWith, entries_from, entries_of, receipts_from, standing}
 use Rattle.zone_yard.specs.Views.{View, new_entries, actor_after, entered}
-use Rattle.zone_yard.specs.Kept.{Kept, Fits, IsPassNumber}
+use Rattle.zone_yard.specs.Kept.{KeepsRule, Fits, IsPassNumber}
 use Rattle.zone_yard.specs.Tells.{Sat, Appends}
 use Rattle.zone_yard.proofs.Apart.{found_apart, spread-set}
 use Rattle.zone_yard.proofs.Lists.{by_set, set_here, starts_itself, starts_on, same_of}
@@ -114,7 +114,7 @@ pub stage_after : (steps : ℕ) (v : View) → (actor_after steps v).stage ≡ v
 stage_after steps v = same_of (λ (a : Actor). a.stage) v.actor.stage (v.number == control) (control_after (core v.setup) v.actor) (driver_after (core v.setup) v.number v.actor steps) refl refl
 
 -- the core lets a pass that is ready make its entry
-may_enter : (S : CoreSetup) (w : World) (p steps : ℕ) (a : Actor) → IsReady S p a steps → length w.history + room_for S p a steps ≤ S.most → actor w p ≡ a → a.stage ≡ Aboard
+may_enter : (S : CoreSetup) (w : World) (p steps : ℕ) (a : Actor) → IsReadyToTry S p a steps → length w.history + room_for S p a steps ≤ S.most → actor w p ≡ a → a.stage ≡ Aboard
     → (step : Step) × (seen : Seen) × (step_of S p w step ≡ Ok (seen, appended w (cond (p == control) (record { who = p; reply = Control (tried S a) } ∷ []) (block_entries p (own_claim S p a steps).steps (answer S p a steps))) p (cond (p == control) (control_after S a) (driver_after S p a steps))))
 may_enter S w p steps a ready room is aboard =
     let to : Bool → World =
@@ -132,7 +132,7 @@ may_enter S w p steps a ready room is aboard =
     ))
 
 -- the control that is ready may be told of the next table
-told_ready : (S : CoreSetup) (w : World) (p steps : ℕ) (a : Actor) → IsCoreSetup S → Sound S w → IsReady S p a steps → slice_get w.actors p ≡ Some a → p ≡ control → IsTold S a
+told_ready : (S : CoreSetup) (w : World) (p steps : ℕ) (a : Actor) → IsCoreSetup S → Sound S w → IsReadyToTry S p a steps → slice_get w.actors p ≡ Some a → p ≡ control → IsTold S a
 told_ready S w p steps a ok s ready at e =
     let one = ready.one e in
     let held : missing_zone a (zones S control a (known_table a) 1) ≡ None = subst (λ (x : ℕ × ℕ). missing_zone a (zones S x.0 a (known_table a) x.1) ≡ None) (λ i. (e i, one i)) ready.held in
@@ -141,7 +141,7 @@ told_ready S w p steps a ok s ready at e =
     (find-none (λ c. is_none (number_of c a.known)) (cells S control a (known_table a) 1) TableCell known (inl refl)) held known (ready.more e)
 
 pub append_allows : (S : Setup) → (slots id k steps : ℕ) (me : Sat) → me.0.aboard ≡ true → k ≡ length (new_entries steps me.0) → MayEnter S steps me.0
-    → Allows (Kept S) slots id me 0 (λ n. (n + k) % 2 ^ 64) (Appends steps me)
+    → Allows (KeepsRule S) slots id me 0 (λ n. (n + k) % 2 ^ 64) (Appends steps me)
 append_allows S slots id k steps me aboard count may s kept _ at _ =
     let v : View = me.0 in
     let w : World = kept.world in
@@ -154,7 +154,7 @@ append_allows S slots id k steps me aboard count may s kept _ at _ =
     let low = here.low in
     let long : length w.actors ≡ 33 = kept.sound.actors in
     let most : ℕ = room_for (core v.setup) v.number v.actor steps in
-    let ready = subst (λ (T : Setup). IsReady (core T) v.number v.actor steps) (sym here.setup) may.0 in
+    let ready = subst (λ (T : Setup). IsReadyToTry (core T) v.number v.actor steps) (sym here.setup) may.0 in
     let left : length v.mine + most ≤ S.calls = subst (λ (T : Setup). length v.mine + room_for (core T) v.number v.actor steps ≤ S.calls) (sym here.setup) may.1 in
     let fewer : length es ≤ most = new_few (core v.setup) steps v.number v.actor in
     let few = bounded S s kept v.number most here.low (omega (arith, ap length here.own, left)) in
@@ -185,7 +185,7 @@ append_allows S slots id k steps me aboard count may s kept _ at _ =
       v',
       keeps,
       tt,
-      subst (λ n. Kept S (stepped s 0 n id me.1 v' keeps)) (sym next) record {
+      subst (λ n. KeepsRule S (stepped s 0 n id me.1 v' keeps)) (sym next) record {
         formed = kept.formed;
         few_calls = kept.few_calls;
         world = w';

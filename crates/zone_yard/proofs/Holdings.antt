@@ -11,11 +11,11 @@ use Rattle.zone_yard.specs.Setup.{core}
 use Rattle.zone_yard.specs.Passes.{Try, StartsWith}
 use Rattle.zone_yard.specs.Views.{took, gave}
 use Rattle.zone_yard.specs.Tells.{Sat}
-use Rattle.zone_yard.specs.Holding.{span, Holds, Gives}
+use Rattle.zone_yard.specs.Holding.{span, HoldsZones, GivesBack}
 use Rattle.zone_yard.proofs.Spans.{span_next, span_skip, given_back, not_needed}
 
 -- a zone is held besides
-pub takes_one : (z : ℕ) (held : List ℕ) (old l new : Sat) → Holds old l held → new ≡ (took z l.0, l.1) → Holds old new (held ++ z ∷ [])
+pub takes_one : (z : ℕ) (held : List ℕ) (old l new : Sat) → HoldsZones old l held → new ≡ (took z l.0, l.1) → HoldsZones old new (held ++ z ∷ [])
 takes_one z held old l new h is =
     let t : Try = record { zone = z; found = 0; glanced = option_map_or (λ t. t) l.0.actor.glance 0 } in
     let was : Sat = (record old.0 { tries = l.0.tries; actor = record old.0.actor { held = held } }, old.1) in
@@ -27,24 +27,24 @@ takes_one z held old l new h is =
     }
 
 -- what is held after one row of tries, and then another
-pub holds_on : (held more : List ℕ) (old m new : Sat) → Holds old m held → Holds m new more → Holds old new more
+pub holds_on : (held more : List ℕ) (old m new : Sat) → HoldsZones old m held → HoldsZones m new more → HoldsZones old new more
 holds_on held more old m new h k = record {
   tries = (h.tries.0 ++ k.tries.0, k.tries.1 ∙ (ap (λ x. x ++ k.tries.0) h.tries.1 ∙ append_assoc old.0.tries h.tries.0 k.tries.0));
   now = k.now ∙ ap (λ (x : Sat). (record x.0 { tries = new.0.tries; actor = record x.0.actor { held = more } }, x.1)) h.now;
 }
 
-pub takes_more : (needed : List ℕ) (z : ℕ) (old l new : Sat) → Holds old l (span needed 0 z) → has z needed ≡ true → new ≡ (took z l.0, l.1) → Holds old new (span needed 0 (z + 1))
-takes_more needed z old l new h wanted is = subst (Holds old new) (sym (span_next needed z wanted)) (takes_one z (span needed 0 z) old l new h is)
+pub takes_more : (needed : List ℕ) (z : ℕ) (old l new : Sat) → HoldsZones old l (span needed 0 z) → has z needed ≡ true → new ≡ (took z l.0, l.1) → HoldsZones old new (span needed 0 (z + 1))
+takes_more needed z old l new h wanted is = subst (HoldsZones old new) (sym (span_next needed z wanted)) (takes_one z (span needed 0 z) old l new h is)
 
 -- a zone was waited for, which comes after those that are held
-pub waits_more : (needed : List ℕ) (z : ℕ) (old l new : Sat) → Holds old l (span needed 0 z) → has z needed ≡ true → Holds l new (l.0.actor.held ++ z ∷ [])
-    → Holds old new (span needed 0 (z + 1))
+pub waits_more : (needed : List ℕ) (z : ℕ) (old l new : Sat) → HoldsZones old l (span needed 0 z) → has z needed ≡ true → HoldsZones l new (l.0.actor.held ++ z ∷ [])
+    → HoldsZones old new (span needed 0 (z + 1))
 waits_more needed z old l new h wanted k =
     let held : l.0.actor.held ++ z ∷ [] ≡ span needed 0 (z + 1) = ap (λ (m : Sat). m.0.actor.held ++ z ∷ []) h.now ∙ sym (span_next needed z wanted) in
-    holds_on (span needed 0 z) (span needed 0 (z + 1)) old l new h (subst (Holds l new) held k)
+    holds_on (span needed 0 z) (span needed 0 (z + 1)) old l new h (subst (HoldsZones l new) held k)
 
-pub takes_none : (needed : List ℕ) (z : ℕ) (old l : Sat) → Holds old l (span needed 0 z) → has z needed ≡ false → Holds old l (span needed 0 (z + 1))
-takes_none needed z old l h none = subst (Holds old l) (sym (span_skip needed z none)) h
+pub takes_none : (needed : List ℕ) (z : ℕ) (old l : Sat) → HoldsZones old l (span needed 0 z) → has z needed ≡ false → HoldsZones old l (span needed 0 (z + 1))
+takes_none needed z old l h none = subst (HoldsZones old l) (sym (span_skip needed z none)) h
 
 -- without a zone nothing is known
 forgets : (S : CoreSetup) (p : ℕ) → 0 < S.layout.zones → (known : List (Cell × ℕ)) → still_known S p [] known ≡ []
@@ -55,8 +55,8 @@ forgets S p zones (x ∷ xs) = go (may_read S [] x.0) refl (forgets S p zones xs
     go true e later = absurd (may_read-bare S x.0 zones e)
     go false e later = later
 
-pub gives_more : (needed : List ℕ) (k top : ℕ) (old l new : Sat) → k < top → 0 < l.0.setup.layout.zones → has k needed ≡ true → Gives needed k top old l → new ≡ (gave k l.0, l.1)
-    → Gives needed (k + 1) top old new
+pub gives_more : (needed : List ℕ) (k top : ℕ) (old l new : Sat) → k < top → 0 < l.0.setup.layout.zones → has k needed ≡ true → GivesBack needed k top old l → new ≡ (gave k l.0, l.1)
+    → GivesBack needed (k + 1) top old new
 gives_more needed k top old l new lt zones wanted g is =
     let was : Sat = (record old.0 { actor = record old.0.actor { held = span needed k (top - k); known = l.0.actor.known; closing = l.0.actor.closing; glance = l.0.actor.glance } }, old.1) in
     let at : new ≡ (gave k was.0, was.1) = is ∙ ap (λ (m : Sat). (gave k m.0, m.1)) g.now in
@@ -75,7 +75,7 @@ gives_more needed k top old l new lt zones wanted g is =
           ∙ (λ i. (record old.0 { actor = record old.0.actor { held = held i; known = sym known i; closing = sym closing i; glance = sym glance i } }, old.1));
     }
 
-pub gives_none : (needed : List ℕ) (k top : ℕ) (old l : Sat) → k < top → has k needed ≡ false → Gives needed k top old l → Gives needed (k + 1) top old l
+pub gives_none : (needed : List ℕ) (k top : ℕ) (old l : Sat) → k < top → has k needed ≡ false → GivesBack needed k top old l → GivesBack needed (k + 1) top old l
 gives_none needed k top old l lt none g =
     let held = not_needed needed k top lt none in
     record {

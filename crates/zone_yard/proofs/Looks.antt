@@ -12,7 +12,7 @@ use Rattle.zone_machine.specs.World.{World, Actor, gone, actor}
 use Rattle.zone_yard.specs.Setup.{Setup, core, most_passes, IsLegalHistory}
 use Rattle.zone_yard.specs.Passes.{StartsWith, IsAshore, entries_of, done_of}
 use Rattle.zone_yard.specs.Views.{View, looked}
-use Rattle.zone_yard.specs.Kept.{Kept, Fits, IsPassNumber, Rests, Sits}
+use Rattle.zone_yard.specs.Kept.{KeepsRule, Fits, IsPassNumber, Rests, Sits}
 use Rattle.zone_yard.specs.Tells.{Sat, Looks}
 use Rattle.zone_yard.proofs.Apart.{found_apart}
 use Rattle.zone_yard.proofs.Lists.{by_set, set_here, starts_itself}
@@ -21,21 +21,21 @@ use Rattle.zone_yard.proofs.Keeps.{St, IsIn, IsOut, root_is, low_number, sits_st
 use Rattle.zone_yard.proofs.Entered.{placed}
 
 -- with nobody out, each pass's entries are those that are done
-pub settled : (S : Setup) (s : St) (k : Kept S s) (v : View) → get_elem? s.views 0 ≡ some v → v.out ≡ 0 → (p : ℕ) → p < most_passes → entries_of p k.world.history ≡ done_of p v.done
+pub settled : (S : Setup) (s : St) (k : KeepsRule S s) (v : View) → get_elem? s.views 0 ≡ some v → v.out ≡ 0 → (p : ℕ) → p < most_passes → entries_of p k.world.history ≡ done_of p v.done
 settled S s k v at nobody p lt = ⊎_elim
     (λ (t : Rests k.world v p). t.own)
     (λ (t : Sits s.views p). absurd (none_aboard S s k v at nobody t.id t.view t.at t.aboard))
     ((root_is S s k v at).each p lt)
 
 -- who hasn't boarded is where the yard opened
-stays : (S : Setup) (s : St) (k : Kept S s) (v : View) → get_elem? s.views 0 ≡ some v → IsAshore S v.boarded k.world.history
+stays : (S : Setup) (s : St) (k : KeepsRule S s) (v : View) → get_elem? s.views 0 ≡ some v → IsAshore S v.boarded k.world.history
 stays S s k v at p actor_p off =
     let lt : p < length k.world.actors = omega (arith, low_number S s k p actor_p, k.sound.actors) in
     sym (placed S k.world p (actor k.world p) k.sound actor_p (slice_get-get_or k.world.actors p gone lt))
     ∙ ap (λ (a : Actor). a.position) ((root_is S s k v at).away p actor_p off).actor
 
 -- a pass that has never boarded has no entry
-unheard : (S : Setup) (s : St) (k : Kept S s) (v : View) → get_elem? s.views 0 ≡ some v → (p : ℕ) → IsPassNumber S p → has p v.boarded ≡ false → entries_of p k.world.history ≡ []
+unheard : (S : Setup) (s : St) (k : KeepsRule S s) (v : View) → get_elem? s.views 0 ≡ some v → (p : ℕ) → IsPassNumber S p → has p v.boarded ≡ false → entries_of p k.world.history ≡ []
 unheard S s k v at p actor ashore =
     let r = root_is S s k v at in
     ⊎_elim
@@ -43,8 +43,8 @@ unheard S s k v at p actor ashore =
     (λ (t : Sits s.views p). absurd (true≢false (sym (r.boarded t.id t.view t.at t.aboard) ∙ (ap (λ q. has q v.boarded) t.number ∙ ashore))))
     (r.each p (low_number S s k p actor))
 
-looked_keeps : (S : Setup) (s : St) (k : Kept S s) (v : View) (c : List (ℕ × Unit {0})) → get_elem? s.views 0 ≡ some v
-    → Kept S (stepped s 0 (get_or s.words 0 0) 0 c (looked k.world.history v) keeps)
+looked_keeps : (S : Setup) (s : St) (k : KeepsRule S s) (v : View) (c : List (ℕ × Unit {0})) → get_elem? s.views 0 ≡ some v
+    → KeepsRule S (stepped s 0 (get_or s.words 0 0) 0 c (looked k.world.history v) keeps)
 looked_keeps S s k v c at =
     let r = root_is S s k v at in
     let w : World = k.world in
@@ -75,7 +75,7 @@ looked_keeps S s k v c at =
       };
     }
 
-pub looks : (S : Setup) (slots : ℕ) (me : Sat) → Allows (Kept S) slots 0 me 0 (λ n. n) (Looks me)
+pub looks : (S : Setup) (slots : ℕ) (me : Sat) → Allows (KeepsRule S) slots 0 me 0 (λ n. n) (Looks me)
 looks S slots me s k _ at _ =
     let w : World = k.world in
     let v : View = me.0 in

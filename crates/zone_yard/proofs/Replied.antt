@@ -13,7 +13,7 @@ use Rattle.zone_yard.specs.Setup.{state_after, IsLegalHistory}
 use Rattle.zone_yard.specs.Passes.{Pass, StartsWith, told, receipts_from, standing}
 use Rattle.zone_yard.specs.Entering.{Enters, HasRoom}
 use Rattle.zone_yard.specs.Blocks.{replies_of, CanAnswer, IsAnswered, steps_left}
-use Rattle.zone_yard.specs.Replies.{asked_steps, reply_to, block_reply_to, IsTold, Replies, BlockReplies}
+use Rattle.zone_yard.specs.Replies.{asked_steps, reply_to, block_reply_to, IsReplied, Replies, BlockReplies}
 use Rattle.zone_yard.proofs.Lists.{starts_on}
 use Rattle.zone_locks.specs.Zones.{has}
 use Rattle.move_claim.specs.declared.claims.Claim.{Claim}
@@ -21,7 +21,7 @@ use Rattle.zone_yard.specs.declared.requests.Attempt.{Attempt}
 use Rattle.zone_yard.specs.declared.requests.Attempt.TheVariants.{Told, Busy}
 use Rattle.zone_yard.specs.Asked.{Attempted, FoundNoZoneHeld, reply_of, block_reply_of}
 
-pub replies_to : (old new : Pass) (ticket : ℕ) (answer : Ask) → IsTold old ticket answer new → Replies old (reply_to ticket answer) new
+pub replies_to : (old new : Pass) (ticket : ℕ) (answer : Ask) → IsReplied old ticket answer new → Replies old (reply_to ticket answer) new
 replies_to old new ticket ask.Yes h = h
 replies_to old new ticket ask.Arrived h = h
 replies_to old new ticket (ask.Occupied by) h = h

@@ -15,7 +15,7 @@ use Rattle.zone_yard.specs.Blocks.{needs, granted_steps}
 use Rattle.zone_yard.specs.Views.{glanced, pass_of}
 use Rattle.zone_yard.specs.Aboard.{IsIdle}
 use Rattle.zone_yard.specs.Tells.{Sat}
-use Rattle.zone_yard.specs.Attempts.{Refuses, IsToldBlock, Attempts, Since, TurnsAway, Asks}
+use Rattle.zone_yard.specs.Attempts.{RefusesZone, IsToldBlock, Attempts, Since, TurnsAway, Asks}
 use Rattle.zone_yard.proofs.Lists.{starts_on}
 use Rattle.zone_yard.proofs.Replied.{answered_since}
 
@@ -52,7 +52,7 @@ told_since id asked steps ticket answer old g new s h = (
 
 module _ (S : Setup) (id : TableId) (w : Wanted) (position zones : ℕ) (f : Footprint) (old g new : Sat) (made : old.0.setup ≡ S) (number : old.0.number ≡ w.train)
     (next : f ≡ needs S w old.0.actor.position) (inside : w.table < length S.tables) (s : Since old g) (glance : g.0.actor.glance ≡ Some w.table) (idle : IsIdle position old.0.actor) where
-  turned_since : (zone found : ℕ) → Refuses zones f.zones g new zone found → TurnsAway w.steps old new zone found
+  turned_since : (zone found : ℕ) → RefusesZone zones f.zones g new zone found → TurnsAway w.steps old new zone found
   turned_since zone found r =
       let t : ℕ = w.table in
       let seen : Try = record { zone = zone; found = found; glanced = t } in

@@ -10,7 +10,7 @@ use Rattle.zone_yard.specs.Spread.{spread}
 use Rattle.zone_yard.specs.Views.{root_view, pass_view, knower}
 use Rattle.zone_yard.specs.Tells.{Sat}
 use Rattle.zone_yard.specs.Aboard.{IsDriver, IsControl}
-use Rattle.zone_yard.specs.Attempts.{Refuses, Moves, Since, TurnsAway}
+use Rattle.zone_yard.specs.Attempts.{RefusesZone, Moves, Since, TurnsAway}
 use Rattle.zone_yard.proofs.Roots.{fresh}
 use Rattle.zone_yard.proofs.Samples.{four_zones, one_zone, two_tables}
 
@@ -79,7 +79,7 @@ not_by_itself : (new : Sat) → TurnsAway 1 old new 1 3 → ⊥
 not_by_itself new h = h.another.1 refl
 
 -- the same, where the look came before
-refused : Refuses 4 (1 ∷ []) (record old.0 { actor = record old.0.actor { glance = Some 0 } }, []) (found 1) 1 1
+refused : RefusesZone 4 (1 ∷ []) (record old.0 { actor = record old.0.actor { glance = Some 0 } }, []) (found 1) 1 1
 refused = record {
   low = lit< tt;
   wanted = refl;

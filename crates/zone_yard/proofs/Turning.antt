@@ -15,7 +15,7 @@ use Rattle.move_claim.proofs.Numbered.{Among-has}
 use Rattle.zone_machine.specs.ControlAsked.{IsTold}
 use Rattle.zone_machine.specs.World.{Setup as CoreSetup, Actor, trains_of, holds_all, is_bare}
 use Rattle.zone_machine.specs.Entries.{own_claim, answer, tried, driver_after, control_after}
-use Rattle.zone_machine.specs.Ready.{IsReady}
+use Rattle.zone_machine.specs.Ready.{IsReadyToTry}
 use Rattle.zone_machine.specs.Steps.{room_for}
 use Rattle.rail_model.specs.Blocks.{block_entries}
 use Rattle.zone_yard.specs.Core.{MayEnter}
@@ -45,7 +45,7 @@ holds_them S held is = (Decides-all_below (λ z. has z held) (λ z. has z held �
 pub ready_control : (S : Setup) (v : View) → v.setup ≡ S → v.number ≡ control → v.actor.closing ≡ false → v.actor.held ≡ span (below S.layout.zones) 0 S.layout.zones
     → first_unknown (TableCell ∷ map (λ (i : ℕ). Position i) (below (trains_of (core S)))) v.actor.known ≡ None → v.actor.position + 1 < length S.tables → length v.mine + 1 ≤ S.calls → MayEnter S 1 v
 ready_control S v made number still held known more room =
-    subst (λ (p : ℕ). IsReady (core S) p v.actor 1 × (length v.mine + room_for (core S) p v.actor 1 ≤ S.calls)) (sym number) (
+    subst (λ (p : ℕ). IsReadyToTry (core S) p v.actor 1 × (length v.mine + room_for (core S) p v.actor 1 ≤ S.calls)) (sym number) (
       record {
         still = still;
         held = nothing_found (λ z. not (has z v.actor.held)) S.layout.zones (λ z lt. ap not (each_held S.layout.zones v.actor.held held z lt));

@@ -20,8 +20,8 @@ use Rattle.zone_machine.specs.Steps.{is_above, releasing, step_of}
 use Rattle.zone_machine.proofs.Together.{step_sound}
 use Rattle.zone_yard.specs.Setup.{Setup, core, most_passes}
 use Rattle.zone_yard.specs.Views.{View, tried_at, took, gave}
-use Rattle.zone_yard.specs.Kept.{Kept}
-use Rattle.zone_yard.specs.Tells.{Sat, Takes, Releases}
+use Rattle.zone_yard.specs.Kept.{KeepsRule}
+use Rattle.zone_yard.specs.Tells.{Sat, TakesZone, Releases}
 use Rattle.zone_yard.proofs.Lists.{both_true}
 use Rattle.zone_yard.proofs.Apart.{found_apart}
 use Rattle.zone_yard.proofs.Keeps.{St, seated, own_keeps, Stays}
@@ -63,8 +63,8 @@ pub zone_back : (z : ℕ) → 8 * suc z / 8 - 1 ≡ z
 zone_back z = omega arith
 
 -- a look at a word that changes nothing that the core sees
-pub look_keeps : (S : Setup) (s : St) (k : Kept S s) (id i j : ℕ) (v v' : View) (c : List (ℕ × Unit {0})) → j ≡ 8 * i → get_elem? s.views id ≡ some v → v.aboard ≡ true
-    → Stays v v' → v'.actor ≡ v.actor → v'.noted ≤ word (core S) k.world TableCell → Kept S (stepped s j (get_or s.words j 0) id c v' keeps)
+pub look_keeps : (S : Setup) (s : St) (k : KeepsRule S s) (id i j : ℕ) (v v' : View) (c : List (ℕ × Unit {0})) → j ≡ 8 * i → get_elem? s.views id ≡ some v → v.aboard ≡ true
+    → Stays v v' → v'.actor ≡ v.actor → v'.noted ≤ word (core S) k.world TableCell → KeepsRule S (stepped s j (get_or s.words j 0) id c v' keeps)
 look_keeps S s k id i j v v' c is at aboard stays same noted =
     let here = (k.fits id v at).aboard aboard in
     let w : World = k.world in
@@ -75,7 +75,7 @@ look_keeps S s k id i j v v' c is at aboard stays same noted =
       history = w.history;
       actors = (ap (λ (x : Actor). set w.actors v.number x) (same ∙ sym here.actor) ∙ set-get_or w.actors v.number gone) j;
     }) in
-    subst (λ x. Kept S (stepped s x n id c v' keeps)) (sym is)
+    subst (λ x. KeepsRule S (stepped s x n id c v' keeps)) (sym is)
     (own_keeps S s k id i n v v' c at aboard stays (ap (λ (a : Actor). a.stage) same ∙ here.stage)
     (subst (Sound (core S)) (sym unchanged) k.sound)
     (subst (λ x. word (core S) w TableCell ≤ word (core S) x TableCell) (sym unchanged) (omega arith))
@@ -84,7 +84,7 @@ look_keeps S s k id i j v v' c is at aboard stays same noted =
 -- a zone is tried: where it was free it is taken, and else another pass holds it
 pub take_allows : (S : Setup) → (slots id z i new : ℕ) (me : Sat) → new ≡ suc me.0.number → i ≡ 8 * suc z → me.0.aboard ≡ true
     → me.0.actor.closing ≡ false → z < me.0.setup.layout.zones → is_above z me.0.actor.held ≡ true
-    → Allows (Kept S) slots id me i (λ n. either (n == 0) new n) (Takes (step slots i 0 new none) me)
+    → Allows (KeepsRule S) slots id me i (λ n. either (n == 0) new n) (TakesZone (step slots i 0 new none) me)
 take_allows S slots id z i new me writes is aboard still low above s k _ at _ =
     let v : View = me.0 in
     let w : World = k.world in
@@ -103,8 +103,8 @@ take_allows S slots id z i new me writes is aboard still low above s k _ at _ =
       got (i / 8 - 1),
       keeps,
       tt,
-      subst (λ b. Kept S (stepped s i (either b new n) id me.1 (got (i / 8 - 1)) keeps)) (sym (eq-eqb n 0 free))
-          (subst (λ (x : ℕ × ℕ × ℕ). Kept S (stepped s x.0 x.2 id me.1 (got x.1) keeps)) (λ j. (sym is j, sym zone j, sym writes j))
+      subst (λ b. KeepsRule S (stepped s i (either b new n) id me.1 (got (i / 8 - 1)) keeps)) (sym (eq-eqb n 0 free))
+          (subst (λ (x : ℕ × ℕ × ℕ). KeepsRule S (stepped s x.0 x.2 id me.1 (got x.1) keeps)) (λ j. (sym is j, sym zone j, sym writes j))
           (own_keeps S s k id (suc z) (suc v.number) v (got z) me.1 at aboard
           record { setup = refl; aboard = aboard; number = refl; seen = refl; mine = refl; joined = refl } here.stage
           (step_sound (core S) w v.number (Take z) seen.Taken (with_word w (suc z) (suc v.number) v.number a') k.formed k.sound
@@ -117,7 +117,7 @@ take_allows S slots id z i new me writes is aboard still low above s k _ at _ =
       saw,
       keeps,
       tt,
-      subst (λ b. Kept S (stepped s i (either b new n) id me.1 saw keeps)) (sym (ne_eqb n 0 held))
+      subst (λ b. KeepsRule S (stepped s i (either b new n) id me.1 saw keeps)) (sym (ne_eqb n 0 held))
           (look_keeps S s k id (suc z) i v saw me.1 is at aboard record { setup = refl; aboard = aboard; number = refl; seen = refl; mine = refl; joined = refl } refl fit.noted),
       record {
         free = λ e. absurd (held e);
@@ -139,7 +139,7 @@ take_allows S slots id z i new me writes is aboard still low above s k _ at _ =
 
 -- a zone is given back
 pub release_allows : (S : Setup) → (slots id z i : ℕ) (me : Sat) → i ≡ 8 * suc z → me.0.aboard ≡ true → has z me.0.actor.held ≡ true → me.0.actor.owed ≡ []
-    → Allows (Kept S) slots id me i (λ _. 0) (λ _. Releases (step slots i 0 0 none) me 0)
+    → Allows (KeepsRule S) slots id me i (λ _. 0) (λ _. Releases (step slots i 0 0 none) me 0)
 release_allows S slots id z i me is aboard has_it paid s k _ at _ =
     let v : View = me.0 in
     let w : World = k.world in
@@ -154,7 +154,7 @@ release_allows S slots id z i me is aboard has_it paid s k _ at _ =
       gives (i / 8 - 1),
       keeps,
       tt,
-      subst (λ (x : ℕ × ℕ). Kept S (stepped s x.0 0 id me.1 (gives x.1) keeps)) (λ j. (sym is j, sym zone j))
+      subst (λ (x : ℕ × ℕ). KeepsRule S (stepped s x.0 0 id me.1 (gives x.1) keeps)) (λ j. (sym is j, sym zone j))
           (own_keeps S s k id (suc z) 0 v (gives z) me.1 at aboard
           record { setup = refl; aboard = aboard; number = refl; seen = refl; mine = refl; joined = refl } here.stage
           (subst (λ (a : Actor). Sound (core S) (with_word w (suc z) 0 v.number a)) (sym is_a)

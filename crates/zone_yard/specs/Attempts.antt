@@ -17,7 +17,7 @@ use Rattle.zone_yard.specs.Aboard.{IsIdle}
 use Rattle.zone_yard.specs.Tells.{Sat}
 
 -- A needed zone was held by another pass, by the last try. All zones are given back.
-pub record Refuses (zones : ℕ) (needed : List ℕ) (old new : Sat) (zone found : ℕ) : Type 0 where
+pub record RefusesZone (zones : ℕ) (needed : List ℕ) (old new : Sat) (zone found : ℕ) : Type 0 where
   pub low : zone < zones
   pub wanted : has zone needed ≡ true
   pub another : (found ≢ 0) × (found ≢ suc old.0.number) × (found ≤ most_passes)
@@ -53,7 +53,7 @@ IsToldBlock id asked answer steps ticket old new =
 -- It was answered, or a zone was held, or another table is in force.
 abbrev pub Attempts : TableId → Wanted → ℕ → List ℕ → Sat → Option Attempt → Sat → Type 0
 Attempts id w zones needed old (Some (Told answer steps ticket)) new = IsToldBlock id w.steps answer steps ticket old new
-Attempts id w zones needed old (Some (Busy zone holder)) new = Refuses zones needed old new zone (suc holder)
+Attempts id w zones needed old (Some (Busy zone holder)) new = RefusesZone zones needed old new zone (suc holder)
 Attempts id w zones needed old None new = Moves w.table old new
 
 -- Only tries and looks at the table were added since.

@@ -20,7 +20,7 @@ abbrev pub span : List ℕ → ℕ → ℕ → List ℕ
 span needed k n = filter (λ z. has z needed) (range_with_len k n)
 
 -- The pass holds these zones now, and has only noted tries besides.
-pub record Holds (old new : Sat) (held : List ℕ) : Type 0 where
+pub record HoldsZones (old new : Sat) (held : List ℕ) : Type 0 where
   pub tries : StartsWith new.0.tries old.0.tries
   pub now : new ≡ (record old.0 { tries = new.0.tries; actor = record old.0.actor { held = held } }, old.1)
 
@@ -35,11 +35,11 @@ pub record Meets (zones : ℕ) (needed : List ℕ) (old new : Sat) (zone found :
 
 -- All needed zones were taken, or one was found held.
 abbrev pub TakesAll : ℕ → List ℕ → Sat → Option (ℕ × ℕ) → Sat → Type 0
-TakesAll zones needed old None new = Holds old new (span needed 0 zones)
+TakesAll zones needed old None new = HoldsZones old new (span needed 0 zones)
 TakesAll zones needed old (Some met) new = Meets zones needed old new met.0 met.1
 
 -- The needed zones below k were given back, of those below the top.
-pub record Gives (needed : List ℕ) (k top : ℕ) (old new : Sat) : Type 0 where
+pub record GivesBack (needed : List ℕ) (k top : ℕ) (old new : Sat) : Type 0 where
   pub bare : new.0.actor.held ≡ [] → (new.0.actor.known ≡ []) × (new.0.actor.closing ≡ false)
   pub now : new ≡ (
     record old.0 {

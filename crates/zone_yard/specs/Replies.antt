@@ -51,8 +51,8 @@ pub record IsBusy (want zone holder : ℕ) (old new : Pass) : Type 0 where
   pub free : IsFree new
 
 -- A request was answered so in one entry.
-abbrev pub IsTold : Pass → ℕ → Ask → Pass → Type 0
-IsTold old ticket answer new = HasRoom old × Enters ticket (entry.Driver answer ∷ []) old new
+abbrev pub IsReplied : Pass → ℕ → Ask → Pass → Type 0
+IsReplied old ticket answer new = HasRoom old × Enters ticket (entry.Driver answer ∷ []) old new
 
 -- This many steps were granted at once: all that were asked for.
 abbrev pub IsGranted : ℕ → Pass → ℕ → ℕ → Pass → Type 0
@@ -66,11 +66,11 @@ IsNotWhole want old ticket step answer new =
 
 -- What the answer to a request for one step says.
 abbrev pub Replies : Pass → Reply → Pass → Type 0
-Replies old (one.Granted ticket) new = IsTold old ticket ask.Yes new
-Replies old (one.Occupied ticket by) new = IsTold old ticket (ask.Occupied by) new
-Replies old (one.Full ticket s n) new = IsTold old ticket (ask.Full s n) new
-Replies old (one.Waits ticket c) new = IsTold old ticket (ask.Waits c) new
-Replies old (one.Arrived ticket) new = IsTold old ticket ask.Arrived new
+Replies old (one.Granted ticket) new = IsReplied old ticket ask.Yes new
+Replies old (one.Occupied ticket by) new = IsReplied old ticket (ask.Occupied by) new
+Replies old (one.Full ticket s n) new = IsReplied old ticket (ask.Full s n) new
+Replies old (one.Waits ticket c) new = IsReplied old ticket (ask.Waits c) new
+Replies old (one.Arrived ticket) new = IsReplied old ticket ask.Arrived new
 Replies old (one.Busy zone holder) new = HasRoom old × IsBusy 1 zone holder old new
 Replies old one.Spent new = IsSpent old × ChangesNothing old new
 
@@ -83,10 +83,10 @@ IsUnhindered reply = Unit {0}
 abbrev pub BlockReplies : ℕ → Pass → BlockReply → Pass → Type 0
 BlockReplies want old (block.Granted ticket steps) new = IsGranted want old ticket steps new
 BlockReplies want old (block.NotWhole ticket step answer) new = IsNotWhole want old ticket step answer new
-BlockReplies want old (block.Occupied ticket by) new = IsTold old ticket (ask.Occupied by) new
-BlockReplies want old (block.Full ticket s n) new = IsTold old ticket (ask.Full s n) new
-BlockReplies want old (block.Waits ticket c) new = IsTold old ticket (ask.Waits c) new
-BlockReplies want old (block.Arrived ticket) new = IsTold old ticket ask.Arrived new
+BlockReplies want old (block.Occupied ticket by) new = IsReplied old ticket (ask.Occupied by) new
+BlockReplies want old (block.Full ticket s n) new = IsReplied old ticket (ask.Full s n) new
+BlockReplies want old (block.Waits ticket c) new = IsReplied old ticket (ask.Waits c) new
+BlockReplies want old (block.Arrived ticket) new = IsReplied old ticket ask.Arrived new
 BlockReplies want old (block.Busy zone holder) new = HasRoom old × IsBusy want zone holder old new
 BlockReplies want old block.Spent new = IsSpent old × ChangesNothing old new
 

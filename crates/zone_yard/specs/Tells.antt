@@ -27,7 +27,7 @@ abbrev pub zone_of : Step (Unit {0}) → ℕ
 zone_of st = st.word / 8 - 1
 
 -- A zone that was free is taken; one that wasn't is held by another pass. The try is noted either way.
-pub record Takes (st : Step (Unit {0})) (m : Sat) (found : ℕ) (after : Sat) : Type 0 where
+pub record TakesZone (st : Step (Unit {0})) (m : Sat) (found : ℕ) (after : Sat) : Type 0 where
   pub free : found ≡ 0 → after ≡ (took (zone_of st) m.0, m.1)
   pub held : found ≢ 0 → (after ≡ (tried_at (zone_of st) found m.0, m.1)) × (found ≢ suc m.0.number) × (found ≤ most_passes)
 
@@ -40,8 +40,8 @@ abbrev pub Glances : Step (Unit {0}) → Sat → ℕ → Sat → Type 0
 Glances st m found after = (m.0.noted ≤ found) × (found < length m.0.setup.tables) × (after ≡ (glanced found m.0, m.1))
 
 -- The table in force is read under a zone.
-abbrev pub ReadsTable : Step (Unit {0}) → Sat → ℕ → Sat → Type 0
-ReadsTable st m found after = (m.0.noted ≤ found) × (found < length m.0.setup.tables) × (after ≡ (read_table found m.0, m.1))
+abbrev pub ReadsInForce : Step (Unit {0}) → Sat → ℕ → Sat → Type 0
+ReadsInForce st m found after = (m.0.noted ≤ found) × (found < length m.0.setup.tables) × (after ≡ (read_table found m.0, m.1))
 
 -- A cell is read under its guard. Its number is small.
 abbrev pub ReadsCell : Cell → Sat → ℕ → Sat → Type 0

@@ -9,7 +9,7 @@ ghost use Rattle.zone_machine.specs.ControlAsked.{IsTold};
 ghost use Rattle.zone_machine.specs.Entries.{known_positions, tried as tried_by, control_after};
 ghost use Rattle.zone_machine.specs.Steps.{is_above};
 ghost use Rattle.zone_machine.specs.World.{trains_of as trains_in, holds_all};
-ghost use Rattle.zone_yard.specs.Holding.{span, AreCells, Holds, Knows, Learns};
+ghost use Rattle.zone_yard.specs.Holding.{span, AreCells, HoldsZones, Knows, Learns};
 ghost use Rattle.zone_yard.specs.Lines.{AreLines};
 ghost use Rattle.zone_yard.specs.Passes.{told};
 ghost use Rattle.zone_yard.specs.Replies.{turn_to};
@@ -40,7 +40,7 @@ fn wait_for<R: Wait>(rt: &R, yard: &Yard<'_>, seat: &mut Place, pass: u32, zone:
     requires zone { (zone < yard.now.setup.layout.zones) × (is_above zone seat.old.me.0.actor.held ≡ true) }
     requires still { seat.old.me.0.actor.closing ≡ false }
     ensures same { (seat.new.table_id ≡ seat.old.table_id) × (seat.new.id ≡ seat.old.id) }
-    ensures holds { Holds seat.old.me seat.new.me (seat.old.me.0.actor.held ++ zone ∷ []) }
+    ensures holds { HoldsZones seat.old.me seat.new.me (seat.old.me.0.actor.held ++ zone ∷ []) }
 {
     for _ in rt.forever() {
         if take(yard, seat, pass, zone) == 0 {
@@ -57,7 +57,7 @@ fn wait_for_all<R: Wait>(rt: &R, yard: &Yard<'_>, seat: &mut Place, pass: u32, n
     requires pass { (seat.old.me.0.aboard ≡ true) × (seat.old.me.0.number ≡ pass) }
     requires free { (seat.old.me.0.actor.held ≡ []) × (seat.old.me.0.actor.closing ≡ false) }
     ensures same { (seat.new.table_id ≡ seat.old.table_id) × (seat.new.id ≡ seat.old.id) }
-    ensures holds { Holds seat.old.me seat.new.me (span needed.now 0 yard.now.setup.layout.zones) }
+    ensures holds { HoldsZones seat.old.me seat.new.me (span needed.now 0 yard.now.setup.layout.zones) }
 {
     for zone in 0..zones(yard) {
         if needed.has(zone) {

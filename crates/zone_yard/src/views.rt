@@ -65,10 +65,10 @@ pub struct Law;
 
 impl<'a> TableRule<(), View, Key<'a>> for Law {
     ghost use Rattle.std.specs.Prelude.{[]};
-    ghost use Rattle.zone_yard.specs.Kept.{Kept};
+    ghost use Rattle.zone_yard.specs.Kept.{KeepsRule};
     ghost use Rattle.zone_yard.specs.Views.{root_view};
 
-    ghost holds = { Kept };
+    ghost holds = { KeepsRule };
 
     ghost first = { λ S. root_view S [] };
 }
@@ -77,9 +77,9 @@ impl<'a> TableRule<(), View, Key<'a>> for Law {
 pub struct Taking;
 
 impl Play<(), View> for Taking {
-    ghost use Rattle.zone_yard.specs.Tells.{Takes};
+    ghost use Rattle.zone_yard.specs.Tells.{TakesZone};
 
-    ghost then = { Takes };
+    ghost then = { TakesZone };
 }
 
 /// A zone is given back.
@@ -126,9 +126,9 @@ impl<J: WhichCell> Play<(), View> for Reading<J> {
 pub struct ReadingTable;
 
 impl Play<(), View> for ReadingTable {
-    ghost use Rattle.zone_yard.specs.Tells.{ReadsTable};
+    ghost use Rattle.zone_yard.specs.Tells.{ReadsInForce};
 
-    ghost then = { ReadsTable };
+    ghost then = { ReadsInForce };
 }
 
 /// An owed cell is written.

@@ -1,6 +1,6 @@
 use Rattle.std.proofs.Common.{subst}
 use Rattle.std.proofs.lemmas.Result.{IfOk-weaker}
-use Rattle.move_journal.specs.Answers.{IsPart}
+use Rattle.move_journal.specs.Answers.{IsTextPart}
 use Rattle.layout_json.specs.Doc.{names_of}
 use Rattle.ats_run.specs.Command.{IsResumedInput}
 use Rattle.ats_run.specs.Journals.{IsResumed}
@@ -26,5 +26,5 @@ returns-in_ok-from-in-Open-clause-leads g c =
       c.in_ok-checked.ensures.offers,
       front_leads D c.in_ok-checked.checked.certs.items c.args.input.now c.in-Some.document.now c.in-Some.given.now c.in-Open.front c.in_ok-from-in-Open.from
           c.replay_front.ensures.formed c.in_ok-checked.ensures.accepted c.in-Some.ensures c.in_ok-checked.ensures.document
-          (subst (IsPart (names_of D) c.in-Some.given.now) c.in-Open.is c.in_ok-journal.ensures.part) s.right s.yard s.lines s.keeps,
+          (subst (IsTextPart (names_of D) c.in-Some.given.now) c.in-Open.is c.in_ok-journal.ensures.part) s.right s.yard s.lines s.keeps,
     )

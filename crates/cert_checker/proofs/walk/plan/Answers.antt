@@ -5,7 +5,7 @@ use Rattle.rail_model.specs.declared.types.Node.{Node}
 use Rattle.rail_model.specs.Certificate.{IsGood, IsSplit}
 use Rattle.cert_checker.specs.declared.walk.Step.{Step}
 use Rattle.cert_tree.specs.Open.{opened}
-use Rattle.cert_checker.specs.Walked.{IsStep, waiting}
+use Rattle.cert_checker.specs.Walked.{IsStepOf, waiting}
 use Rattle.cert_checker.proofs.Steps.{planned}
 use Rattle.cert_checker.proofs.walk.plan.Goals as goal
 
@@ -29,7 +29,7 @@ returns-in_ok-push-2-clause-steps c =
     let ends = c.requires.sums.boxed.in_range i good.0 in
     let pushed = c.in_ok-push-2.ensures.items
     ∙ ap (λ (steps : List Step). steps ++ c.step_left.result ∷ []) c.in_ok-push.ensures.items in
-    let right : IsStep T c.step_right.result = subst (IsStep T) (sym c.step_right.ensures) (record { train = good.0; some = omega (arith, good); in_range = ends }) in
-    let left : IsStep T c.step_left.result = subst (IsStep T) (sym c.step_left.ensures) (record { train = good.0; some = good.1; in_range = omega (arith, good, ends) }) in
-    subst (λ (steps : List Step). All (λ step. IsStep T step) steps) (sym pushed)
-    (All-push (IsStep T) _ _ (All-push (IsStep T) _ _ c.in_ok-plan_back.ensures.steps right) left)
+    let right : IsStepOf T c.step_right.result = subst (IsStepOf T) (sym c.step_right.ensures) (record { train = good.0; some = omega (arith, good); in_range = ends }) in
+    let left : IsStepOf T c.step_left.result = subst (IsStepOf T) (sym c.step_left.ensures) (record { train = good.0; some = good.1; in_range = omega (arith, good, ends) }) in
+    subst (λ (steps : List Step). All (λ step. IsStepOf T step) steps) (sym pushed)
+    (All-push (IsStepOf T) _ _ (All-push (IsStepOf T) _ _ c.in_ok-plan_back.ensures.steps right) left)

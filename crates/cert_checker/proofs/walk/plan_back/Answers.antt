@@ -2,7 +2,7 @@ use Rattle.std.proofs.Common.{◌≡◌, List, reverse, sym, subst}
 use Rattle.std.specs.Prelude.{All, slice_set}
 use Rattle.std.proofs.lemmas.List.Elements.{All-push}
 use Rattle.cert_checker.specs.declared.walk.Step.{Step}
-use Rattle.cert_checker.specs.Walked.{IsStep, waiting}
+use Rattle.cert_checker.specs.Walked.{IsStepOf, waiting}
 use Rattle.cert_checker.proofs.Steps.{next_overtakes, put_back}
 use Rattle.cert_checker.proofs.walk.plan_back.Goals as goal
 
@@ -22,6 +22,6 @@ returns-clause-steps c =
     let T = c.args.table.now in
     let i = c.args.train in
     let boxed = c.requires.sums.boxed in
-    subst (λ (steps : List Step). All (λ step. IsStep T step) steps) (sym c.in_ok-push.ensures.items)
-    (All-push (IsStep T) _ _ c.requires.steps
-    (subst (IsStep T) (sym c.step_back.ensures) (record { train = c.requires.train; some = boxed.some_place i c.requires.train; in_range = boxed.in_range i c.requires.train })))
+    subst (λ (steps : List Step). All (λ step. IsStepOf T step) steps) (sym c.in_ok-push.ensures.items)
+    (All-push (IsStepOf T) _ _ c.requires.steps
+    (subst (IsStepOf T) (sym c.step_back.ensures) (record { train = c.requires.train; some = boxed.some_place i c.requires.train; in_range = boxed.in_range i c.requires.train })))

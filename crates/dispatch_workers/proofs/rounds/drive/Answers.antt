@@ -1,6 +1,6 @@
 use Rattle.std.proofs.Common.{◌∷◌, ◌∙◌, sym, true≢false, arith}
 use Rattle.std.proofs.lemmas.List.Elements.{All-cons}
-use Rattle.dispatch_workers.specs.Rounds.{IsOver}
+use Rattle.dispatch_workers.specs.Rounds.{HasFinished}
 use Rattle.dispatch_workers.proofs.Ended.{ended_early, ended_whole}
 use Rattle.dispatch_workers.proofs.rounds.drive.Goals as goal
 
@@ -11,7 +11,7 @@ returns-then-go_all-clause-worked g c =
     record {
       told = now.0 ∷ old.0;
       made = (_, old.2, now.1);
-      ends = ended_early IsOver c.args.rounds now.0 old.0 (let e = old.1 in omega arith) old.3 (now.2.0 c.if-go_all.true);
+      ends = ended_early HasFinished c.args.rounds now.0 old.0 (let e = old.1 in omega arith) old.3 (now.2.0 c.if-go_all.true);
     }
 
 pub loop-round-preserved : goal.loop-round-preserved
@@ -24,11 +24,11 @@ loop-round-preserved g c =
         now.0 ∷ old.0,
         (let e = old.1 in omega arith),
         (_, old.2, now.1),
-        All-cons (λ told. IsOver told → ⊥) now.0 old.0 (λ over. true≢false (sym (now.2.1 over) ∙ c.if-go_all.false)) old.3,
+        All-cons (λ told. HasFinished told → ⊥) now.0 old.0 (λ over. true≢false (sym (now.2.1 over) ∙ c.if-go_all.false)) old.3,
       );
     }
 
 pub returns-clause-worked : goal.returns-clause-worked
 returns-clause-worked g c =
     let old = c.loop-round.invariant.made in
-    record { told = old.0; made = old.2; ends = ended_whole IsOver c.args.rounds old.0 (let e = old.1 in omega arith) old.3 }
+    record { told = old.0; made = old.2; ends = ended_whole HasFinished c.args.rounds old.0 (let e = old.1 in omega arith) old.3 }

@@ -1,11 +1,11 @@
 use Rattle.std.proofs.Common.{◌≡◌, List, length}
 use Rattle.dispatch_workers.specs.declared.rounds.Round.{Round}
-use Rattle.dispatch_workers.specs.Rounds.{AllOurs, MakesRounds, IsOver}
+use Rattle.dispatch_workers.specs.Rounds.{AllOurs, MakesRounds, HasFinished}
 use Rattle.dispatch_workers.proofs.Ended.{NoneEnded}
 use Rattle.dispatch_workers.proofs.rounds.drive.Given as goal
 
 abbrev pub invariant-loop-round : goal.invariant-loop-round
 invariant-loop-round g l = record {
   ours : AllOurs l.yard l.drivers;
-  made : (told : List (List Round)) × (length told ≡ l._round) × MakesRounds l.block told l.initial.drivers l.drivers × NoneEnded IsOver told;
+  made : (told : List (List Round)) × (length told ≡ l._round) × MakesRounds l.block told l.initial.drivers l.drivers × NoneEnded HasFinished told;
 }

@@ -4,7 +4,7 @@ use Rattle.rail_model.specs.Layout.{point_names}
 use Rattle.rail_model.specs.Names.{Names}
 use Rattle.rail_model.proofs.Firsts.{Answers-err}
 use Rattle.document_shapes.specs.Seen.{seen_document}
-use Rattle.layout_json.specs.Keeps.{Keeps, doc_of_parts}
+use Rattle.layout_json.specs.Keeps.{HasParts, doc_of_parts}
 use Rattle.layout_json.specs.Reading.{doc_from}
 use Rattle.layout_json.specs.declared.refused.DocRefused.TheVariants.{Memory}
 use Rattle.layout_json.proofs.FormedDoc.{formed-from}
@@ -43,7 +43,7 @@ new-requires c =
     let start = c.in_ok-start.start in
     let formed = formed-from (seen_document c.args.members) (doc_of_parts version L N ts c.in_ok-tables-2.times.items start) c.requires (made c) in
     let named = c.in_ok-names.ensures ∙ ap (λ (n : Names). record { points = point_names L; trains = n.trains }) (sym c.in_ok-names.ensures) in
-    subst (λ (times : List (List (List ℕ))). Keeps version L N ts times start) (sym c.from-times.ensures)
+    subst (λ (times : List (List (List ℕ))). HasParts version L N ts times start) (sym c.from-times.ensures)
     (record { first = formed.first; last = formed.last; named = named; each_timed = c.in_ok-tables-2.ensures.each_timed; is = formed.is; taken = formed.taken })
 
 pub returns : goal.returns

@@ -1,7 +1,7 @@
 use Rattle.std.proofs.Common.{map, take}
-use Rattle.command_words.specs.Built.{IsLeaf, leaf}
+use Rattle.command_words.specs.Built.{IsSubcommand, leaf}
 use Rattle.planner_words.specs.Line.{rule_for}
 use Rattle.planner_words.proofs.asking.leaf.Given as goal
 
 abbrev pub invariant-loop-choice : goal.invariant-loop-choice
-invariant-loop-choice l = IsLeaf (leaf l.name (map rule_for (take l.choice-index l.choices))) l.command
+invariant-loop-choice l = IsSubcommand (leaf l.name (map rule_for (take l.choice-index l.choices))) l.command

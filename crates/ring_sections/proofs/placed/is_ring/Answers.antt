@@ -1,12 +1,12 @@
 use Rattle.std.proofs.Common.{◌-◌, arith, inl, inr, subst, sym, refl, rules, ℕ, ◌<◌, ◌≤◌, List, length}
 use Rattle.std.proofs.lemmas.Bool.{cases_eq}
-use Rattle.ring_sections.specs.Search.{IsPlaced, IsPair}
+use Rattle.ring_sections.specs.Search.{IsPlaced, IsTrainPlace}
 use Rattle.std.specs.Prelude.{All}
 use Rattle.rail_model.specs.Table.{Mission}
 use Rattle.ring_sections.specs.Ring.{Pair, IsRing}
 use Rattle.ring_sections.proofs.placed.is_ring.Goals as goal
 
-placed_ring : (M : List Mission) (r : List Pair) → 2 ≤ length r → All (IsPair M) r → ((k : ℕ) → k < length r → IsPlaced M r k) → IsRing M r
+placed_ring : (M : List Mission) (r : List Pair) → 2 ≤ length r → All (IsTrainPlace M) r → ((k : ℕ) → k < length r → IsPlaced M r k) → IsRing M r
 placed_ring M r several valid placed = record {
   several = several;
   train = λ k l. (valid k (0, 0) l).0;

@@ -4,7 +4,7 @@ use Rattle.std.proofs.lemmas.List.{get_or_default}
 use Rattle.std.proofs.lemmas.List.Elements.{All-nil, All-cons, All-append}
 use Rattle.rail_model.specs.Table.{Mission}
 use Rattle.ring_sections.specs.Ring.{Pair, pair_at, next_point}
-use Rattle.ring_sections.specs.Search.{IsPair, own_ring, rings_from, standing_at}
+use Rattle.ring_sections.specs.Search.{IsTrainPlace, own_ring, rings_from, standing_at}
 use Rattle.ring_sections.specs.Levels.{IsChart}
 use Rattle.ring_sections.proofs.Begun.{at_old}
 use Rattle.ring_sections.proofs.LeadingBack.{too_far}
@@ -21,10 +21,10 @@ module _ (M : List Mission) (r : List Pair) (wanted : ℕ) (all : List (List Pai
   here_is = looked_up M (length high) wanted all here (chart.points _ _ wanted wants) chart.places at
 
   -- one pair more
-  valid_longer : (longer : List Pair) (k : ℕ) → All (IsPair M) r → k < length here → longer ≡ r ++ slice_index_or here k (0, 0) ∷ [] → All (IsPair M) longer
+  valid_longer : (longer : List Pair) (k : ℕ) → All (IsTrainPlace M) r → k < length here → longer ≡ r ++ slice_index_or here k (0, 0) ∷ [] → All (IsTrainPlace M) longer
   valid_longer longer k valid l same =
-      let one = All-cons (IsPair M) (slice_index_or here k (0, 0)) [] (all_valid M wanted here here_is k (0, 0) l) (All-nil (IsPair M)) in
-      subst (All (IsPair M)) (sym same) (All-append (IsPair M) r (slice_index_or here k (0, 0) ∷ []) valid one)
+      let one = All-cons (IsTrainPlace M) (slice_index_or here k (0, 0)) [] (all_valid M wanted here here_is k (0, 0) l) (All-nil (IsTrainPlace M)) in
+      subst (All (IsTrainPlace M)) (sym same) (All-append (IsTrainPlace M) r (slice_index_or here k (0, 0) ∷ []) valid one)
 
   -- the circular waits, by the pairs that were looked up
   by_here : (n : ℕ) → 0 < n → 0 < length r → rings_from M r n ≡ own_ring M r ++ flat_map (λ w. rings_from M (r ++ w ∷ []) (n - 1)) here

@@ -6,7 +6,7 @@ use Rattle.rail_model.specs.Table.{Mission}
 use Rattle.rail_model.proofs.Firsts.{Answers-err}
 use Rattle.ring_sections.specs.declared.refused.Rings.TheVariants.{Memory, Many}
 use Rattle.ring_sections.specs.Ring.{Pair, IsRing, pairs, rings}
-use Rattle.ring_sections.specs.Search.{IsPair, ArePointsBelow, rings_from, standing_at, standing}
+use Rattle.ring_sections.specs.Search.{IsTrainPlace, ArePointsBelow, rings_from, standing_at, standing}
 use Rattle.ring_sections.specs.Answer.{all_rings}
 use Rattle.ring_sections.proofs.Pruned.{rings-by_first}
 use Rattle.ring_sections.proofs.RingLists.{all-rings}
@@ -69,7 +69,7 @@ add_from-requires-clause-standing c = own_size c.args.missions.now _ _ c.in_ok-s
 
 pub add_from-requires-clause-first : goal.add_from-requires-clause-first
 add_from-requires-clause-first c =
-    subst (λ (ws : List Pair). All (IsPair c.args.missions.now) ws) (sym (c.deref-first-items.ensures.value ∙ c.in_ok-pairs.ensures)) (valid-pairs c.args.missions.now)
+    subst (λ (ws : List Pair). All (IsTrainPlace c.args.missions.now) ws) (sym (c.deref-first-items.ensures.value ∙ c.in_ok-pairs.ensures)) (valid-pairs c.args.missions.now)
     c.loop-first.first-index (0, 0) c.loop-first-test.true
 
 pub returns-in_err-add_from-clause-rings : goal.returns-in_err-add_from-clause-rings

@@ -4,7 +4,7 @@ use Rattle.std.proofs.lemmas.List.{take_all, get_or-map}
 use Rattle.std.proofs.lemmas.List.Elements.{All-filter, All-same, filter_more}
 use Rattle.rail_model.specs.Checks.{same_point}
 use Rattle.ring_sections.specs.Ring.{Pair, pair_at, point_at}
-use Rattle.ring_sections.specs.Search.{IsPair, stands_at}
+use Rattle.ring_sections.specs.Search.{IsTrainPlace, stands_at}
 use Rattle.ring_sections.proofs.standing.standers_at.Goals as goal
 use Rattle.ring_sections.proofs.standing.standers_at.Goals.{then-is_there+in_ok-push, else-is_there}
 
@@ -32,6 +32,6 @@ pub lasts_of-requires : goal.lasts_of-requires
 lasts_of-requires c =
     let M = c.args.missions.now in
     let all = c.args.pairs.now in
-    All-same (IsPair M) c.deref.result.now (filter (stands_at M c.args.point) all)
+    All-same (IsTrainPlace M) c.deref.result.now (filter (stands_at M c.args.point) all)
     (c.deref.ensures.value ∙ c.loop-index.invariant ∙ ap (filter (stands_at M c.args.point)) (take_all c.loop-index.index all (omega arith)))
-    (All-filter (stands_at M c.args.point) (IsPair M) all c.requires.pairs)
+    (All-filter (stands_at M c.args.point) (IsTrainPlace M) all c.requires.pairs)

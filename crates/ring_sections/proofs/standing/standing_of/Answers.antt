@@ -1,15 +1,15 @@
 use Rattle.std.proofs.Common.{◌∙◌, ap, subst, sym}
 use Rattle.std.specs.Prelude.{All, filter}
-use Rattle.ring_sections.specs.Search.{IsPair, stands_at, standing_at}
+use Rattle.ring_sections.specs.Search.{IsTrainPlace, stands_at, standing_at}
 use Rattle.ring_sections.proofs.StepLists.{valid-pairs}
 use Rattle.forbidden_states.proofs.Growing.{next_listed}
 use Rattle.ring_sections.proofs.standing.standing_of.Goals as goal
 
 pub points_of-requires : goal.points_of-requires
-points_of-requires c = subst (All (IsPair c.args.missions.now)) (sym c.requires.pairs) (valid-pairs c.args.missions.now)
+points_of-requires c = subst (All (IsTrainPlace c.args.missions.now)) (sym c.requires.pairs) (valid-pairs c.args.missions.now)
 
 pub standers_at-requires-clause-pairs : goal.standers_at-requires-clause-pairs
-standers_at-requires-clause-pairs c = subst (All (IsPair c.args.missions.now)) (sym c.requires.pairs) (valid-pairs c.args.missions.now)
+standers_at-requires-clause-pairs c = subst (All (IsTrainPlace c.args.missions.now)) (sym c.requires.pairs) (valid-pairs c.args.missions.now)
 
 pub loop-point-preserved : goal.loop-point-preserved
 loop-point-preserved c =

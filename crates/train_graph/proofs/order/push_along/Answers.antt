@@ -1,7 +1,7 @@
 use Rattle.std.proofs.Common.{◌∙◌, List, get_or, refl, ap, subst, arith, Vec, Global}
 use Rattle.std.specs.Prelude.{IsSome}
 use Rattle.train_graph.specs.declared.order.Depth.{Depth}
-use Rattle.train_graph.specs.Rows.{IsDepthKnown, Keeps}
+use Rattle.train_graph.specs.Rows.{IsDepthKnown, StaysKnown}
 use Rattle.train_graph.proofs.Known.{still_known, newly_known, along_skips, along_goes, is_some_of}
 use Rattle.train_graph.proofs.order.push_along.Goals as goal
 use Rattle.train_graph.proofs.order.push_along.Goals.{in-Some-default, in-None-Some+in_ok-push-in-None-Some, in-Some+then-depth-before, in_default}
@@ -16,7 +16,7 @@ loop-place-preserved c =
     let now = c.loop-place.depths.items in
     let after = c.match-depth_of.depths.items in
     let p = get_or c.args.way.now c.loop-place.place 0 in
-    let known : Keeps now after × IsDepthKnown after p = elim c.match-depth_of.branch [
+    let known : StaysKnown now after × IsDepthKnown after p = elim c.match-depth_of.branch [
       | in-Some-default w ↦
           still_known now after p (ap (λ (v : Vec Depth Global). v.items) w.depths-is)
           (subst (λ (depths : List Depth). IsDepthKnown depths p) c.deref.ensures.value (c.depth_of.ensures.0 (is_some_of c.depth_of.result (λ none. cc))))

@@ -2,7 +2,7 @@ use Rattle.std.proofs.Common.{◌≡◌, ℕ, ◌<◌, List, length, get_or, tru
 use Rattle.std.specs.Prelude.{Contains, OnOk, reverse}
 use Rattle.std.proofs.lemmas.Result.{on_ok_weaker}
 use Rattle.train_graph.specs.declared.order.Depth.{Depth}
-use Rattle.train_graph.specs.Rows.{IsDepthKnown, Keeps, KnowsBehind, KnowsWay}
+use Rattle.train_graph.specs.Rows.{IsDepthKnown, StaysKnown, KnowsBehind, KnowsWay}
 use Rattle.train_graph.proofs.Known.{found_known, known_both_ways, on_ok_both}
 use Rattle.train_graph.proofs.order.push_way.Goals as goal
 use Rattle.train_graph.proofs.order.push_way.Goals.{then-not-has_known+in_ok-push_fresh, else-not-has_known}
@@ -10,11 +10,11 @@ use Rattle.train_graph.proofs.order.push_way.Goals.{then-not-has_known+in_ok-pus
 pub returns-clause-kept : goal.returns-clause-kept
 returns-clause-kept c =
     let before = c.args.depths.now.items in
-    let first : Keeps before c.if-not-has_known.depths.items = elim c.if-not-has_known.branch [
-      | then-not-has_known+in_ok-push_fresh w ↦ subst (λ (v : Vec Depth Global). Keeps before v.items) (sym w.depths-is) w.in_ok-push_fresh.ensures.kept
-      | else-not-has_known w ↦ subst (λ (v : Vec Depth Global). Keeps before v.items) (sym w.depths-is) (λ p known. known)
+    let first : StaysKnown before c.if-not-has_known.depths.items = elim c.if-not-has_known.branch [
+      | then-not-has_known+in_ok-push_fresh w ↦ subst (λ (v : Vec Depth Global). StaysKnown before v.items) (sym w.depths-is) w.in_ok-push_fresh.ensures.kept
+      | else-not-has_known w ↦ subst (λ (v : Vec Depth Global). StaysKnown before v.items) (sym w.depths-is) (λ p known. known)
     ] in
-    let onward : Keeps c.push_along.new.depths.items c.push_along-2.new.depths.items → Keeps before c.push_along-2.new.depths.items =
+    let onward : StaysKnown c.push_along.new.depths.items c.push_along-2.new.depths.items → StaysKnown before c.push_along-2.new.depths.items =
     λ back p known. back p (c.in_ok-push_along.ensures.kept p (first p known)) in
     on_ok_weaker c.push_along-2.result onward c.push_along-2.ensures.kept
 
@@ -37,10 +37,10 @@ returns-clause-all c =
     let there = c.push_along.new.depths.items in
     let back = c.push_along-2.new.depths.items in
     let turned = reverse way in
-    let known : Keeps there back × KnowsBehind there back turned (length turned) → KnowsWay back way = λ both p on.
+    let known : StaysKnown there back × KnowsBehind there back turned (length turned) → KnowsWay back way = λ both p on.
     let m = start p on in
     known_both_ways c.if-not-has_known.depths.items there back way m.0 m.1 m.2 both.0 c.in_ok-push_along.ensures.behind both.1 p on
     in
     let behind : OnOk c.push_along-2.result (KnowsBehind there back turned (length turned)) =
     subst (λ (points : List ℕ). OnOk c.push_along-2.result (KnowsBehind there back points (length points))) c.reverse.ensures.after c.push_along-2.ensures.behind in
-    on_ok_weaker c.push_along-2.result known (on_ok_both (Keeps there back) (KnowsBehind there back turned (length turned)) c.push_along-2.result c.push_along-2.ensures.kept behind)
+    on_ok_weaker c.push_along-2.result known (on_ok_both (StaysKnown there back) (KnowsBehind there back turned (length turned)) c.push_along-2.result c.push_along-2.ensures.kept behind)

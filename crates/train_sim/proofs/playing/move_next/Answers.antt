@@ -3,7 +3,7 @@ use Rattle.std.specs.Prelude.{slice_index}
 use Rattle.rail_model.specs.Lines.{move_line}
 use Rattle.rail_model.specs.Yard.{Offer, Yard}
 use Rattle.plain_yard.proofs.Keeping.{keeps_stands}
-use Rattle.train_sim.specs.Steps.{IsKept}
+use Rattle.train_sim.specs.Steps.{IsTimedSoFar}
 use Rattle.train_sim.proofs.Keeping.{kept_granted, low_due, room_granted, same_trains}
 use Rattle.train_sim.proofs.Waiting.{leads_granted}
 use Rattle.train_sim.proofs.playing.move_next.Goals as goal
@@ -39,7 +39,7 @@ returns-clause-kept g c =
     let keeps = c.step_time-takes.ensures.keeps in
     let i = c.args.train in
     let within : i < length c.args.watch.now.due = omega (arith, same_trains run.tables run.yard c.args.watch.now run.lines keeps.are (keeps_stands _ _ _ keeps) c.requires.kept, c.requires.next.move.train) in
-    subst (λ (ts : List Offer). IsKept ts new.yard c.grant.new.self new.lines) (sym moved.tables)
-    (subst (λ (y : Yard). IsKept run.tables y c.grant.new.self new.lines) (sym moved.moved)
+    subst (λ (ts : List Offer). IsTimedSoFar ts new.yard c.grant.new.self new.lines) (sym moved.tables)
+    (subst (λ (y : Yard). IsTimedSoFar run.tables y c.grant.new.self new.lines) (sym moved.moved)
     (kept_granted run.tables run.yard c.args.watch.now c.grant.new.self run.lines new.lines (move_line run.tables run.yard i) i c.step_time-takes.result c.requires.kept within c.grant.ensures
     c.step_time-takes.ensures.short moved.adds))

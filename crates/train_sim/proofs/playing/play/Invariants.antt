@@ -2,12 +2,12 @@ use Rattle.std.proofs.Common.{◌≡◌}
 use Rattle.rail_model.specs.Table.{IsTable}
 use Rattle.rail_model.specs.Yard.{in_force, IsNextDue}
 use Rattle.plain_yard.proofs.Turns.{left}
-use Rattle.train_sim.specs.Steps.{IsKept, Leads}
+use Rattle.train_sim.specs.Steps.{IsTimedSoFar, Leads}
 use Rattle.train_sim.proofs.playing.play.Given as goal
 
 abbrev pub invariant-loop-train : goal.invariant-loop-train
 invariant-loop-train g l = record {
-  kept : IsKept l.run.tables l.run.yard l.watch l.run.lines;
+  kept : IsTimedSoFar l.run.tables l.run.yard l.watch l.run.lines;
   tables : l.run.tables ≡ l.fn.run.tables;
   formed : IsTable (in_force l.run.tables l.run.yard);
   undue : IsNextDue l.run.tables l.run.yard → ⊥;

@@ -16,7 +16,7 @@ use Rattle.zone_yard.specs.Setup.{Setup, SharedYard, core, state_after}
 use Rattle.zone_yard.specs.Passes.{Root}
 use Rattle.zone_yard.specs.Views.{View}
 use Rattle.zone_yard.specs.Boarding.{Closes}
-use Rattle.zone_yard.specs.Kept.{Kept}
+use Rattle.zone_yard.specs.Kept.{KeepsRule}
 use Rattle.zone_yard.proofs.Keeps.{St}
 use Rattle.zone_yard.proofs.Closed.{ended, size, place_of, table_of, counts, closes}
 use Rattle.zone_yard.proofs.closing.read_back.Goals.{After-close_with-closed}
@@ -36,8 +36,8 @@ module _ (c : After-close_with-closed) where
   ours : c.args.yard.setup ≡ v.setup
   ours = ap (λ (y : SharedYard). y.setup) (sym c.requires.ours) ∙ sym (ap (λ (x : Root). x.yard.setup) c.root.view_is)
 
-  k : Kept v.setup s
-  k = subst (λ (T : Setup). Kept T s) (c.yard.invariant.key_is ∙ made) c.close_with-closed.ensures.values.2.1.0
+  k : KeepsRule v.setup s
+  k = subst (λ (T : Setup). KeepsRule T s) (c.yard.invariant.key_is ∙ made) c.close_with-closed.ensures.values.2.1.0
 
   at : get_elem? s.views 0 ≡ some v
   at = subst (λ id. get_elem? s.views id ≡ some v) c.root.invariant.0.first c.close_with-closed.ensures.values.2.1.1

@@ -1,10 +1,10 @@
 use Rattle.std.proofs.Common.{◌≡◌}
-use Rattle.zone_yard.specs.Holding.{Holds}
+use Rattle.zone_yard.specs.Holding.{HoldsZones}
 use Rattle.zone_yard.proofs.exchanging.wait_for.Given as goal
 
 abbrev pub invariant-loop : goal.invariant-loop
 invariant-loop g l = record {
   table : l.seat.table_id ≡ l.initial.seat.table_id;
   id : l.seat.id ≡ l.initial.seat.id;
-  holds : Holds l.initial.seat.me l.seat.me l.initial.seat.me.0.actor.held;
+  holds : HoldsZones l.initial.seat.me l.seat.me l.initial.seat.me.0.actor.held;
 }

@@ -1,10 +1,10 @@
 use Rattle.std.proofs.Common.{◌≡◌}
-use Rattle.zone_yard.specs.Holding.{span, Holds}
+use Rattle.zone_yard.specs.Holding.{span, HoldsZones}
 use Rattle.zone_yard.proofs.exchanging.wait_for_all.Given as goal
 
 abbrev pub invariant-loop-zone : goal.invariant-loop-zone
 invariant-loop-zone g l = record {
   table : l.seat.table_id ≡ l.initial.seat.table_id;
   id : l.seat.id ≡ l.initial.seat.id;
-  holds : Holds l.initial.seat.me l.seat.me (span l.needed 0 l.zone);
+  holds : HoldsZones l.initial.seat.me l.seat.me (span l.needed 0 l.zone);
 }

@@ -9,7 +9,7 @@ use Rattle.zone_machine.specs.Sound.{IsSetup}
 use Rattle.zone_machine.specs.Weave.{first_words}
 use Rattle.zone_yard.specs.Setup.{Setup, core, most_passes}
 use Rattle.zone_yard.specs.Views.{View, root_view}
-use Rattle.zone_yard.specs.Kept.{Kept}
+use Rattle.zone_yard.specs.Kept.{KeepsRule}
 use Rattle.ticket_lines.specs.Merging.{Row}
 use Rattle.zone_machine.proofs.Opening.{opened}
 use Rattle.zone_yard.specs.Aboard.{IsRoot}
@@ -44,7 +44,7 @@ module _ (c : After-deref) where
 pub of_words-requires : goal.of_words-requires
 of_words-requires c =
     let at = (goal.at.of_words-requires c).After-deref in
-    subst (λ (ws : List ℕ). Kept (S at) (opening ws [] (root_view (S at) []))) (sym (words at)) (opens (S at) (formed at) (omega (arith, c.ranges.calls.fits)))
+    subst (λ (ws : List ℕ). KeepsRule (S at) (opening ws [] (root_view (S at) []))) (sym (words at)) (opens (S at) (formed at) (omega (arith, c.ranges.calls.fits)))
 
 pub invariant_of-result : goal.invariant_of-result
 invariant_of-result c =
