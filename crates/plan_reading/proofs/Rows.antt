@@ -1,5 +1,5 @@
 -- Worked rows: which texts name a point, and which entries are what stands at their places.
-use Rattle.std.proofs.Common.{◌≡◌, ℕ, List, [], ◌∷◌, pos, negsuc, Bool, true, false, Some, None, codes, refl}
+use Rattle.std.proofs.Common.{◌≡◌, ℕ, [], ◌∷◌, pos, negsuc, Bool, true, false, Some, None, codes, refl}
 use Rattle.toml.specs.Data.{Data, Items, no_items, item, no_members, member, string, integer, boolean, table, as_integer}
 use Rattle.plan_reading.specs.Agreeing.{agree_all, exits, is_number, names_point, starts_at, text_at}
 
