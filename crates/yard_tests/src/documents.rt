@@ -54,11 +54,6 @@ fn read(alloc: Global, text: &[u8]) -> Result<Doc, Fail> {
     }
 }
 
-/// The document of this name.
-pub(crate) fn document_called(alloc: Global, name: &str) -> Result<Doc, Fail> {
-    read(alloc, text_called(name).ok_or("a name")?.as_bytes())
-}
-
 // The text of a document in whose tables the train goes to B and to C by turns. Each may take over at once.
 fn by_turns(alloc: Global, tables: u32) -> Result<Vec<u8>, AllocError> {
     let mut text = Vec::from_slice(alloc, AT_A.as_bytes())?;
@@ -73,9 +68,13 @@ fn by_turns(alloc: Global, tables: u32) -> Result<Vec<u8>, AllocError> {
     Ok(text)
 }
 
-/// A document with this many tables, in which the train goes to B and to C by turns. Each may take over at once.
-pub(crate) fn document_by_turns(alloc: Global, tables: u32) -> Result<Doc, Fail> {
-    read(alloc, &by_turns(alloc, tables)?)
+/// The document of this name. That of `turns-N` has so many tables, in which the train goes to B and to C by turns.
+pub(crate) fn document_called(alloc: Global, name: &str) -> Result<Doc, Fail> {
+    if let Some(tables) = name.strip_prefix("turns-") {
+        let tables = tables.parse::<u32>().ok().ok_or("a number")?;
+        return read(alloc, &by_turns(alloc, tables)?);
+    }
+    read(alloc, text_called(name).ok_or("a name")?.as_bytes())
 }
 
 // A table of a document, which its certificate shows to be live.

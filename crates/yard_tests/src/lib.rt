@@ -2,18 +2,14 @@
 #![tactic(auto)]
 
 #[cfg(test)]
-mod blocks;
-#[cfg(test)]
 mod closings;
 #[cfg(test)]
 mod documents;
 #[cfg(test)]
-mod exchanges;
+mod played;
 #[cfg(test)]
 mod players;
 #[cfg(test)]
 mod scenes;
 #[cfg(test)]
 mod stages;
-#[cfg(test)]
-mod zones;
