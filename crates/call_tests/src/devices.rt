@@ -18,15 +18,26 @@ fn many(alloc: Global) -> Result<Vec<u8>, Fail> {
     Ok(read_all(alloc, &mut source, 1_048_576)?)
 }
 
+// Whether a sink takes these bytes, and then no more.
+fn is_filled(sink: &mut MemSink, bytes: &[u8]) -> bool {
+    write_all(sink, bytes).is_ok() && sink.bytes() == bytes && write_all(sink, b"8").is_err()
+}
+
 #[test]
 fn a_sink_that_fails_has_its_room(rt: HostRuntime) -> Result<(), Fail> {
     let alloc = rt.alloc();
     let bytes = many(alloc)?;
     let mut sink = MemSink::new(alloc, 1_000_000, Vec::new(alloc))?;
-    write_all(&mut sink, &bytes)?;
-    assert!(rt; sink.bytes() == bytes.as_slice());
-    assert!(rt; write_all(&mut sink, b"8").is_err());
+    assert!(rt; is_filled(&mut sink, &bytes));
     Ok(())
+}
+
+// Whether a sink that never fails keeps these bytes, and nothing once it has taken one more.
+fn is_passed(sink: &mut SureSink, bytes: &[u8]) -> bool {
+    write_all(sink, bytes).is_ok()
+        && sink.bytes() == Some(bytes)
+        && write_all(sink, b"8").is_ok()
+        && sink.bytes().is_none()
 }
 
 #[test]
@@ -34,10 +45,7 @@ fn a_sure_sink_has_its_room(rt: HostRuntime) -> Result<(), Fail> {
     let alloc = rt.alloc();
     let bytes = many(alloc)?;
     let mut sink = SureSink::new(alloc)?;
-    write_all(&mut sink, &bytes)?;
-    assert!(rt; sink.bytes() == Some(bytes.as_slice()));
-    write_all(&mut sink, b"8")?;
-    assert!(rt; sink.bytes().is_none());
+    assert!(rt; is_passed(&mut sink, &bytes));
     Ok(())
 }
 
@@ -79,13 +87,23 @@ fn takes_all(taken: Option<usize>, is_flushed: bool) -> bool {
     write_all(&mut Writing::new(device), first_path_journal()).is_ok()
 }
 
-#[test]
-fn the_adapters_hand_bytes_on_and_count_faults(rt: HostRuntime) -> Result<(), Fail> {
-    let alloc = rt.alloc();
-    let bytes = read_all(alloc, &mut Reading::new(first_path_journal()), 49)?;
+// A text that is read and written by the adapters.
+fn handed_on(alloc: Global, text: &[u8]) -> Result<Vec<u8>, Fail> {
+    let bytes = read_all(alloc, &mut Reading::new(text), 49)?;
     let mut written = Vec::new(alloc);
     write_all(&mut Writing::new(&mut written), &bytes)?;
+    Ok(written)
+}
+
+#[test]
+fn the_adapters_hand_bytes_on(rt: HostRuntime) -> Result<(), Fail> {
+    let written = handed_on(rt.alloc(), first_path_journal())?;
     assert!(rt; written.as_slice() == first_path_journal());
+    Ok(())
+}
+
+#[test]
+fn the_adapters_count_faults(rt: HostRuntime) {
     assert!(rt; !takes_all(None, true));
     assert!(rt; !takes_all(Some(9), false));
     assert!(rt; !takes_all(Some(0), true));
@@ -94,8 +112,7 @@ fn the_adapters_hand_bytes_on_and_count_faults(rt: HostRuntime) -> Result<(), Fa
         taken: None,
         is_flushed: true,
     };
-    assert!(rt; read_all(alloc, &mut Reading::new(broken), 49).is_err());
-    Ok(())
+    assert!(rt; read_all(rt.alloc(), &mut Reading::new(broken), 49).is_err());
 }
 
 fn pass_by<G: Gate>(gate: &G) {

@@ -196,17 +196,23 @@ fn is_ended(played: &Played, exit_code: &str, answer: &[u8]) -> bool {
         && is_told(played, told)
 }
 
-// Whether a call by devices that never fail ends as its row says.
-fn is_answered(rt: &(impl Threads + Wait + Sync), alloc: Global, text: &str) -> Result<bool, Fail> {
-    let row = row_of(text).ok_or("a call")?;
-    let played = call(rt, alloc, row.words, input_called(alloc, row.input)?)?;
+// Whether a call ended with a row's code and one of its answers.
+fn has_ended(alloc: Global, played: &Played, row: Row<'_>) -> Result<bool, Fail> {
     for answer in row.answers.split(" or ") {
         let answer = answer_called(alloc, answer)?;
-        if is_ended(&played, row.exit_code, answer.as_slice()) {
+        if is_ended(played, row.exit_code, answer.as_slice()) {
             return Ok(true);
         }
     }
     Ok(false)
+}
+
+// Whether a call by devices that never fail ends as its row says.
+fn is_answered(rt: &(impl Threads + Wait + Sync), alloc: Global, text: &str) -> Result<bool, Fail> {
+    let row = row_of(text).ok_or("a call")?;
+    let input = input_called(alloc, row.input)?;
+    let played = call(rt, alloc, row.words, input)?;
+    has_ended(alloc, &played, row)
 }
 
 #[test]
@@ -218,14 +224,30 @@ fn calls_end_as_their_rows_say(rt: HostRuntime) -> Result<(), Fail> {
     Ok(())
 }
 
-// Whether a run of the first path ends so by devices that take sixteen bytes a call and fail at these calls: its exit code, how many bytes
-// it reads, and how many of its journal it writes.
-fn is_stopped(
+// How a run of the first path ends: its exit code, how many of its 190 bytes it leaves, and how many of its journal it writes.
+#[derive(Clone, Copy)]
+struct Stop {
+    exit_code: u8,
+    left: usize,
+    written: usize,
+}
+
+// Whether a call ended so.
+fn is_stopped(played: &Played, stop: Stop) -> bool {
+    let written = played.written.as_slice();
+    code(played.status) == stop.exit_code
+        && played.left.len() == stop.left
+        && written.len() == stop.written
+        && first_path_journal().starts_with(written)
+}
+
+// Whether a run of the first path ends so by devices that take sixteen bytes a call and fail at these calls.
+fn stops(
     rt: &(impl Threads + Wait + Sync),
     alloc: Global,
     reads: &[u64],
     writes: &[u64],
-    stop: &str,
+    stop: Stop,
 ) -> Result<bool, Fail> {
     let text = document_called("first-path").ok_or("a document")?;
     let input = Vec::from_slice(alloc, text.as_bytes())?;
@@ -235,26 +257,73 @@ fn is_stopped(
         writes,
     };
     let played = call_by(rt, alloc, "run", input, faults)?;
-    let exit_code = code(played.status);
-    let read = text.len().saturating_sub(played.left.len());
-    let written = played.written.len();
-    let ended = format!(in alloc; "{exit_code} {read} {written}")?;
-    Ok(ended.as_str() == stop && first_path_journal().starts_with(played.written.as_slice()))
+    Ok(is_stopped(&played, stop))
 }
+
+// The call of a source that fails, and how a run ends then.
+const READS: [(u64, Stop); 2] = [
+    (
+        0,
+        Stop {
+            exit_code: 7,
+            left: 190,
+            written: 0,
+        },
+    ),
+    (
+        11,
+        Stop {
+            exit_code: 7,
+            left: 14,
+            written: 0,
+        },
+    ),
+];
+
+// The call of a sink that fails, and how a run ends then.
+const WRITES: [(u64, Stop); 4] = [
+    (
+        0,
+        Stop {
+            exit_code: 8,
+            left: 0,
+            written: 0,
+        },
+    ),
+    (
+        1,
+        Stop {
+            exit_code: 8,
+            left: 0,
+            written: 16,
+        },
+    ),
+    (
+        3,
+        Stop {
+            exit_code: 8,
+            left: 0,
+            written: 48,
+        },
+    ),
+    (
+        4,
+        Stop {
+            exit_code: 0,
+            left: 0,
+            written: 49,
+        },
+    ),
+];
 
 #[test]
 fn a_device_that_fails_ends_the_call(rt: HostRuntime) -> Result<(), Fail> {
     let alloc = rt.alloc();
-    for (call, stop) in [(0, "7 0 0"), (11, "7 176 0")] {
-        assert!(rt; is_stopped(&rt, alloc, &[call], &[], stop)?, "{stop}");
+    for (call, stop) in READS {
+        assert!(rt; stops(&rt, alloc, &[call], &[], stop)?, "{call}");
     }
-    for (call, stop) in [
-        (0, "8 190 0"),
-        (1, "8 190 16"),
-        (3, "8 190 48"),
-        (4, "0 190 49"),
-    ] {
-        assert!(rt; is_stopped(&rt, alloc, &[], &[call], stop)?, "{stop}");
+    for (call, stop) in WRITES {
+        assert!(rt; stops(&rt, alloc, &[], &[call], stop)?, "{call}");
     }
     Ok(())
 }
