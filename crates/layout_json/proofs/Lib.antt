@@ -1,4 +1,5 @@
 mod Rows
+pub mod OneMore
 pub mod Timed
 pub mod Refusals
 pub mod TimesLemmas

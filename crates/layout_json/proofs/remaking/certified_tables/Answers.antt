@@ -1,7 +1,8 @@
 use Rattle.std.proofs.Common.{◌∙◌, ◌<◌, length, arith}
-use Rattle.layout_json.specs.Doc.{doc_table, names_of}
+use Rattle.layout_json.specs.Doc.{doc_table, names_of, table_at}
 use Rattle.layout_json.specs.Members.{table_members_in}
 use Rattle.layout_json.specs.Replaced.{recertified}
+use Rattle.layout_json.proofs.NamedLemmas.{ways-named, points-counted}
 use Rattle.layout_json.proofs.Remade.{member-more, member-all}
 use Rattle.layout_json.proofs.remaking.certified_tables.Goals as goal
 
@@ -19,3 +20,10 @@ pub returns : goal.returns
 returns c =
     member-all recertified c.args.doc.now c.args.certs.now c.requires _ c.loop-number.number
     (omega (arith, c.loop-number-test.false, c.tables_of-number-end.ensures.count)) c.loop-number.invariant
+
+pub table_with-requires-clause-named : goal.table_with-requires-clause-named
+table_with-requires-clause-named c =
+    let D = c.args.doc.now in
+    let i = c.loop-number.number in
+    let below : i < length D.tables = omega (arith, c.loop-number-test.true, c.tables_of-number-end.ensures.count) in
+    rw (c.frame.ensures, c.table_of-table.ensures.table) (ways-named (names_of D) D.layout (table_at D i) (points-counted D) (c.tables_of-number-end.ensures.formed.points i below))
