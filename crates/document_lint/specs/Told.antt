@@ -1,5 +1,5 @@
 -- When something is said of a document.
-use Rattle.std.specs.Prelude.{◌≡◌, ◌≢◌, ◌⊎◌, ◌<◌, ◌≤◌, ℕ, pos, List, length, Option, None, Ok, MatchOption, Contains}
+use Rattle.std.specs.Prelude.{◌≡◌, ◌≢◌, ◌⊎◌, ◌<◌, ◌≤◌, ℕ, pos, List, length, None, Ok, Contains}
 use Rattle.layout_json.specs.Doc.{Doc, doc_table, table_at}
 use Rattle.layout_json.specs.Reading.{doc_of}
 use Rattle.rail_model.specs.Table.{Table, Connection, last, place, section, share}
@@ -14,10 +14,6 @@ AreDocument bytes = (D : Doc) × (doc_of bytes ≡ Ok D)
 -- Something is said.
 abbrev pub IsSaid : Remarks → Type 0
 IsSaid remarks = 0 < length remarks.found.items
-
--- The document is that of the bytes, and where there is none, something is said.
-abbrev pub IsReadAs : List ℕ → Remarks → Option Doc → Type 0
-IsReadAs bytes remarks document = MatchOption document (IsSaid remarks) (λ D. doc_of bytes ≡ Ok D)
 
 -- More is said only where this holds.
 abbrev pub SaysOnlyWhere : Type 0 → Remarks → Remarks → Type 0

@@ -4,6 +4,7 @@ ghost use Rattle.rail_model.specs.State.{remaining as moves_left};
 ghost use Rattle.layout_json.specs.Doc.{table_at};
 ghost use Rattle.document_lint.specs.Told.{IsNeverDue, SaysOnlyWhere};
 
+use crate::place::Object;
 use crate::remark::Remarks;
 use layout_json::{Doc, after_of, start_of, table_of, tables_of};
 use legal_state::remaining;
@@ -31,12 +32,12 @@ fn add_after(remarks: &mut Remarks, doc: &Doc, table: u32) -> Result<(), AllocEr
     if u64::from(after) <= moves {
         return Ok(());
     }
-    let alloc = remarks.alloc();
-    let place = format!(in alloc; "tables[{table}].after")?;
-    let words = format!(in alloc;
+    write!(
+        remarks.words,
         "{after} moves are never made: all trains have arrived after {moves} at most, and this table comes only then"
     )?;
-    remarks.add(place, words)
+    let table = table as usize;
+    remarks.add(Object::Table { table }.member("after"))
 }
 
 /// Adds which tables are due only once all trains have arrived.

@@ -59,15 +59,14 @@ fn write_train(
 fn add_gone(remarks: &mut Remarks, former: &Subject, section: u32) -> Result<(), AllocError>
     requires { section < length former.now.table.now.sections }
 {
-    let alloc = remarks.alloc();
-    let table = former.number;
     let limit = limit_of(former.table, section);
-    let mut words = format!(in alloc; "gone: limit {limit}")?;
+    write!(remarks.words, "gone: limit {limit}")?;
     for train in 0..trains_of(former.table) {
-        write_train(&mut words, former, section, train)?;
+        write_train(&mut remarks.words, former, section, train)?;
     }
-    let place = format!(in alloc; "tables[{table}].sections[{section}] of the former document")?;
-    remarks.add(place, words)
+    former.section_place(section).write(&mut remarks.place)?;
+    remarks.place.push_str(" of the former document")?;
+    remarks.end()
 }
 
 // Whether a table of a document, if it is there, has a section of a table of the former one.

@@ -7,6 +7,7 @@ mod former;
 mod laws;
 mod linting;
 mod members;
+mod place;
 mod remark;
 mod same;
 mod sections;

@@ -1,10 +1,11 @@
 // All remarks on a document.
-ghost use Rattle.std.specs.Prelude.{◌≡◌, [], IfOk};
-ghost use Rattle.document_lint.specs.Told.{AreDocument, IsReadAs, IsSaid};
+ghost use Rattle.std.specs.Prelude.{◌≡◌, ◌⊎◌, [], IfOk, IfErr};
+ghost use Rattle.document_lint.specs.Told.{AreDocument, IsSaid};
 
 use crate::afters::add_afters;
 use crate::former::add_former;
 use crate::members::add_members;
+use crate::place::Object;
 use crate::remark::{Remark, Remarks};
 use crate::sections::add_sections;
 use crate::shares::{add_shares, look_like_shares};
@@ -42,15 +43,20 @@ fn add_taken(remarks: &mut Remarks, doc: &Doc) -> Result<(), AllocError> {
     add_afters(remarks, doc)
 }
 
-// Adds that a document is refused, and why.
-fn add_refused(remarks: &mut Remarks, place: &str, refused: &DocRefused) -> Result<(), AllocError>
+// Adds that a document is refused, and why; but it fails where memory ran out.
+fn add_refused(
+    remarks: &mut Remarks,
+    document: &str,
+    refused: &DocRefused,
+) -> Result<(), AllocError>
     ensures { IfOk result (λ done. IsSaid remarks.new) }
 {
-    let alloc = remarks.alloc();
-    let mut words = String::from_str(alloc, "ats refuses it: ")?;
-    push_document(&mut words, refused)?;
-    let place = String::from_str(alloc, place)?;
-    remarks.add(place, words)
+    if let DocRefused::Memory = refused {
+        return Err(AllocError);
+    }
+    remarks.words.push_str("ats refuses it: ")?;
+    push_document(&mut remarks.words, refused)?;
+    remarks.add(Object::Document.member(document))
 }
 
 // Adds which trains' changes of a table's sections look like shares.
@@ -60,13 +66,12 @@ fn add_suspects(
     sections: &[Section],
     most: i32,
 ) -> Result<(), AllocError> {
-    let alloc = remarks.alloc();
-    for (number, section) in sections.iter().enumerate().take(MAX_SECTIONS) {
-        let place = format!(in alloc; "tables[{table}].sections[{number}]")?;
-        for (train, changes) in section.all_changes().iter().enumerate().take(MAX_TRAINS) {
+    for (section, found) in sections.iter().enumerate().take(MAX_SECTIONS) {
+        let object = Object::Section { table, section };
+        for (train, changes) in found.all_changes().iter().enumerate().take(MAX_TRAINS) {
             let numbers = changes.as_slice();
             if look_like_shares(numbers, most) {
-                add_shares(remarks, &place, train, numbers)?;
+                add_shares(remarks, object, train, numbers)?;
             }
         }
     }
@@ -107,22 +112,70 @@ fn add_refusal(remarks: &mut Remarks, bytes: &[u8], refused: &DocRefused) -> Res
     remarks.append(causes_of(remarks.alloc(), bytes, refused)?)
 }
 
-// Adds all remarks on a document, and gives it where `ats` takes it.
-fn add_all(remarks: &mut Remarks, bytes: &[u8]) -> Result<Option<Doc>, AllocError>
-    ensures { IfOk result (IsReadAs bytes.now remarks.new) }
+// Adds all remarks on a document, which was read or refused so.
+fn add_all(
+    remarks: &mut Remarks,
+    bytes: &[u8],
+    read: &Result<Doc, DocRefused>,
+) -> Result<(), AllocError>
+    ensures { IfOk result (λ done. IfErr read.now (λ refused. IsSaid remarks.new)) }
 {
-    match document(remarks.alloc(), bytes) {
+    match read {
         Ok(doc) => {
             add_members(remarks, bytes)?;
-            add_taken(remarks, &doc)?;
-            Ok(Some(doc))
+            add_taken(remarks, doc)
         }
-        Err(DocRefused::Memory) => Err(AllocError),
-        Err(refused) => {
-            add_refusal(remarks, bytes, &refused)?;
-            Ok(None)
-        }
+        Err(refused) => add_refusal(remarks, bytes, refused),
     }
+}
+
+// Adds which sections of a former document are gone, or why it is refused.
+fn add_changes(
+    remarks: &mut Remarks,
+    read: &Result<Doc, DocRefused>,
+    former: &Result<Doc, DocRefused>,
+) -> Result<(), AllocError>
+    ensures still { IfOk result (λ done. IsSaid remarks.old → IfErr read.now (λ refused. IsSaid remarks.new)) }
+    ensures former { IfOk result (λ done. IfErr former.now (λ refused. IsSaid remarks.new)) }
+{
+    match former {
+        Ok(former) => match read {
+            Ok(doc) => add_former(remarks, doc, former),
+            Err(_) => Ok(()),
+        },
+        Err(refused) => add_refused(remarks, "former document", refused),
+    }
+}
+
+// Adds what is said of a document.
+fn add_document(remarks: &mut Remarks, bytes: &[u8]) -> Result<(), AllocError>
+    ensures { IfOk result (λ done. IsSaid remarks.new ⊎ AreDocument bytes.now) }
+{
+    let read = document(remarks.alloc(), bytes);
+    add_all(remarks, bytes, &read)
+}
+
+// Adds what a document that was read or refused so has lost since a former one.
+fn add_comparison(
+    remarks: &mut Remarks,
+    read: &Result<Doc, DocRefused>,
+    former: &[u8],
+) -> Result<(), AllocError>
+    ensures still { IfOk result (λ done. IsSaid remarks.old → IfErr read.now (λ refused. IsSaid remarks.new)) }
+    ensures former { IfOk result (λ done. IsSaid remarks.new ⊎ AreDocument former.now) }
+{
+    let read_former = document(remarks.alloc(), former);
+    add_changes(remarks, read, &read_former)
+}
+
+// Adds what is said of a document, and what it has lost since a former one.
+fn add_both(remarks: &mut Remarks, bytes: &[u8], former: &[u8]) -> Result<(), AllocError>
+    ensures document { IfOk result (λ done. IsSaid remarks.new ⊎ AreDocument bytes.now) }
+    ensures former { IfOk result (λ done. IsSaid remarks.new ⊎ AreDocument former.now) }
+{
+    let read = document(remarks.alloc(), bytes);
+    add_all(remarks, bytes, &read)?;
+    add_comparison(remarks, &read, former)
 }
 
 /// What a document says that has no effect or is likely a mistake; and if `ats` refuses it, why.
@@ -130,8 +183,7 @@ pub fn lint(alloc: Global, bytes: &[u8]) -> Result<Vec<Remark>, AllocError>
     ensures { IfOk result (λ remarks. remarks.items ≡ [] → AreDocument bytes.now) }
 {
     let mut remarks = Remarks::new(alloc);
-    // Only the remarks are wanted, not the document.
-    let _doc = add_all(&mut remarks, bytes)?;
+    add_document(&mut remarks, bytes)?;
     Ok(remarks.into_vec())
 }
 
@@ -141,13 +193,6 @@ pub fn lint_after(alloc: Global, bytes: &[u8], former: &[u8]) -> Result<Vec<Rema
     ensures former { IfOk result (λ remarks. remarks.items ≡ [] → AreDocument former.now) }
 {
     let mut remarks = Remarks::new(alloc);
-    let doc = add_all(&mut remarks, bytes)?;
-    match document(alloc, former) {
-        Ok(former) => if let Some(doc) = doc {
-            add_former(&mut remarks, &doc, &former)?;
-        },
-        Err(DocRefused::Memory) => return Err(AllocError),
-        Err(refused) => add_refused(&mut remarks, "former document", &refused)?,
-    }
+    add_both(&mut remarks, bytes, former)?;
     Ok(remarks.into_vec())
 }

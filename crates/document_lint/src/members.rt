@@ -2,6 +2,7 @@
 ghost use Rattle.std.specs.Prelude.{◌<◌};
 ghost use Rattle.document_lint.specs.Told.{SaysOnlyWhere};
 
+use crate::place::Object;
 use crate::remark::Remarks;
 use json::{Error, Scratch, Value};
 use rail_model::is_name;
@@ -81,37 +82,35 @@ fn nearest<'k>(
     Ok(found)
 }
 
-// The place of a member of an object: the object's place and the member's name, in quotes where it isn't a plain word.
-fn member_place(alloc: Global, object: &str, name: &str) -> Result<String, AllocError> {
+// Adds the name of a member, in quotes where it isn't a plain word.
+fn write_name(text: &mut String, name: &str) -> Result<(), AllocError> {
     if is_name(name) {
-        return format!(in alloc; "{object}{name}");
+        return text.push_str(name);
     }
-    let shown: String = name.chars().take(SHOWN).collect(alloc)?;
-    format!(in alloc; "{object}{shown:?}")
+    let shown: String = name.chars().take(SHOWN).collect(*text.allocator())?;
+    write!(text, "{shown:?}")
 }
 
 // Adds that an object has a member of an unknown name.
 fn add_unknown(
     remarks: &mut Remarks,
-    object: &str,
+    object: Object,
     name: &str,
     known: &[&str],
 ) -> Result<(), AllocError> {
-    let alloc = remarks.alloc();
-    let place = member_place(alloc, object, name)?;
-    let words = match nearest(alloc, name, known)? {
-        Some(meant) => {
-            format!(in alloc; "unknown, so it is ignored; did you mean \"{meant}\"?")?
-        }
-        None => String::from_str(alloc, "unknown, so it is ignored")?,
-    };
-    remarks.add(place, words)
+    object.write(&mut remarks.place)?;
+    write_name(&mut remarks.place, name)?;
+    remarks.words.push_str("unknown, so it is ignored")?;
+    if let Some(meant) = nearest(remarks.alloc(), name, known)? {
+        write!(remarks.words, "; did you mean \"{meant}\"?")?;
+    }
+    remarks.end()
 }
 
 // Adds which members of an object have unknown names.
 fn add_unknowns(
     remarks: &mut Remarks,
-    object: &str,
+    object: Object,
     members: &[(&str, Value)],
     known: &[&str],
 ) -> Result<(), AllocError> {
@@ -127,11 +126,12 @@ fn add_unknowns(
     if count <= NAMED {
         return Ok(());
     }
-    let alloc = remarks.alloc();
     let more = count - NAMED;
-    let place = format!(in alloc; "{object}*")?;
-    let words = format!(in alloc; "{more} more unknown members, which are ignored too")?;
-    remarks.add(place, words)
+    write!(
+        remarks.words,
+        "{more} more unknown members, which are ignored too"
+    )?;
+    remarks.add(object.member("*"))
 }
 
 // How often an object has a member.
@@ -148,17 +148,15 @@ fn times_given(members: &[(&str, Value)], name: &str) -> usize {
 // Adds which known members an object has more than once.
 fn add_repeated(
     remarks: &mut Remarks,
-    object: &str,
+    object: Object,
     members: &[(&str, Value)],
     known: &[&str],
 ) -> Result<(), AllocError> {
-    let alloc = remarks.alloc();
     for name in known {
         let count = times_given(members, name);
         if 1 < count {
-            let place = format!(in alloc; "{object}{name}")?;
-            let words = format!(in alloc; "given {count} times; the last one counts")?;
-            remarks.add(place, words)?;
+            write!(remarks.words, "given {count} times; the last one counts")?;
+            remarks.add(object.member(name))?;
         }
     }
     Ok(())
@@ -167,7 +165,7 @@ fn add_repeated(
 // Adds which members of an object are unknown or repeated.
 fn add_of_object(
     remarks: &mut Remarks,
-    object: &str,
+    object: Object,
     value: &Value,
     known: &[&str],
 ) -> Result<(), AllocError> {
@@ -179,7 +177,7 @@ fn add_of_object(
 // Adds that a table has a member that only later versions have.
 fn add_later(
     remarks: &mut Remarks,
-    object: &str,
+    object: Object,
     table: &Value,
     member: &str,
     version: u64,
@@ -190,24 +188,22 @@ fn add_later(
     if since <= version || table.get(member).is_none() {
         return Ok(());
     }
-    let alloc = remarks.alloc();
-    let place = format!(in alloc; "{object}{member}")?;
-    let words = format!(in alloc;
+    write!(
+        remarks.words,
         "ignored in version {version}; it counts from version {since} on"
     )?;
-    remarks.add(place, words)
+    remarks.add(object.member(member))
 }
 
 // Adds what is said of the members of a table's sections.
 fn add_of_sections(
     remarks: &mut Remarks,
-    object: &str,
+    table: usize,
     sections: &Value,
 ) -> Result<(), AllocError> {
-    let alloc = remarks.alloc();
-    for (number, section) in items_of(sections).iter().enumerate().take(MAX_SECTIONS) {
-        let place = format!(in alloc; "{object}sections[{number}].")?;
-        add_of_object(remarks, &place, section, &SECTION_MEMBERS)?;
+    for (section, value) in items_of(sections).iter().enumerate().take(MAX_SECTIONS) {
+        let object = Object::Section { table, section };
+        add_of_object(remarks, object, value, &SECTION_MEMBERS)?;
     }
     Ok(())
 }
@@ -219,13 +215,12 @@ fn add_of_table(
     table: &Value,
     version: u64,
 ) -> Result<(), AllocError> {
-    let alloc = remarks.alloc();
-    let object = format!(in alloc; "tables[{number}].")?;
-    add_of_object(remarks, &object, table, &TABLE_MEMBERS)?;
-    add_later(remarks, &object, table, "exits", version, 2)?;
-    add_later(remarks, &object, table, "connections", version, 3)?;
+    let object = Object::Table { table: number };
+    add_of_object(remarks, object, table, &TABLE_MEMBERS)?;
+    add_later(remarks, object, table, "exits", version, 2)?;
+    add_later(remarks, object, table, "connections", version, 3)?;
     match table.get("sections") {
-        Some(sections) => add_of_sections(remarks, &object, sections),
+        Some(sections) => add_of_sections(remarks, number, sections),
         None => Ok(()),
     }
 }
@@ -248,7 +243,7 @@ fn version_of(document: &Value) -> u64 {
 
 // Adds what is said of the members of a document, of its tables and of their sections.
 fn add_of_document(remarks: &mut Remarks, document: &Value) -> Result<(), AllocError> {
-    add_of_object(remarks, "", document, &DOCUMENT_MEMBERS)?;
+    add_of_object(remarks, Object::Document, document, &DOCUMENT_MEMBERS)?;
     match document.get("tables") {
         Some(tables) => add_of_tables(remarks, tables, version_of(document)),
         None => Ok(()),

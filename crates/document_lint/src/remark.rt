@@ -2,7 +2,9 @@
 ghost use Rattle.std.specs.Prelude.{◌≡◌, ◌++◌, IfOk};
 ghost use Rattle.document_lint.specs.Told.{IsSaid};
 
+use crate::place::Place;
 use std::alloc::{AllocError, Global};
+use std::mem::replace;
 
 /// What is to be said of a member of a document, and the member's place there, as `tables[0].sections[2]`.
 #[derive(Drop)]
@@ -16,6 +18,9 @@ pub struct Remark {
 pub(crate) struct Remarks {
     alloc: Global,
     found: Vec<Remark>,
+    /// The place of the remark that comes next, and its words: what is written there before the remark is added.
+    pub(crate) place: String,
+    pub(crate) words: String,
 }
 
 impl Remarks {
@@ -23,6 +28,8 @@ impl Remarks {
         Remarks {
             alloc,
             found: Vec::new(alloc),
+            place: String::new(alloc),
+            words: String::new(alloc),
         }
     }
 
@@ -30,12 +37,22 @@ impl Remarks {
         self.alloc
     }
 
-    /// Adds a remark.
-    pub(crate) fn add(&mut self, place: String, words: String) -> Result<(), AllocError>
+    /// Adds the remark whose place and words are written.
+    pub(crate) fn end(&mut self) -> Result<(), AllocError>
         ensures { IfOk result (λ done. IsSaid self.new) }
     {
+        let place = replace(&mut self.place, String::new(self.alloc));
+        let words = replace(&mut self.words, String::new(self.alloc));
         self.found.push(Remark { place, words })?;
         Ok(())
+    }
+
+    /// Adds the remark whose words are written.
+    pub(crate) fn add(&mut self, place: Place) -> Result<(), AllocError>
+        ensures { IfOk result (λ done. IsSaid self.new) }
+    {
+        place.write(&mut self.place)?;
+        self.end()
     }
 
     /// Adds remarks after these.

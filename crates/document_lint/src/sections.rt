@@ -42,15 +42,14 @@ fn add_overfilled(
     if !overfills_alone(subject.table, section, train) {
         return Ok(());
     }
-    let alloc = remarks.alloc();
     let limit = limit_of(subject.table, section);
     let name = subject.train(train);
     let point = first_above(subject, section, train, limit as i32);
-    let place = subject.section_place(alloc, section)?;
-    let words = format!(in alloc;
+    write!(
+        remarks.words,
         "{name} alone has more of it at {point} than its limit {limit}, so {name} can never come there"
     )?;
-    remarks.add(place, words)
+    remarks.add(subject.section_place(section))
 }
 
 // Adds that a train still has a share of a section after its exit, if it has.
@@ -69,11 +68,12 @@ fn add_kept(
     if share == 0 || point_of(subject.table, train, last).is_some() {
         return Ok(());
     }
-    let alloc = remarks.alloc();
     let name = subject.train(train);
-    let place = subject.section_place(alloc, section)?;
-    let words = format!(in alloc; "{name} keeps {share} of it after it has left the layout")?;
-    remarks.add(place, words)
+    write!(
+        remarks.words,
+        "{name} keeps {share} of it after it has left the layout"
+    )?;
+    remarks.add(subject.section_place(section))
 }
 
 // Adds what is said of each train's shares of a section.
@@ -99,14 +99,13 @@ fn add_overfull_at_end(
     if !is_overfull_at_end(subject.table, section) {
         return Ok(());
     }
-    let alloc = remarks.alloc();
     let count = count_at_end(subject.table, section);
     let limit = limit_of(subject.table, section);
-    let place = subject.section_place(alloc, section)?;
-    let words = format!(in alloc;
+    write!(
+        remarks.words,
         "at their last places the trains have {count} of it together, above its limit {limit}: they can never all arrive"
     )?;
-    remarks.add(place, words)
+    remarks.add(subject.section_place(section))
 }
 
 // Adds that a section has no effect, if it has none.
@@ -114,23 +113,21 @@ fn add_idle(remarks: &mut Remarks, subject: &Subject, section: u32) -> Result<()
     requires { section < length subject.now.table.now.sections }
     ensures { SaysOnlyWhere (IsUnused subject.now.table.now section ⊎ NeverBinds subject.now.table.now section) remarks.old remarks.new }
 {
-    let alloc = remarks.alloc();
-    let words = if is_unused(subject.table, section) {
-        String::from_str(
-            alloc,
-            "no train ever has a share of it, so it has no effect",
-        )?
+    if is_unused(subject.table, section) {
+        remarks
+            .words
+            .push_str("no train ever has a share of it, so it has no effect")?;
     } else if never_binds(subject.table, section) {
         let count = most_together(subject.table, section);
         let limit = limit_of(subject.table, section);
-        format!(in alloc;
+        write!(
+            remarks.words,
             "never binds: all trains together have at most {count} of it, and its limit is {limit}"
-        )?
+        )?;
     } else {
         return Ok(());
-    };
-    let place = subject.section_place(alloc, section)?;
-    remarks.add(place, words)
+    }
+    remarks.add(subject.section_place(section))
 }
 
 // The first section before another one that is the same.
@@ -155,10 +152,8 @@ fn add_double(remarks: &mut Remarks, subject: &Subject, section: u32) -> Result<
     let Some(first) = first_like(subject.table, section) else {
         return Ok(());
     };
-    let alloc = remarks.alloc();
-    let place = subject.section_place(alloc, section)?;
-    let words = format!(in alloc; "the same as sections[{first}]")?;
-    remarks.add(place, words)
+    write!(remarks.words, "the same as sections[{first}]")?;
+    remarks.add(subject.section_place(section))
 }
 
 // Adds which trains' changes look like shares: those that end as at a place without a share.
@@ -170,13 +165,12 @@ fn add_suspects(
 ) -> Result<(), AllocError>
     requires { section < length subject.now.table.now.sections }
 {
-    let alloc = remarks.alloc();
-    let place = subject.section_place(alloc, section)?;
+    let object = subject.section(section);
     let sections = subject.table.sections();
     for (train, changes) in sections[section as usize].all_changes().iter().enumerate() {
         let numbers = changes.as_slice();
         if numbers.last() == Some(&0) && look_like_shares(numbers, most) {
-            add_shares(remarks, &place, train, numbers)?;
+            add_shares(remarks, object, train, numbers)?;
         }
     }
     Ok(())

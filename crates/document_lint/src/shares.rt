@@ -1,6 +1,7 @@
 // Shares that are written where changes are wanted.
+use crate::place::Object;
 use crate::remark::Remarks;
-use std::alloc::{AllocError, Global};
+use std::alloc::AllocError;
 
 // No train has more places.
 const MAX_PLACES: usize = 129;
@@ -19,9 +20,9 @@ pub(crate) fn look_like_shares(numbers: &[i32], most: i32) -> bool {
     1 < rises && numbers.len() <= MAX_PLACES
 }
 
-// The changes that make these shares, as a document has them.
-fn changes_text(alloc: Global, shares: &[i32]) -> Result<String, AllocError> {
-    let mut text = String::from_str(alloc, "[")?;
+// Adds the changes that make these shares, as a document has them.
+fn write_changes(text: &mut String, shares: &[i32]) -> Result<(), AllocError> {
+    text.push_str("[")?;
     let mut before: i32 = 0;
     let mut comma = "";
     for share in shares {
@@ -30,22 +31,19 @@ fn changes_text(alloc: Global, shares: &[i32]) -> Result<String, AllocError> {
         before = *share;
         comma = ",";
     }
-    text.push_str("]")?;
-    Ok(text)
+    text.push_str("]")
 }
 
 /// Adds that a train's numbers in a section look like shares.
 pub(crate) fn add_shares(
     remarks: &mut Remarks,
-    section: &str,
+    section: Object,
     train: usize,
     numbers: &[i32],
 ) -> Result<(), AllocError> {
-    let alloc = remarks.alloc();
-    let place = format!(in alloc; "{section}.changes[{train}]")?;
-    let changes = changes_text(alloc, numbers)?;
-    let words = format!(in alloc;
-        "these look like shares; changes say how much the share rises at each place: {changes}"
+    remarks.words.push_str(
+        "these look like shares; changes say how much the share rises at each place: ",
     )?;
-    remarks.add(place, words)
+    write_changes(&mut remarks.words, numbers)?;
+    remarks.add(section.item("changes", train))
 }

@@ -2,9 +2,9 @@
 ghost use Rattle.std.specs.Prelude.{◌<◌, length};
 ghost use Rattle.rail_model.specs.Table.{trains};
 
+use crate::place::{Object, Place};
 use layout_json::{Doc, layout_of, names_of, table_of};
 use rail_model::{Layout, Names, Table, point_of};
-use std::alloc::{AllocError, Global};
 
 /// A table of a document by its number, with the names of the trains and of the points.
 #[derive(Clone, Copy)]
@@ -55,15 +55,22 @@ impl<'a> Subject<'a> {
         }
     }
 
-    /// The place of a section in the document.
-    pub(crate) fn section_place(&self, alloc: Global, section: u32) -> Result<String, AllocError> {
-        let number = self.number;
-        format!(in alloc; "tables[{number}].sections[{section}]")
+    /// The place of an item of a list of the table.
+    pub(crate) fn item<'b>(&self, list: &'b str, number: usize) -> Place<'b> {
+        let table = self.number as usize;
+        Object::Table { table }.item(list, number)
     }
 
-    /// The place of a mission in the document.
-    pub(crate) fn mission_place(&self, alloc: Global, train: u32) -> Result<String, AllocError> {
-        let number = self.number;
-        format!(in alloc; "tables[{number}].missions[{train}]")
+    /// A section of the table.
+    pub(crate) fn section(&self, section: u32) -> Object {
+        Object::Section {
+            table: self.number as usize,
+            section: section as usize,
+        }
+    }
+
+    /// The place of a section in the document.
+    pub(crate) fn section_place(&self, section: u32) -> Place<'_> {
+        self.item("sections", section as usize)
     }
 }

@@ -31,15 +31,14 @@ fn add_train(remarks: &mut Remarks, subject: &Subject, train: u32) -> Result<(),
     let Some(first) = first_partner(subject.table, train) else {
         return Ok(());
     };
-    let alloc = remarks.alloc();
     let point = subject.point(train, last_of(subject.table, train));
     let name = subject.train(train);
     let other = subject.train(first);
-    let place = subject.mission_place(alloc, train)?;
-    let words = format!(in alloc;
+    write!(
+        remarks.words,
         "{name} ends at {point}, as {other} does, and neither leaves the layout: they can never both arrive"
     )?;
-    remarks.add(place, words)
+    remarks.add(subject.item("missions", train as usize))
 }
 
 /// Adds which trains of a table can't both arrive.
@@ -80,23 +79,24 @@ fn add_connection(
 ) -> Result<(), AllocError>
     ensures { SaysOnlyWhere (HoldsNobody start.now connection.now) remarks.old remarks.new }
 {
-    let alloc = remarks.alloc();
     let train = subject.train(connection.train());
     let other = subject.train(connection.other());
     let reached = connection.reached();
     let left = connection.place();
-    let words = if starts_from(start, connection.other(), reached) {
-        format!(in alloc;
+    if starts_from(start, connection.other(), reached) {
+        write!(
+            remarks.words,
             "never holds {train}: {other} has already reached place {reached} of its mission at the start"
-        )?
+        )?;
     } else if starts_past(start, connection.train(), left) {
-        format!(in alloc; "never holds {train}, which starts past place {left} of its mission")?
+        write!(
+            remarks.words,
+            "never holds {train}, which starts past place {left} of its mission"
+        )?;
     } else {
         return Ok(());
-    };
-    let table = subject.number;
-    let place = format!(in alloc; "tables[{table}].connections[{number}]")?;
-    remarks.add(place, words)
+    }
+    remarks.add(subject.item("connections", number))
 }
 
 /// Adds which connections of a table hold nobody.

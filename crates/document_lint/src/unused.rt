@@ -1,4 +1,5 @@
 // Points, links and zones that no train ever uses.
+use crate::place::Object;
 use crate::remark::Remarks;
 use crate::subject::point_name;
 use layout_json::{Doc, layout_of, table_of, tables_of};
@@ -59,17 +60,24 @@ fn is_used(doc: &Doc, link: Link) -> bool {
     false
 }
 
+// Adds that neither a mission nor a link leads to a point, if none does.
+fn add_point(remarks: &mut Remarks, doc: &Doc, point: u32) -> Result<(), AllocError> {
+    let layout = layout_of(doc);
+    if is_joined(layout, point) || is_visited(doc, point) {
+        return Ok(());
+    }
+    let name = point_name(layout, point);
+    write!(
+        remarks.words,
+        "no mission comes to {name}, and no link leads there"
+    )?;
+    remarks.add(Object::Document.item("points", point as usize))
+}
+
 // Adds the points to which neither a mission nor a link leads.
 fn add_points(remarks: &mut Remarks, doc: &Doc) -> Result<(), AllocError> {
-    let alloc = remarks.alloc();
-    let layout = layout_of(doc);
-    for point in 0..points_of(layout) {
-        if !is_joined(layout, point) && !is_visited(doc, point) {
-            let name = point_name(layout, point);
-            let place = format!(in alloc; "points[{point}]")?;
-            let words = format!(in alloc; "no mission comes to {name}, and no link leads there")?;
-            remarks.add(place, words)?;
-        }
+    for point in 0..points_of(layout_of(doc)) {
+        add_point(remarks, doc, point)?;
     }
     Ok(())
 }
@@ -81,12 +89,13 @@ fn add_unused(
     number: usize,
     link: Link,
 ) -> Result<(), AllocError> {
-    let alloc = remarks.alloc();
     let first = point_name(layout, link.first());
     let second = point_name(layout, link.second());
-    let place = format!(in alloc; "links[{number}]")?;
-    let words = format!(in alloc; "no mission goes from {first} to {second} or back")?;
-    remarks.add(place, words)
+    write!(
+        remarks.words,
+        "no mission goes from {first} to {second} or back"
+    )?;
+    remarks.add(Object::Document.item("links", number))
 }
 
 // Adds the links along which no mission goes: the first of them by name, and how many more there are.
@@ -104,11 +113,9 @@ fn add_links(remarks: &mut Remarks, doc: &Doc) -> Result<(), AllocError> {
     if count <= NAMED {
         return Ok(());
     }
-    let alloc = remarks.alloc();
     let more = count - NAMED;
-    let place = String::from_str(alloc, "links")?;
-    let words = format!(in alloc; "{more} more along which no mission goes")?;
-    remarks.add(place, words)
+    write!(remarks.words, "{more} more along which no mission goes")?;
+    remarks.add(Object::Document.member("links"))
 }
 
 // Whether a mission comes to some point of a zone.
@@ -122,17 +129,26 @@ fn is_entered(doc: &Doc, zone: u32) -> bool {
     false
 }
 
+// Adds that no mission comes to a zone, if none does.
+fn add_zone(remarks: &mut Remarks, doc: &Doc, zone: u32) -> Result<(), AllocError> {
+    if is_entered(doc, zone) {
+        return Ok(());
+    }
+    write!(remarks.words, "no mission comes to a point of zone {zone}")?;
+    remarks.add(Object::Document.member("zones"))
+}
+
+// Adds the zones to which no mission comes.
+fn add_zones(remarks: &mut Remarks, doc: &Doc) -> Result<(), AllocError> {
+    for zone in 0..zones_of(layout_of(doc)) {
+        add_zone(remarks, doc, zone)?;
+    }
+    Ok(())
+}
+
 /// Adds the points, links and zones of a document that no mission uses.
 pub(crate) fn add_layout(remarks: &mut Remarks, doc: &Doc) -> Result<(), AllocError> {
     add_points(remarks, doc)?;
     add_links(remarks, doc)?;
-    let alloc = remarks.alloc();
-    for zone in 0..zones_of(layout_of(doc)) {
-        if !is_entered(doc, zone) {
-            let place = String::from_str(alloc, "zones")?;
-            let words = format!(in alloc; "no mission comes to a point of zone {zone}")?;
-            remarks.add(place, words)?;
-        }
-    }
-    Ok(())
+    add_zones(remarks, doc)
 }
