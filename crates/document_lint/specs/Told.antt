@@ -1,5 +1,5 @@
 -- When something is said of a document.
-use Rattle.std.specs.Prelude.{◌≡◌, ◌≢◌, ◌⊎◌, ◌<◌, ◌≤◌, ℕ, pos, List, length, None, Ok, Contains}
+use Rattle.std.specs.Prelude.{◌≡◌, ◌≢◌, ◌⊎◌, ◌<◌, ◌≤◌, ℕ, pos, List, true, length, None, Ok, Contains}
 use Rattle.layout_json.specs.Doc.{Doc, doc_table, table_at}
 use Rattle.layout_json.specs.Reading.{doc_of}
 use Rattle.rail_model.specs.Table.{Table, Connection, last, place, section, share}
@@ -11,9 +11,9 @@ use Rattle.document_lint.specs.declared.remark.Remarks.{Remarks}
 abbrev pub AreDocument : List ℕ → Type 0
 AreDocument bytes = (D : Doc) × (doc_of bytes ≡ Ok D)
 
--- Something is said.
-abbrev pub IsSaid : Remarks → Type 0
-IsSaid remarks = 0 < length remarks.found.items
+-- Something is said, or there was no memory for it.
+abbrev pub IsTold : Remarks → Type 0
+IsTold remarks = (remarks.is_out_of_memory ≡ true) ⊎ (0 < length remarks.found.items)
 
 -- More is said only where this holds.
 abbrev pub SaysOnlyWhere : Type 0 → Remarks → Remarks → Type 0

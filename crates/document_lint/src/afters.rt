@@ -8,7 +8,6 @@ use crate::place::Object;
 use crate::remark::Remarks;
 use layout_json::{Doc, after_of, start_of, table_of, tables_of};
 use legal_state::remaining;
-use std::alloc::AllocError;
 
 // The most moves that are made before all trains have arrived under a table before this one.
 fn most_moves(doc: &Doc, table: u32) -> u64
@@ -23,27 +22,26 @@ fn most_moves(doc: &Doc, table: u32) -> u64
 }
 
 // Adds that a table is due only once all trains have arrived, if it is.
-fn add_after(remarks: &mut Remarks, doc: &Doc, table: u32) -> Result<(), AllocError>
+fn add_after(remarks: &mut Remarks, doc: &Doc, table: u32)
     requires { table < length doc.now.tables }
     ensures { SaysOnlyWhere (IsNeverDue doc.now table) remarks.old remarks.new }
 {
     let after = after_of(doc, table);
     let moves = most_moves(doc, table);
     if u64::from(after) <= moves {
-        return Ok(());
+        return;
     }
-    write!(
+    let written = write!(
         remarks.words,
         "{after} moves are never made: all trains have arrived after {moves} at most, and this table comes only then"
-    )?;
+    );
     let table = table as usize;
-    remarks.add(Object::Table { table }.member("after"))
+    remarks.add(Object::Table { table }.member("after"), written);
 }
 
 /// Adds which tables are due only once all trains have arrived.
-pub(crate) fn add_afters(remarks: &mut Remarks, doc: &Doc) -> Result<(), AllocError> {
+pub(crate) fn add_afters(remarks: &mut Remarks, doc: &Doc) {
     for table in 1..tables_of(doc) {
-        add_after(remarks, doc, table)?;
+        add_after(remarks, doc, table);
     }
-    Ok(())
 }

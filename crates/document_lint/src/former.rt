@@ -9,64 +9,52 @@ use crate::same::has_section;
 use crate::subject::{Subject, subject_of};
 use layout_json::{Doc, table_of, tables_of};
 use rail_model::{last_of, limit_of, sections_of, share_at, trains_of};
-use std::alloc::AllocError;
 
 // Adds where a train has a share of a section, with the share if it isn't 1.
-fn write_share(
-    text: &mut String,
-    subject: &Subject,
-    section: u32,
-    train: u32,
-    place: u32,
-) -> Result<(), AllocError>
+fn say_share(remarks: &mut Remarks, subject: &Subject, section: u32, train: u32, place: u32)
     requires section { section < length subject.now.table.now.sections }
     requires train { train < trains subject.now.table.now }
     requires place { place ≤ last subject.now.table.now train }
 {
     let share = share_at(subject.table, train, section, place);
-    let point = subject.point(train, place);
     if share == 0 {
-        Ok(())
-    } else if share == 1 {
-        write!(text, " {point}")
-    } else {
-        write!(text, " {point} ({share})")
+        return;
+    }
+    remarks.say(" ");
+    remarks.say(subject.point(train, place));
+    if share != 1 {
+        let written = write!(remarks.words, " ({share})");
+        remarks.note(written);
     }
 }
 
 // Adds where a train has shares of a section, if it has any.
-fn write_train(
-    text: &mut String,
-    subject: &Subject,
-    section: u32,
-    train: u32,
-) -> Result<(), AllocError>
+fn say_train(remarks: &mut Remarks, subject: &Subject, section: u32, train: u32)
     requires section { section < length subject.now.table.now.sections }
     requires train { train < trains subject.now.table.now }
 {
     if most(subject.table, section, train) == 0 {
-        return Ok(());
+        return;
     }
-    let name = subject.train(train);
-    write!(text, ", {name} at")?;
+    remarks.say(", ");
+    remarks.say(subject.train(train));
+    remarks.say(" at");
     for place in 0..=last_of(subject.table, train) {
-        write_share(text, subject, section, train, place)?;
+        say_share(remarks, subject, section, train, place);
     }
-    Ok(())
 }
 
 // Adds that a section of the former document is gone.
-fn add_gone(remarks: &mut Remarks, former: &Subject, section: u32) -> Result<(), AllocError>
+fn add_gone(remarks: &mut Remarks, former: &Subject, section: u32)
     requires { section < length former.now.table.now.sections }
 {
     let limit = limit_of(former.table, section);
-    write!(remarks.words, "gone: limit {limit}")?;
+    let written = write!(remarks.words, "gone: limit {limit}");
+    remarks.note(written);
     for train in 0..trains_of(former.table) {
-        write_train(&mut remarks.words, former, section, train)?;
+        say_train(remarks, former, section, train);
     }
-    former.section_place(section).write(&mut remarks.place)?;
-    remarks.place.push_str(" of the former document")?;
-    remarks.end()
+    remarks.add_of_former(former.section_place(section));
 }
 
 // Whether a table of a document, if it is there, has a section of a table of the former one.
@@ -80,28 +68,22 @@ fn is_kept(doc: &Doc, former: &Subject, section: u32) -> bool
 }
 
 // Adds that a section of the former document is gone, if it is.
-fn add_if_gone(
-    remarks: &mut Remarks,
-    doc: &Doc,
-    former: &Subject,
-    section: u32,
-) -> Result<(), AllocError>
+fn add_if_gone(remarks: &mut Remarks, doc: &Doc, former: &Subject, section: u32)
     requires { section < length former.now.table.now.sections }
     ensures { SaysOnlyWhere (IsKeptSection doc.now former.now.number former.now.table.now section → ⊥) remarks.old remarks.new }
 {
     if is_kept(doc, former, section) {
-        return Ok(());
+        return;
     }
-    add_gone(remarks, former, section)
+    add_gone(remarks, former, section);
 }
 
 /// Adds which sections of the former document are in no table of the same number.
-pub(crate) fn add_former(remarks: &mut Remarks, doc: &Doc, former: &Doc) -> Result<(), AllocError> {
+pub(crate) fn add_former(remarks: &mut Remarks, doc: &Doc, former: &Doc) {
     for table in 0..tables_of(former) {
         let subject = subject_of(former, table);
         for section in 0..sections_of(subject.table) {
-            add_if_gone(remarks, doc, &subject, section)?;
+            add_if_gone(remarks, doc, &subject, section);
         }
     }
-    Ok(())
 }

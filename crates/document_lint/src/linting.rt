@@ -1,6 +1,6 @@
 // All remarks on a document.
 ghost use Rattle.std.specs.Prelude.{◌≡◌, ◌⊎◌, [], IfOk, IfErr};
-ghost use Rattle.document_lint.specs.Told.{AreDocument, IsSaid};
+ghost use Rattle.document_lint.specs.Told.{AreDocument, IsTold};
 
 use crate::afters::add_afters;
 use crate::former::add_former;
@@ -12,9 +12,9 @@ use crate::shares::{add_shares, look_like_shares};
 use crate::subject::subject_of;
 use crate::trains::{add_connections, add_trains};
 use crate::unused::add_layout;
-use document_shapes::{ShapeRefused, read_document};
+use document_shapes::{DocMembers, ShapeRefused, read_document};
 use layout_json::{Doc, DocRefused, document, start_of, tables_of, version};
-use rail_model::Section;
+use rail_model::{Changes, Section};
 use refusal_lines::push_document;
 use std::alloc::{AllocError, Global};
 
@@ -31,99 +31,94 @@ fn most_share(version: u32) -> i32 {
 }
 
 // Adds the remarks on a document that `ats` takes.
-fn add_taken(remarks: &mut Remarks, doc: &Doc) -> Result<(), AllocError> {
+fn add_taken(remarks: &mut Remarks, doc: &Doc) {
     let start = start_of(doc).as_slice();
-    add_layout(remarks, doc)?;
+    add_layout(remarks, doc);
     for table in 0..tables_of(doc) {
         let subject = subject_of(doc, table);
-        add_trains(remarks, &subject)?;
-        add_sections(remarks, &subject, most_share(version(doc)))?;
-        add_connections(remarks, &subject, start)?;
+        add_trains(remarks, &subject);
+        add_sections(remarks, &subject, most_share(version(doc)));
+        add_connections(remarks, &subject, start);
     }
-    add_afters(remarks, doc)
+    add_afters(remarks, doc);
 }
 
-// Adds that a document is refused, and why; but it fails where memory ran out.
-fn add_refused(
-    remarks: &mut Remarks,
-    document: &str,
-    refused: &DocRefused,
-) -> Result<(), AllocError>
-    ensures { IfOk result (λ done. IsSaid remarks.new) }
+// Adds that a document is refused, and why; or notes that memory ran out as it was read.
+fn add_refused(remarks: &mut Remarks, document: &str, refused: &DocRefused)
+    ensures { IsTold remarks.new }
 {
     if let DocRefused::Memory = refused {
-        return Err(AllocError);
+        remarks.note_no_memory();
+        return;
     }
-    remarks.words.push_str("ats refuses it: ")?;
-    push_document(&mut remarks.words, refused)?;
-    remarks.add(Object::Document.member(document))
+    remarks.say("ats refuses it: ");
+    let written = push_document(&mut remarks.words, refused);
+    remarks.add(Object::Document.member(document), written);
 }
 
-// Adds which trains' changes of a table's sections look like shares.
-fn add_suspects(
-    remarks: &mut Remarks,
-    table: usize,
-    sections: &[Section],
-    most: i32,
-) -> Result<(), AllocError> {
-    for (section, found) in sections.iter().enumerate().take(MAX_SECTIONS) {
-        let object = Object::Section { table, section };
-        for (train, changes) in found.all_changes().iter().enumerate().take(MAX_TRAINS) {
-            let numbers = changes.as_slice();
-            if look_like_shares(numbers, most) {
-                add_shares(remarks, object, train, numbers)?;
-            }
+// Adds which trains' changes of a section look like shares.
+fn add_suspects(remarks: &mut Remarks, section: Object, changes: &[Changes], most: i32) {
+    for train in 0..changes.len().min(MAX_TRAINS) {
+        let numbers = changes[train].as_slice();
+        if look_like_shares(numbers, most) {
+            add_shares(remarks, section, train, numbers);
         }
     }
-    Ok(())
+}
+
+// Adds which changes of a table's sections look like shares.
+fn add_suspects_of_table(remarks: &mut Remarks, table: usize, sections: &[Section], most: i32) {
+    for section in 0..sections.len().min(MAX_SECTIONS) {
+        let object = Object::Section { table, section };
+        add_suspects(remarks, object, sections[section].all_changes(), most);
+    }
+}
+
+// Adds which changes of a document look like shares.
+fn add_suspects_of_document(remarks: &mut Remarks, members: &DocMembers) {
+    let most = most_share(members.version);
+    for table in 0..members.tables.len().min(MAX_TABLES) {
+        if let Some(sections) = &members.tables[table].sections {
+            add_suspects_of_table(remarks, table, sections, most);
+        }
+    }
 }
 
 // Adds which changes of a document that is refused for its sections look like shares.
-fn add_all_suspects(remarks: &mut Remarks, bytes: &[u8]) -> Result<(), AllocError> {
-    let members = match read_document(remarks.alloc(), bytes) {
-        Ok(members) => members,
-        Err(ShapeRefused::Memory) => return Err(AllocError),
-        Err(_) => return Ok(()),
-    };
-    let most = most_share(members.version);
-    for (table, found) in members.tables.iter().enumerate().take(MAX_TABLES) {
-        if let Some(sections) = &found.sections {
-            add_suspects(remarks, table, sections, most)?;
-        }
+fn add_all_suspects(remarks: &mut Remarks, bytes: &[u8]) {
+    match read_document(remarks.alloc(), bytes) {
+        Ok(members) => add_suspects_of_document(remarks, &members),
+        Err(ShapeRefused::Memory) => remarks.note_no_memory(),
+        Err(_) => {}
     }
-    Ok(())
 }
 
 // Which members and changes of a document that is refused may be the cause.
-fn causes_of(alloc: Global, bytes: &[u8], refused: &DocRefused) -> Result<Remarks, AllocError> {
+fn causes_of(alloc: Global, bytes: &[u8], refused: &DocRefused) -> Remarks {
     let mut causes = Remarks::new(alloc);
-    add_members(&mut causes, bytes)?;
+    add_members(&mut causes, bytes);
     if let DocRefused::Marks { .. } = refused {
-        add_all_suspects(&mut causes, bytes)?;
+        add_all_suspects(&mut causes, bytes);
     }
-    Ok(causes)
+    causes
 }
 
 // Adds that a document is refused, why, and which of its members and changes may be the cause.
-fn add_refusal(remarks: &mut Remarks, bytes: &[u8], refused: &DocRefused) -> Result<(), AllocError>
-    ensures { IfOk result (λ done. IsSaid remarks.new) }
+fn add_refusal(remarks: &mut Remarks, bytes: &[u8], refused: &DocRefused)
+    ensures { IsTold remarks.new }
 {
-    add_refused(remarks, "document", refused)?;
-    remarks.append(causes_of(remarks.alloc(), bytes, refused)?)
+    add_refused(remarks, "document", refused);
+    remarks.append(causes_of(remarks.alloc(), bytes, refused));
 }
 
 // Adds all remarks on a document, which was read or refused so.
-fn add_all(
-    remarks: &mut Remarks,
-    bytes: &[u8],
-    read: &Result<Doc, DocRefused>,
-) -> Result<(), AllocError>
-    ensures { IfOk result (λ done. IfErr read.now (λ refused. IsSaid remarks.new)) }
+fn add_all(remarks: &mut Remarks, bytes: &[u8], read: &Result<Doc, DocRefused>)
+    ensures { IfErr read.now (λ refused. IsTold remarks.new) }
 {
     match read {
         Ok(doc) => {
-            add_members(remarks, bytes)?;
-            add_taken(remarks, doc)
+            add_members(remarks, bytes);
+            add_taken(remarks, doc);
         }
         Err(refused) => add_refusal(remarks, bytes, refused),
     }
@@ -134,48 +129,43 @@ fn add_changes(
     remarks: &mut Remarks,
     read: &Result<Doc, DocRefused>,
     former: &Result<Doc, DocRefused>,
-) -> Result<(), AllocError>
-    ensures still { IfOk result (λ done. IsSaid remarks.old → IfErr read.now (λ refused. IsSaid remarks.new)) }
-    ensures former { IfOk result (λ done. IfErr former.now (λ refused. IsSaid remarks.new)) }
+)
+    ensures still { IsTold remarks.old → IfErr read.now (λ refused. IsTold remarks.new) }
+    ensures former { IfErr former.now (λ refused. IsTold remarks.new) }
 {
     match former {
-        Ok(former) => match read {
-            Ok(doc) => add_former(remarks, doc, former),
-            Err(_) => Ok(()),
+        Ok(former) => if let Ok(doc) = read {
+            add_former(remarks, doc, former);
         },
         Err(refused) => add_refused(remarks, "former document", refused),
     }
 }
 
 // Adds what is said of a document.
-fn add_document(remarks: &mut Remarks, bytes: &[u8]) -> Result<(), AllocError>
-    ensures { IfOk result (λ done. IsSaid remarks.new ⊎ AreDocument bytes.now) }
+fn add_document(remarks: &mut Remarks, bytes: &[u8])
+    ensures { IsTold remarks.new ⊎ AreDocument bytes.now }
 {
     let read = document(remarks.alloc(), bytes);
-    add_all(remarks, bytes, &read)
+    add_all(remarks, bytes, &read);
 }
 
 // Adds what a document that was read or refused so has lost since a former one.
-fn add_comparison(
-    remarks: &mut Remarks,
-    read: &Result<Doc, DocRefused>,
-    former: &[u8],
-) -> Result<(), AllocError>
-    ensures still { IfOk result (λ done. IsSaid remarks.old → IfErr read.now (λ refused. IsSaid remarks.new)) }
-    ensures former { IfOk result (λ done. IsSaid remarks.new ⊎ AreDocument former.now) }
+fn add_comparison(remarks: &mut Remarks, read: &Result<Doc, DocRefused>, former: &[u8])
+    ensures still { IsTold remarks.old → IfErr read.now (λ refused. IsTold remarks.new) }
+    ensures former { IsTold remarks.new ⊎ AreDocument former.now }
 {
     let read_former = document(remarks.alloc(), former);
-    add_changes(remarks, read, &read_former)
+    add_changes(remarks, read, &read_former);
 }
 
 // Adds what is said of a document, and what it has lost since a former one.
-fn add_both(remarks: &mut Remarks, bytes: &[u8], former: &[u8]) -> Result<(), AllocError>
-    ensures document { IfOk result (λ done. IsSaid remarks.new ⊎ AreDocument bytes.now) }
-    ensures former { IfOk result (λ done. IsSaid remarks.new ⊎ AreDocument former.now) }
+fn add_both(remarks: &mut Remarks, bytes: &[u8], former: &[u8])
+    ensures document { IsTold remarks.new ⊎ AreDocument bytes.now }
+    ensures former { IsTold remarks.new ⊎ AreDocument former.now }
 {
     let read = document(remarks.alloc(), bytes);
-    add_all(remarks, bytes, &read)?;
-    add_comparison(remarks, &read, former)
+    add_all(remarks, bytes, &read);
+    add_comparison(remarks, &read, former);
 }
 
 /// What a document says that has no effect or is likely a mistake; and if `ats` refuses it, why.
@@ -183,8 +173,8 @@ pub fn lint(alloc: Global, bytes: &[u8]) -> Result<Vec<Remark>, AllocError>
     ensures { IfOk result (λ remarks. remarks.items ≡ [] → AreDocument bytes.now) }
 {
     let mut remarks = Remarks::new(alloc);
-    add_document(&mut remarks, bytes)?;
-    Ok(remarks.into_vec())
+    add_document(&mut remarks, bytes);
+    remarks.into_result()
 }
 
 /// What [`lint`] says of a document, and then which sections of a former document are gone.
@@ -193,6 +183,6 @@ pub fn lint_after(alloc: Global, bytes: &[u8], former: &[u8]) -> Result<Vec<Rema
     ensures former { IfOk result (λ remarks. remarks.items ≡ [] → AreDocument former.now) }
 {
     let mut remarks = Remarks::new(alloc);
-    add_both(&mut remarks, bytes, former)?;
-    Ok(remarks.into_vec())
+    add_both(&mut remarks, bytes, former);
+    remarks.into_result()
 }

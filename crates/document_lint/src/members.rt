@@ -91,47 +91,46 @@ fn write_name(text: &mut String, name: &str) -> Result<(), AllocError> {
     write!(text, "{shown:?}")
 }
 
-// Adds that an object has a member of an unknown name.
-fn add_unknown(
-    remarks: &mut Remarks,
-    object: Object,
-    name: &str,
-    known: &[&str],
-) -> Result<(), AllocError> {
-    object.write(&mut remarks.place)?;
-    write_name(&mut remarks.place, name)?;
-    remarks.words.push_str("unknown, so it is ignored")?;
-    if let Some(meant) = nearest(remarks.alloc(), name, known)? {
-        write!(remarks.words, "; did you mean \"{meant}\"?")?;
+// Adds that a member is unknown, and which known name its name is like.
+fn write_unknown(words: &mut String, name: &str, known: &[&str]) -> Result<(), AllocError> {
+    words.push_str("unknown, so it is ignored")?;
+    match nearest(*words.allocator(), name, known)? {
+        Some(meant) => write!(words, "; did you mean \"{meant}\"?"),
+        None => Ok(()),
     }
-    remarks.end()
+}
+
+// Adds that an object has a member of an unknown name.
+fn add_unknown(remarks: &mut Remarks, object: Object, name: &str, known: &[&str]) {
+    let written = object.write(&mut remarks.place);
+    remarks.note(written);
+    let written = write_name(&mut remarks.place, name);
+    remarks.note(written);
+    let written = write_unknown(&mut remarks.words, name, known);
+    remarks.note(written);
+    remarks.end();
 }
 
 // Adds which members of an object have unknown names.
-fn add_unknowns(
-    remarks: &mut Remarks,
-    object: Object,
-    members: &[(&str, Value)],
-    known: &[&str],
-) -> Result<(), AllocError> {
+fn add_unknowns(remarks: &mut Remarks, object: Object, members: &[(&str, Value)], known: &[&str]) {
     let mut count: usize = 0;
     for member in members {
         if !is_known(known, member.0) {
             count = count.saturating_add(1);
             if count <= NAMED {
-                add_unknown(remarks, object, member.0, known)?;
+                add_unknown(remarks, object, member.0, known);
             }
         }
     }
     if count <= NAMED {
-        return Ok(());
+        return;
     }
     let more = count - NAMED;
-    write!(
+    let written = write!(
         remarks.words,
         "{more} more unknown members, which are ignored too"
-    )?;
-    remarks.add(object.member("*"))
+    );
+    remarks.add(object.member("*"), written);
 }
 
 // How often an object has a member.
@@ -146,32 +145,21 @@ fn times_given(members: &[(&str, Value)], name: &str) -> usize {
 }
 
 // Adds which known members an object has more than once.
-fn add_repeated(
-    remarks: &mut Remarks,
-    object: Object,
-    members: &[(&str, Value)],
-    known: &[&str],
-) -> Result<(), AllocError> {
+fn add_repeated(remarks: &mut Remarks, object: Object, members: &[(&str, Value)], known: &[&str]) {
     for name in known {
         let count = times_given(members, name);
         if 1 < count {
-            write!(remarks.words, "given {count} times; the last one counts")?;
-            remarks.add(object.member(name))?;
+            let written = write!(remarks.words, "given {count} times; the last one counts");
+            remarks.add(object.member(name), written);
         }
     }
-    Ok(())
 }
 
 // Adds which members of an object are unknown or repeated.
-fn add_of_object(
-    remarks: &mut Remarks,
-    object: Object,
-    value: &Value,
-    known: &[&str],
-) -> Result<(), AllocError> {
+fn add_of_object(remarks: &mut Remarks, object: Object, value: &Value, known: &[&str]) {
     let members = members_of(value);
-    add_unknowns(remarks, object, members, known)?;
-    add_repeated(remarks, object, members, known)
+    add_unknowns(remarks, object, members, known);
+    add_repeated(remarks, object, members, known);
 }
 
 // Adds that a table has a member that only later versions have.
@@ -182,55 +170,45 @@ fn add_later(
     member: &str,
     version: u64,
     since: u64,
-) -> Result<(), AllocError>
+)
     ensures { SaysOnlyWhere (version < since) remarks.old remarks.new }
 {
     if since <= version || table.get(member).is_none() {
-        return Ok(());
+        return;
     }
-    write!(
+    let written = write!(
         remarks.words,
         "ignored in version {version}; it counts from version {since} on"
-    )?;
-    remarks.add(object.member(member))
+    );
+    remarks.add(object.member(member), written);
 }
 
 // Adds what is said of the members of a table's sections.
-fn add_of_sections(
-    remarks: &mut Remarks,
-    table: usize,
-    sections: &Value,
-) -> Result<(), AllocError> {
-    for (section, value) in items_of(sections).iter().enumerate().take(MAX_SECTIONS) {
+fn add_of_sections(remarks: &mut Remarks, table: usize, sections: &Value) {
+    let sections = items_of(sections);
+    for section in 0..sections.len().min(MAX_SECTIONS) {
         let object = Object::Section { table, section };
-        add_of_object(remarks, object, value, &SECTION_MEMBERS)?;
+        add_of_object(remarks, object, &sections[section], &SECTION_MEMBERS);
     }
-    Ok(())
 }
 
 // Adds what is said of the members of a table and of its sections.
-fn add_of_table(
-    remarks: &mut Remarks,
-    number: usize,
-    table: &Value,
-    version: u64,
-) -> Result<(), AllocError> {
+fn add_of_table(remarks: &mut Remarks, number: usize, table: &Value, version: u64) {
     let object = Object::Table { table: number };
-    add_of_object(remarks, object, table, &TABLE_MEMBERS)?;
-    add_later(remarks, object, table, "exits", version, 2)?;
-    add_later(remarks, object, table, "connections", version, 3)?;
-    match table.get("sections") {
-        Some(sections) => add_of_sections(remarks, number, sections),
-        None => Ok(()),
+    add_of_object(remarks, object, table, &TABLE_MEMBERS);
+    add_later(remarks, object, table, "exits", version, 2);
+    add_later(remarks, object, table, "connections", version, 3);
+    if let Some(sections) = table.get("sections") {
+        add_of_sections(remarks, number, sections);
     }
 }
 
 // Adds what is said of the members of the tables.
-fn add_of_tables(remarks: &mut Remarks, tables: &Value, version: u64) -> Result<(), AllocError> {
-    for (number, table) in items_of(tables).iter().enumerate().take(MAX_TABLES) {
-        add_of_table(remarks, number, table, version)?;
+fn add_of_tables(remarks: &mut Remarks, tables: &Value, version: u64) {
+    let tables = items_of(tables);
+    for number in 0..tables.len().min(MAX_TABLES) {
+        add_of_table(remarks, number, &tables[number], version);
     }
-    Ok(())
 }
 
 // The version that a document says it has; 3, the last one, if it says none.
@@ -242,21 +220,20 @@ fn version_of(document: &Value) -> u64 {
 }
 
 // Adds what is said of the members of a document, of its tables and of their sections.
-fn add_of_document(remarks: &mut Remarks, document: &Value) -> Result<(), AllocError> {
-    add_of_object(remarks, Object::Document, document, &DOCUMENT_MEMBERS)?;
-    match document.get("tables") {
-        Some(tables) => add_of_tables(remarks, tables, version_of(document)),
-        None => Ok(()),
+fn add_of_document(remarks: &mut Remarks, document: &Value) {
+    add_of_object(remarks, Object::Document, document, &DOCUMENT_MEMBERS);
+    if let Some(tables) = document.get("tables") {
+        add_of_tables(remarks, tables, version_of(document));
     }
 }
 
 /// Adds which members of a document are ignored; nothing, if the bytes are no JSON.
-pub(crate) fn add_members(remarks: &mut Remarks, bytes: &[u8]) -> Result<(), AllocError> {
+pub(crate) fn add_members(remarks: &mut Remarks, bytes: &[u8]) {
     let alloc = remarks.alloc();
     let mut scratch = Scratch::new(alloc);
     match Value::from_slice(alloc, bytes, &mut scratch) {
         Ok(value) => add_of_document(remarks, &value),
-        Err(Error::OutOfMemory) => Err(AllocError),
-        Err(_) => Ok(()),
+        Err(Error::OutOfMemory) => remarks.note_no_memory(),
+        Err(_) => {}
     }
 }

@@ -35,15 +35,8 @@ fn write_changes(text: &mut String, shares: &[i32]) -> Result<(), AllocError> {
 }
 
 /// Adds that a train's numbers in a section look like shares.
-pub(crate) fn add_shares(
-    remarks: &mut Remarks,
-    section: Object,
-    train: usize,
-    numbers: &[i32],
-) -> Result<(), AllocError> {
-    remarks.words.push_str(
-        "these look like shares; changes say how much the share rises at each place: ",
-    )?;
-    write_changes(&mut remarks.words, numbers)?;
-    remarks.add(section.item("changes", train))
+pub(crate) fn add_shares(remarks: &mut Remarks, section: Object, train: usize, numbers: &[i32]) {
+    remarks.say("these look like shares; changes say how much the share rises at each place: ");
+    let written = write_changes(&mut remarks.words, numbers);
+    remarks.add(section.item("changes", train), written);
 }

@@ -8,7 +8,6 @@ use crate::exact::end_together;
 use crate::remark::Remarks;
 use crate::subject::Subject;
 use rail_model::{Connection, Table, last_of, trains_of};
-use std::alloc::AllocError;
 
 // The first train before another one that ends where it ends.
 fn first_partner(table: &Table, train: u32) -> Option<u32>
@@ -24,29 +23,28 @@ fn first_partner(table: &Table, train: u32) -> Option<u32>
 }
 
 // Adds that a train ends where an earlier one ends, if it does.
-fn add_train(remarks: &mut Remarks, subject: &Subject, train: u32) -> Result<(), AllocError>
+fn add_train(remarks: &mut Remarks, subject: &Subject, train: u32)
     requires { train < trains subject.now.table.now }
     ensures { SaysOnlyWhere (EndsAsEarlier subject.now.table.now train) remarks.old remarks.new }
 {
     let Some(first) = first_partner(subject.table, train) else {
-        return Ok(());
+        return;
     };
     let point = subject.point(train, last_of(subject.table, train));
     let name = subject.train(train);
     let other = subject.train(first);
-    write!(
+    let written = write!(
         remarks.words,
         "{name} ends at {point}, as {other} does, and neither leaves the layout: they can never both arrive"
-    )?;
-    remarks.add(subject.item("missions", train as usize))
+    );
+    remarks.add(subject.item("missions", train as usize), written);
 }
 
 /// Adds which trains of a table can't both arrive.
-pub(crate) fn add_trains(remarks: &mut Remarks, subject: &Subject) -> Result<(), AllocError> {
+pub(crate) fn add_trains(remarks: &mut Remarks, subject: &Subject) {
     for train in 0..trains_of(subject.table) {
-        add_train(remarks, subject, train)?;
+        add_train(remarks, subject, train);
     }
-    Ok(())
 }
 
 // Whether a train starts at a place or past it.
@@ -76,37 +74,32 @@ fn add_connection(
     start: &[u32],
     number: usize,
     connection: &Connection,
-) -> Result<(), AllocError>
+)
     ensures { SaysOnlyWhere (HoldsNobody start.now connection.now) remarks.old remarks.new }
 {
     let train = subject.train(connection.train());
     let other = subject.train(connection.other());
     let reached = connection.reached();
     let left = connection.place();
-    if starts_from(start, connection.other(), reached) {
+    let written = if starts_from(start, connection.other(), reached) {
         write!(
             remarks.words,
             "never holds {train}: {other} has already reached place {reached} of its mission at the start"
-        )?;
+        )
     } else if starts_past(start, connection.train(), left) {
         write!(
             remarks.words,
             "never holds {train}, which starts past place {left} of its mission"
-        )?;
+        )
     } else {
-        return Ok(());
-    }
-    remarks.add(subject.item("connections", number))
+        return;
+    };
+    remarks.add(subject.item("connections", number), written);
 }
 
 /// Adds which connections of a table hold nobody.
-pub(crate) fn add_connections(
-    remarks: &mut Remarks,
-    subject: &Subject,
-    start: &[u32],
-) -> Result<(), AllocError> {
+pub(crate) fn add_connections(remarks: &mut Remarks, subject: &Subject, start: &[u32]) {
     for (number, connection) in subject.table.connections().iter().enumerate() {
-        add_connection(remarks, subject, start, number, connection)?;
+        add_connection(remarks, subject, start, number, connection);
     }
-    Ok(())
 }

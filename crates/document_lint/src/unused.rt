@@ -4,7 +4,6 @@ use crate::remark::Remarks;
 use crate::subject::point_name;
 use layout_json::{Doc, layout_of, table_of, tables_of};
 use rail_model::{Layout, Link, points_of, zone_of, zones_of};
-use std::alloc::AllocError;
 
 // This many unused links are named.
 const NAMED: usize = 8;
@@ -61,61 +60,55 @@ fn is_used(doc: &Doc, link: Link) -> bool {
 }
 
 // Adds that neither a mission nor a link leads to a point, if none does.
-fn add_point(remarks: &mut Remarks, doc: &Doc, point: u32) -> Result<(), AllocError> {
+fn add_point(remarks: &mut Remarks, doc: &Doc, point: u32) {
     let layout = layout_of(doc);
     if is_joined(layout, point) || is_visited(doc, point) {
-        return Ok(());
+        return;
     }
     let name = point_name(layout, point);
-    write!(
+    let written = write!(
         remarks.words,
         "no mission comes to {name}, and no link leads there"
-    )?;
-    remarks.add(Object::Document.item("points", point as usize))
+    );
+    remarks.add(Object::Document.item("points", point as usize), written);
 }
 
 // Adds the points to which neither a mission nor a link leads.
-fn add_points(remarks: &mut Remarks, doc: &Doc) -> Result<(), AllocError> {
+fn add_points(remarks: &mut Remarks, doc: &Doc) {
     for point in 0..points_of(layout_of(doc)) {
-        add_point(remarks, doc, point)?;
+        add_point(remarks, doc, point);
     }
-    Ok(())
 }
 
 // Adds that no mission goes along a link.
-fn add_unused(
-    remarks: &mut Remarks,
-    layout: &Layout,
-    number: usize,
-    link: Link,
-) -> Result<(), AllocError> {
+fn add_unused(remarks: &mut Remarks, layout: &Layout, number: usize, link: Link) {
     let first = point_name(layout, link.first());
     let second = point_name(layout, link.second());
-    write!(
+    let written = write!(
         remarks.words,
         "no mission goes from {first} to {second} or back"
-    )?;
-    remarks.add(Object::Document.item("links", number))
+    );
+    remarks.add(Object::Document.item("links", number), written);
 }
 
 // Adds the links along which no mission goes: the first of them by name, and how many more there are.
-fn add_links(remarks: &mut Remarks, doc: &Doc) -> Result<(), AllocError> {
+fn add_links(remarks: &mut Remarks, doc: &Doc) {
     let layout = layout_of(doc);
     let mut count: usize = 0;
     for (number, link) in layout.links().iter().enumerate() {
         if !is_used(doc, *link) {
             count = count.saturating_add(1);
             if count <= NAMED {
-                add_unused(remarks, layout, number, *link)?;
+                add_unused(remarks, layout, number, *link);
             }
         }
     }
     if count <= NAMED {
-        return Ok(());
+        return;
     }
     let more = count - NAMED;
-    write!(remarks.words, "{more} more along which no mission goes")?;
-    remarks.add(Object::Document.member("links"))
+    let written = write!(remarks.words, "{more} more along which no mission goes");
+    remarks.add(Object::Document.member("links"), written);
 }
 
 // Whether a mission comes to some point of a zone.
@@ -130,25 +123,24 @@ fn is_entered(doc: &Doc, zone: u32) -> bool {
 }
 
 // Adds that no mission comes to a zone, if none does.
-fn add_zone(remarks: &mut Remarks, doc: &Doc, zone: u32) -> Result<(), AllocError> {
+fn add_zone(remarks: &mut Remarks, doc: &Doc, zone: u32) {
     if is_entered(doc, zone) {
-        return Ok(());
+        return;
     }
-    write!(remarks.words, "no mission comes to a point of zone {zone}")?;
-    remarks.add(Object::Document.member("zones"))
+    let written = write!(remarks.words, "no mission comes to a point of zone {zone}");
+    remarks.add(Object::Document.member("zones"), written);
 }
 
 // Adds the zones to which no mission comes.
-fn add_zones(remarks: &mut Remarks, doc: &Doc) -> Result<(), AllocError> {
+fn add_zones(remarks: &mut Remarks, doc: &Doc) {
     for zone in 0..zones_of(layout_of(doc)) {
-        add_zone(remarks, doc, zone)?;
+        add_zone(remarks, doc, zone);
     }
-    Ok(())
 }
 
 /// Adds the points, links and zones of a document that no mission uses.
-pub(crate) fn add_layout(remarks: &mut Remarks, doc: &Doc) -> Result<(), AllocError> {
-    add_points(remarks, doc)?;
-    add_links(remarks, doc)?;
-    add_zones(remarks, doc)
+pub(crate) fn add_layout(remarks: &mut Remarks, doc: &Doc) {
+    add_points(remarks, doc);
+    add_links(remarks, doc);
+    add_zones(remarks, doc);
 }
