@@ -1,5 +1,6 @@
 pub mod Adding
 pub mod Coming
+pub mod Grouping
 pub mod Listing
 pub mod Rows
 pub mod Some

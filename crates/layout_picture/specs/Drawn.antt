@@ -63,6 +63,44 @@ ground_of width height = record {
   words = [];
 }
 
+-- The groups below the trains are added: a ground of this size, areas over the points in the sections, a line for each link,
+-- a broad line from each train of a circle, a dot for each spot, and the numbers of sections.
+pub record AddsTracks (L : Layout) (T : Table) (p : List ℕ) (spots : List Spot) (insides : List (List Bool)) (width height : ℕ) (before after : List Group)
+    : Type 0 where
+  pub areas : List Shape
+  pub links : List Shape
+  pub waits : List Shape
+  pub numbers : List Shape
+  pub added : after ≡ before
+      ++ group_with (codes "background") (codes "ground") (ground_of width height ∷ []) ∷ []
+      ++ group_with (codes "sections") (codes "sections") areas ∷ []
+      ++ group_with (codes "links") (codes "links") links ∷ []
+      ++ group_with (codes "circle") (codes "trains that wait for one another") waits ∷ []
+      ++ group_with (codes "points") (codes "points") (map dot_at spots) ∷ []
+      ++ group_with (codes "numbers") (codes "numbers of sections") numbers ∷ []
+  pub are_areas : map first_attribute areas ≡ map (way_of L spots) insides
+  pub are_links : AreLinkLines spots L.links links
+  pub are_waits : AreOfTrains (IsWait T p spots) (trains T) waits
+
+-- The groups of the trains and of names are added.
+pub record AddsTrains (T : Table) (p : List ℕ) (spots : List Spot) (before after : List Group) : Type 0 where
+  pub arrows : List Shape
+  pub points : List Shape
+  pub names : List Shape
+  pub added : after ≡ before
+      ++ group_with (codes "arrows") (codes "trains") arrows ∷ []
+      ++ group_with (codes "names") (codes "names of points") points ∷ []
+      ++ group_with (codes "trains") (codes "names of trains") names ∷ []
+  pub are_arrows : AreOfTrains (IsArrow T p spots) (trains T) arrows
+
+-- The groups of the legend and of the title are added.
+pub record AddsWords (before after : List Group) : Type 0 where
+  pub legend : List Shape
+  pub heading : List Shape
+  pub added : after ≡ before
+      ++ group_with (codes "legend") (codes "legend") legend ∷ []
+      ++ group_with (codes "heading") (codes "title") heading ∷ []
+
 -- The groups have a ground of this size, a dot for each point, a line for each link, an area over the points of each
 -- section, an arrow at its point for each train that is in the layout, and a broad line from each train of a circle.
 pub record IsDrawn (L : Layout) (T : Table) (p : List ℕ) (width height : ℕ) (groups : List Group) : Type 0 where

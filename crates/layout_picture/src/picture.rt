@@ -1,10 +1,7 @@
 // The whole picture.
-ghost use Rattle.std.specs.Prelude.{◌≡◌, ◌++◌, ◌∷◌, [], IfOk, OnOk, length, map, codes};
-ghost use Rattle.layout_picture.specs.Drawn.{AreLinkLines, AreOfTrains, IsWait, IsDrawn, group_with, ground_of};
-ghost use Rattle.layout_picture.specs.Marks.{dot_at};
-ghost use Rattle.layout_picture.specs.Arrows.{IsArrow};
-ghost use Rattle.layout_picture.specs.Areas.{inside, way_of, first_attribute};
-ghost use Rattle.rail_model.specs.Table.{trains};
+ghost use Rattle.std.specs.Prelude.{◌≡◌, ◌++◌, ◌∷◌, [], IfOk, OnOk, length, map};
+ghost use Rattle.layout_picture.specs.Drawn.{AddsTracks, AddsTrains, AddsWords, IsDrawn, group_with, ground_of};
+ghost use Rattle.layout_picture.specs.Areas.{inside};
 ghost use Rattle.rail_model.specs.Checks.{below};
 
 use crate::captions::{point_names, train_names};
@@ -46,71 +43,6 @@ fn heading(alloc: Global, title: &str) -> Result<Vec<Shape>, AllocError> {
     alone(alloc, label(alloc, Spot { x: 20, y: 28 }, title)?)
 }
 
-// What is below the trains: the ground, sections, links, the circle of trains that wait, and points.
-#[derive(Drop)]
-struct Tracks {
-    ground: Vec<Shape>,
-    areas: Vec<Shape>,
-    numbers: Vec<Shape>,
-    strokes: Vec<Shape>,
-    waits: Vec<Shape>,
-    dots: Vec<Shape>,
-}
-
-// The trains, and all words.
-#[derive(Drop)]
-struct Signs {
-    arrows: Vec<Shape>,
-    points: Vec<Shape>,
-    trains: Vec<Shape>,
-    legend: Vec<Shape>,
-    heading: Vec<Shape>,
-}
-
-fn tracks_of(view: &View, height: u64) -> Result<Tracks, AllocError>
-    ensures ground { IfOk result (λ tracks. tracks.ground.items ≡ ground_of view.now.frame.now.grid.width height ∷ []) }
-    ensures dots { IfOk result (λ tracks. tracks.dots.items ≡ map dot_at view.now.frame.now.spots.items) }
-    ensures lines { IfOk result (λ tracks. AreLinkLines view.now.frame.now.spots.items view.now.layout.now.links tracks.strokes.items) }
-    ensures areas { IfOk result (λ tracks. map first_attribute tracks.areas.items
-        ≡ map (way_of view.now.layout.now view.now.frame.now.spots.items) view.now.frame.now.insides.items) }
-    ensures waits { IfOk result (λ tracks. AreOfTrains
-        (IsWait view.now.scene.now.table.now view.now.scene.now.state.now view.now.frame.now.spots.items)
-        (trains view.now.scene.now.table.now) tracks.waits.items) }
-{
-    let ground = ground(view.alloc, view.frame.grid.width, height)?;
-    let areas = areas(view)?;
-    let numbers = numbers(view)?;
-    let strokes = links(view)?;
-    let waits = waits(view)?;
-    let dots = dots(view.alloc, &view.frame.spots)?;
-    Ok(Tracks {
-        ground,
-        areas,
-        numbers,
-        strokes,
-        waits,
-        dots,
-    })
-}
-
-fn signs_of(view: &View, legend: Legend, title: &str) -> Result<Signs, AllocError>
-    ensures { IfOk result (λ signs. AreOfTrains
-        (IsArrow view.now.scene.now.table.now view.now.scene.now.state.now view.now.frame.now.spots.items)
-        (trains view.now.scene.now.table.now) signs.arrows.items) }
-{
-    let arrows = arrows(view)?;
-    let points = point_names(view)?;
-    let trains = train_names(view)?;
-    let heading = heading(view.alloc, title)?;
-    Ok(Signs {
-        arrows,
-        points,
-        trains,
-        legend: legend.shapes,
-        heading,
-    })
-}
-
 // Adds a group over the others.
 fn push_group(
     alloc: Global,
@@ -126,69 +58,110 @@ fn push_group(
     Ok(())
 }
 
-fn push_tracks(alloc: Global, groups: &mut Vec<Group>, tracks: Tracks) -> Result<(), AllocError>
-    ensures { OnOk result (groups.new.items ≡ groups.old.items
-        ++ group_with (codes "background") (codes "ground") tracks.ground.items ∷ []
-        ++ group_with (codes "sections") (codes "sections") tracks.areas.items ∷ []
-        ++ group_with (codes "links") (codes "links") tracks.strokes.items ∷ []
-        ++ group_with (codes "circle") (codes "trains that wait for one another") tracks.waits.items ∷ []
-        ++ group_with (codes "points") (codes "points") tracks.dots.items ∷ []
-        ++ group_with (codes "numbers") (codes "numbers of sections") tracks.numbers.items ∷ []) }
+// Adds what is below the trains: the ground, sections, links, the circle of trains that wait, and points.
+fn push_tracks(groups: &mut Vec<Group>, view: &View, height: u64) -> Result<(), AllocError>
+    ensures { OnOk result (AddsTracks view.now.layout.now view.now.scene.now.table.now view.now.scene.now.state.now
+        view.now.frame.now.spots.items view.now.frame.now.insides.items view.now.frame.now.grid.width height groups.old.items groups.new.items) }
 {
-    push_group(alloc, groups, "background", "ground", tracks.ground)?;
-    push_group(alloc, groups, "sections", "sections", tracks.areas)?;
-    push_group(alloc, groups, "links", "links", tracks.strokes)?;
+    let alloc = view.alloc;
+    let width = view.frame.grid.width;
+    push_group(
+        alloc,
+        groups,
+        "background",
+        "ground",
+        ground(alloc, width, height)?,
+    )?;
+    push_group(alloc, groups, "sections", "sections", areas(view)?)?;
+    push_group(alloc, groups, "links", "links", links(view)?)?;
     push_group(
         alloc,
         groups,
         "circle",
         "trains that wait for one another",
-        tracks.waits,
+        waits(view)?,
     )?;
-    push_group(alloc, groups, "points", "points", tracks.dots)?;
+    push_group(
+        alloc,
+        groups,
+        "points",
+        "points",
+        dots(alloc, &view.frame.spots)?,
+    )?;
     push_group(
         alloc,
         groups,
         "numbers",
         "numbers of sections",
-        tracks.numbers,
+        numbers(view)?,
     )
 }
 
-fn push_signs(alloc: Global, groups: &mut Vec<Group>, signs: Signs) -> Result<(), AllocError>
-    ensures { OnOk result (groups.new.items ≡ groups.old.items
-        ++ group_with (codes "arrows") (codes "trains") signs.arrows.items ∷ []
-        ++ group_with (codes "names") (codes "names of points") signs.points.items ∷ []
-        ++ group_with (codes "trains") (codes "names of trains") signs.trains.items ∷ []
-        ++ group_with (codes "legend") (codes "legend") signs.legend.items ∷ []
-        ++ group_with (codes "heading") (codes "title") signs.heading.items ∷ []) }
+// Adds the trains and all words but those of the legend: the names of points and of trains.
+fn push_trains(groups: &mut Vec<Group>, view: &View) -> Result<(), AllocError>
+    ensures { OnOk result (AddsTrains view.now.scene.now.table.now view.now.scene.now.state.now
+        view.now.frame.now.spots.items groups.old.items groups.new.items) }
 {
-    push_group(alloc, groups, "arrows", "trains", signs.arrows)?;
-    push_group(alloc, groups, "names", "names of points", signs.points)?;
-    push_group(alloc, groups, "trains", "names of trains", signs.trains)?;
-    push_group(alloc, groups, "legend", "legend", signs.legend)?;
-    push_group(alloc, groups, "heading", "title", signs.heading)
+    let alloc = view.alloc;
+    push_group(alloc, groups, "arrows", "trains", arrows(view)?)?;
+    push_group(
+        alloc,
+        groups,
+        "names",
+        "names of points",
+        point_names(view)?,
+    )?;
+    push_group(
+        alloc,
+        groups,
+        "trains",
+        "names of trains",
+        train_names(view)?,
+    )
 }
 
-// The groups of a picture, each drawn over those before it.
-fn groups_of(
-    view: &View,
-    legend: Legend,
-    height: u64,
+// Adds the legend and the title.
+fn push_words(
+    alloc: Global,
+    groups: &mut Vec<Group>,
+    legend: Vec<Shape>,
     title: &str,
-) -> Result<Vec<Group>, AllocError>
+) -> Result<(), AllocError>
+    ensures { OnOk result (AddsWords groups.old.items groups.new.items) }
+{
+    push_group(alloc, groups, "legend", "legend", legend)?;
+    push_group(alloc, groups, "heading", "title", heading(alloc, title)?)
+}
+
+// Adds the groups of a picture, each drawn over those before it, and gives the picture's height.
+fn push_groups(groups: &mut Vec<Group>, view: &View, title: &str) -> Result<u64, AllocError>
     requires spots { length view.now.frame.now.spots.items ≡ length view.now.layout.now.points }
     requires insides { view.now.frame.now.insides.items
         ≡ map (inside view.now.scene.now.table.now (length view.now.layout.now.points)) (below (length view.now.scene.now.table.now.sections)) }
-    ensures { IfOk result (λ groups. IsDrawn view.now.layout.now view.now.scene.now.table.now view.now.scene.now.state.now
-        view.now.frame.now.grid.width height groups.items) }
+    requires empty { groups.old.items ≡ [] }
+    ensures { IfOk result (λ height. IsDrawn view.now.layout.now view.now.scene.now.table.now view.now.scene.now.state.now
+        view.now.frame.now.grid.width height groups.new.items) }
 {
-    let tracks = tracks_of(view, height)?;
-    let signs = signs_of(view, legend, title)?;
+    let legend = Legend::new(view.alloc, view.scene, view.frame.grid.foot)?;
+    let height = legend.foot();
+    push_tracks(groups, view, height)?;
+    push_trains(groups, view)?;
+    push_words(view.alloc, groups, legend.shapes, title)?;
+    Ok(height)
+}
+
+// A picture in a frame.
+fn drawn(view: &View, title: &str) -> Result<Picture, AllocError>
+    requires spots { length view.now.frame.now.spots.items ≡ length view.now.layout.now.points }
+    requires insides { view.now.frame.now.insides.items
+        ≡ map (inside view.now.scene.now.table.now (length view.now.layout.now.points)) (below (length view.now.scene.now.table.now.sections)) }
+    ensures { IfOk result (λ picture. IsDrawn view.now.layout.now view.now.scene.now.table.now view.now.scene.now.state.now
+        picture.width picture.height picture.groups) }
+{
     let mut groups = Vec::new(view.alloc);
-    push_tracks(view.alloc, &mut groups, tracks)?;
-    push_signs(view.alloc, &mut groups, signs)?;
-    Ok(groups)
+    let height = push_groups(&mut groups, view, title)?;
+    let width = view.frame.grid.width;
+    Picture::new(view.alloc, width, height, title, STYLE, groups)
 }
 
 /// A picture of a layout and of the trains of a scene.
@@ -207,8 +180,5 @@ pub(crate) fn drawing(
         scene,
         frame: &frame,
     };
-    let legend = Legend::new(alloc, scene, frame.grid.foot)?;
-    let height = legend.foot();
-    let groups = groups_of(&view, legend, height, title)?;
-    Picture::new(alloc, frame.grid.width, height, title, STYLE, groups)
+    drawn(&view, title)
 }
