@@ -5,6 +5,7 @@ ghost use Rattle.refusal_sentences.specs.StateLines.{IsLineOf};
 
 use crate::meanings::write_meaning;
 use crate::state_lines::state_of;
+use crate::text::Text;
 use crate::{Explained, explain_state};
 use std::alloc::{AllocError, Global};
 
@@ -19,28 +20,24 @@ fn words_of(line: &str) -> &str
 }
 
 // Adds what a line that names no state means; says whether it is a line of `ats`.
-fn write_words(
-    out: &mut String,
-    bytes: &[u8],
-    words: &str,
-    line: &str,
-) -> Result<bool, AllocError> {
-    let is_known = write_meaning(out, bytes, words)?;
+fn write_words(out: &mut Text, bytes: &[u8], words: &str, line: &str) -> bool {
+    let is_known = write_meaning(out, bytes, words);
     if !is_known {
-        write!(
-            out,
-            "This is no line of ats: {line:?}. A line of ats is like 206 Stuck table=0 at=1,1.\n"
-        )?;
+        out.say("This is no line of ats: ");
+        out.quote(line);
+        out.say(". A line of ats is like 206 Stuck table=0 at=1,1.\n");
     }
-    Ok(is_known)
+    is_known
 }
 
 // What a line that names no state is explained with.
 fn meaning_of(alloc: Global, bytes: &[u8], words: &str, line: &str) -> Result<Explained, AllocError>
     ensures { IfOk result (ExplainsLine bytes.now line.now) }
 {
-    let mut text = String::new(alloc);
-    if write_words(&mut text, bytes, words, line)? {
+    let mut text = Text::new(alloc);
+    let is_known = write_words(&mut text, bytes, words, line);
+    let text = text.into_result()?;
+    if is_known {
         Ok(Explained::Refusal(text))
     } else {
         Ok(Explained::NoLine(text))

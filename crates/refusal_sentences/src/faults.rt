@@ -4,6 +4,7 @@ use crate::fields::{write_train, write_trains};
 use crate::meanings::write_meaning;
 use crate::names::{Names, Rows, members_of, names_of, rows_of};
 use crate::section_points::write_section_points;
+use crate::text::Text;
 use layout_json::DocRefused;
 use legal_state::Illegal;
 use refusal_lines::push_document;
@@ -17,25 +18,32 @@ pub(crate) fn no_document_text(
 ) -> Result<String, AllocError> {
     let mut words = String::new(alloc);
     push_document(&mut words, refused)?;
-    let mut text = String::new(alloc);
-    write_no_document(&mut text, document, words.as_str())?;
-    Ok(text)
+    refused_text(alloc, document, words.as_str())
 }
 
-// Adds the line of a refused document, and what it means.
-fn write_no_document(out: &mut String, document: &[u8], words: &str) -> Result<(), AllocError> {
-    write!(out, "ats refuses the document: {words}\n")?;
-    write_meaning(out, document, words)?;
-    Ok(())
+// The line of a refused document, and what it means.
+fn refused_text(alloc: Global, document: &[u8], words: &str) -> Result<String, AllocError> {
+    let mut text = Text::new(alloc);
+    text.say("ats refuses the document: ");
+    text.say(words);
+    text.say("\n");
+    write_meaning(&mut text, document, words);
+    text.into_result()
 }
 
 /// That the document has only this many tables.
 pub(crate) fn no_table_text(alloc: Global, table: u32, tables: u32) -> Result<String, AllocError> {
+    let mut text = Text::new(alloc);
+    text.say("There is no table ");
+    text.say_number(u64::from(table));
     if tables == 1 {
-        return format!(in alloc; "There is no table {table}: the document has table 0 only.\n");
+        text.say(": the document has table 0 only.\n");
+    } else {
+        text.say(": the document has tables 0 to ");
+        text.say_number(u64::from(tables.saturating_sub(1)));
+        text.say(".\n");
     }
-    let last = tables.saturating_sub(1);
-    format!(in alloc; "There is no table {table}: the document has tables 0 to {last}.\n")
+    text.into_result()
 }
 
 /// Why places are no legal state of a table of a document.
@@ -47,50 +55,46 @@ pub(crate) fn not_legal_text(
     cause: Illegal,
 ) -> Result<String, AllocError> {
     let members = members_of(alloc, document)?;
-    let mut text = String::new(alloc);
-    write_not_legal(&mut text, names_of(&members), table, places, cause)?;
-    Ok(text)
+    text_of_cause(alloc, names_of(&members), table, places, cause)
 }
 
-// Adds why places are no legal state of a table.
-fn write_not_legal(
-    out: &mut String,
+// Why places are no legal state of a table.
+fn text_of_cause(
+    alloc: Global,
     names: Names,
     table: u32,
     places: &[u32],
     cause: Illegal,
-) -> Result<(), AllocError> {
-    write!(out, "These places are no legal state of table {table}: ")?;
-    write_cause(out, names, table, places, cause)?;
-    out.push_str(".\n")
+) -> Result<String, AllocError> {
+    let mut text = Text::new(alloc);
+    text.say("These places are no legal state of table ");
+    text.say_number(u64::from(table));
+    text.say(": ");
+    write_cause(&mut text, names, table, places, cause);
+    text.say(".\n");
+    text.into_result()
 }
 
 // Adds the cause.
-fn write_cause(
-    out: &mut String,
-    names: Names,
-    table: u32,
-    places: &[u32],
-    cause: Illegal,
-) -> Result<(), AllocError> {
+fn write_cause(out: &mut Text, names: Names, table: u32, places: &[u32], cause: Illegal) {
     let trains = names.trains;
     match cause {
         Illegal::Length { count } => write_length(out, trains, count),
         Illegal::Range { train } => {
-            write_train(out, trains, train)?;
+            write_train(out, trains, train);
             write_range(
                 out,
                 places.get(train as usize).copied(),
                 rows_of(names.tables, table).last_place(train),
-            )
+            );
         }
         Illegal::Clash {
             first,
             second,
             point,
         } => {
-            write_trains(out, trains, first, second)?;
-            write_meeting(out, names, point)
+            write_trains(out, trains, first, second);
+            write_meeting(out, names, point);
         }
         Illegal::Over {
             section,
@@ -101,50 +105,50 @@ fn write_cause(
 }
 
 // Adds at which point two trains are.
-fn write_meeting(out: &mut String, names: Names, point: u32) -> Result<(), AllocError> {
+fn write_meeting(out: &mut Text, names: Names, point: u32) {
+    out.say(" are both at ");
     match names.point(point) {
-        Some(name) => write!(out, " are both at {name}"),
-        None => write!(out, " are both at point {point}"),
+        Some(name) => out.say(name.as_str()),
+        None => {
+            out.say("point ");
+            out.say_number(u64::from(point));
+        }
     }
 }
 
 // Adds that trains take more of a section than its limit.
-fn write_over(
-    out: &mut String,
-    rows: &Rows,
-    section: u32,
-    count: u32,
-    limit: u32,
-) -> Result<(), AllocError> {
-    write!(out, "they take {count} of section {section}")?;
-    write_section_points(out, rows, section)?;
-    write!(out, ", whose limit is {limit}")
+fn write_over(out: &mut Text, rows: &Rows, section: u32, count: u32, limit: u32) {
+    out.say("they take ");
+    out.say_number(u64::from(count));
+    out.say(" of section ");
+    out.say_number(u64::from(section));
+    write_section_points(out, rows, section);
+    out.say(", whose limit is ");
+    out.say_number(u64::from(limit));
 }
 
 // Adds that there isn't one place for each train.
-fn write_length(out: &mut String, trains: &[String], count: usize) -> Result<(), AllocError> {
-    let wanted = trains.len();
-    write!(out, "{count} given, {wanted} wanted, one for each of ")?;
+fn write_length(out: &mut Text, trains: &[String], count: usize) {
+    out.say_number(count as u64);
+    out.say(" given, ");
+    out.say_number(trains.len() as u64);
+    out.say(" wanted, one for each of ");
     for (index, train) in trains.iter().enumerate() {
         if 0 < index {
-            out.push_str(", ")?;
+            out.say(", ");
         }
-        out.push_str(train.as_str())?;
+        out.say(train.as_str());
     }
-    Ok(())
 }
 
 // Adds that a train has no such place.
-fn write_range(
-    out: &mut String,
-    place: Option<u32>,
-    last: Option<usize>,
-) -> Result<(), AllocError> {
+fn write_range(out: &mut Text, place: Option<u32>, last: Option<usize>) {
     if let Some(place) = place {
-        write!(out, " has no place {place}")?;
+        out.say(" has no place ");
+        out.say_number(u64::from(place));
     }
-    match last {
-        Some(last) => write!(out, ", its last place is {last}"),
-        None => Ok(()),
+    if let Some(last) = last {
+        out.say(", its last place is ");
+        out.say_number(last as u64);
     }
 }

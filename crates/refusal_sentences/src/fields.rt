@@ -4,9 +4,9 @@ use crate::lines::field_of;
 use crate::names::{Names, Rows, no_rows, rows_of};
 use crate::section_points::write_section_points;
 use crate::shapes::shape_of;
+use crate::text::Text;
 use decimal_number::number_of;
 use rail_model::{Connection, Node};
-use std::alloc::AllocError;
 
 /// What a line's fields are read with: names, and the table and the train that the line speaks of.
 #[derive(Clone, Copy)]
@@ -39,28 +39,17 @@ pub(crate) fn scope_of<'a>(names: Names<'a>, words: &str, line: &str) -> Scope<'
 }
 
 /// Adds where a refusal is: the fields of its line.
-pub(crate) fn write_where(out: &mut String, scope: &Scope, line: &str) -> Result<(), AllocError> {
+pub(crate) fn write_where(out: &mut Text, scope: &Scope, line: &str) {
     let mut is_first = true;
     for word in line.split_whitespace() {
         if let Some((key, value)) = word.split_once('=') {
-            write_front(out, is_first)?;
-            write_field(out, scope, key, value)?;
+            out.say(if is_first { "Where: " } else { ", " });
+            write_field(out, scope, key, value);
             is_first = false;
         }
     }
-    if is_first {
-        Ok(())
-    } else {
-        out.push_str(".\n")
-    }
-}
-
-// Adds what comes before a field.
-fn write_front(out: &mut String, is_first: bool) -> Result<(), AllocError> {
-    if is_first {
-        out.push_str("Where: ")
-    } else {
-        out.push_str(", ")
+    if !is_first {
+        out.say(".\n");
     }
 }
 
@@ -105,160 +94,157 @@ fn word_of<'a>(key: &'a str, kind: Kind) -> &'a str {
 }
 
 // Adds a field with the names that its number stands for.
-fn write_field(out: &mut String, scope: &Scope, key: &str, value: &str) -> Result<(), AllocError> {
+fn write_field(out: &mut Text, scope: &Scope, key: &str, value: &str) {
     match (key, number_of(value.as_bytes())) {
-        ("what", _) => out.push_str(value),
+        ("what", _) => out.say(value),
         ("member", _) => write_member(out, value),
         (_, None) => write_numbered(out, key, value),
         (_, Some(number)) => {
             let kind = kind_of(key, scope.points);
-            write_numbered(out, word_of(key, kind), value)?;
-            write_names(out, scope, kind, number)
+            write_numbered(out, word_of(key, kind), value);
+            write_names(out, scope, kind, number);
         }
     }
 }
 
 // Adds a number after what it is called.
-fn write_numbered(out: &mut String, word: &str, number: &str) -> Result<(), AllocError> {
-    out.push_str(word)?;
-    out.push_str(" ")?;
-    out.push_str(number)
+fn write_numbered(out: &mut Text, word: &str, number: &str) {
+    out.say(word);
+    out.say(" ");
+    out.say(number);
 }
 
 // Adds a member and its shape.
-fn write_member(out: &mut String, member: &str) -> Result<(), AllocError> {
-    out.push_str(member)?;
-    match shape_of(member) {
-        Some(shape) => write_in_brackets(out, shape),
-        None => Ok(()),
+fn write_member(out: &mut Text, member: &str) {
+    out.say(member);
+    if let Some(shape) = shape_of(member) {
+        out.say(" (");
+        out.say(shape);
+        out.say(")");
     }
 }
 
-fn write_in_brackets(out: &mut String, words: &str) -> Result<(), AllocError> {
-    out.push_str(" (")?;
-    out.push_str(words)?;
-    out.push_str(")")
-}
-
 // Adds what has a number.
-fn write_names(out: &mut String, scope: &Scope, kind: Kind, number: u32) -> Result<(), AllocError> {
+fn write_names(out: &mut Text, scope: &Scope, kind: Kind, number: u32) {
     let index = number as usize;
     match kind {
         Kind::Train => write_name(out, scope.names.trains.get(index)),
         Kind::Point => write_name(out, scope.names.point(number)),
         Kind::Place => write_place_name(out, scope, number),
         Kind::Section => write_section_points(out, &scope.rows, number),
-        Kind::Connection => match scope.rows.connections.get(index) {
-            Some(rule) => write_rule(out, scope, rule),
-            None => Ok(()),
+        Kind::Connection => if let Some(rule) = scope.rows.connections.get(index) {
+            write_rule(out, scope, rule);
         },
         Kind::Link => write_link(out, scope.names.links, index),
-        Kind::Line => out.push_str(" of the journal"),
-        Kind::Node => match scope.rows.nodes.get(index) {
-            Some(node) => write_claim(out, scope, *node),
-            None => Ok(()),
+        Kind::Line => out.say(" of the journal"),
+        Kind::Node => if let Some(node) = scope.rows.nodes.get(index) {
+            write_claim(out, scope, *node);
         },
-        Kind::Other => Ok(()),
+        Kind::Other => {}
     }
 }
 
 // Adds the name of the point at a place of the train that the line speaks of.
-fn write_place_name(out: &mut String, scope: &Scope, place: u32) -> Result<(), AllocError> {
-    match scope.train {
-        Some(train) => write_point(out, &scope.rows, train, place),
-        None => Ok(()),
+fn write_place_name(out: &mut Text, scope: &Scope, place: u32) {
+    if let Some(train) = scope.train {
+        write_point(out, &scope.rows, train, place);
     }
 }
 
 // Adds the name, if there is one.
-fn write_name(out: &mut String, name: Option<&String>) -> Result<(), AllocError> {
-    match name {
-        Some(name) => write!(out, " ({name:?})"),
-        None => Ok(()),
+fn write_name(out: &mut Text, name: Option<&String>) {
+    if let Some(name) = name {
+        out.say(" (");
+        out.quote(name.as_str());
+        out.say(")");
     }
 }
 
 // Adds the names of the points that a link joins.
-fn write_link(out: &mut String, links: &[(String, String)], link: usize) -> Result<(), AllocError> {
-    match links.get(link) {
-        Some((first, second)) => write!(out, " ({first:?}, {second:?})"),
-        None => Ok(()),
+fn write_link(out: &mut Text, links: &[(String, String)], link: usize) {
+    if let Some((first, second)) = links.get(link) {
+        out.say(" (");
+        out.quote(first.as_str());
+        out.say(", ");
+        out.quote(second.as_str());
+        out.say(")");
     }
 }
 
 // Adds the name of the point at a place of a train, or that the train is out of the layout.
-fn write_point(out: &mut String, rows: &Rows, train: u32, place: u32) -> Result<(), AllocError> {
+fn write_point(out: &mut Text, rows: &Rows, train: u32, place: u32) {
     let name = rows.point(train, place);
     if name.is_none() && rows.last_place(train) == Some(place as usize) {
-        return out.push_str(" (out of the layout)");
+        out.say(" (out of the layout)");
+    } else {
+        write_name(out, name);
     }
-    write_name(out, name)
 }
 
 // Adds a place of a train.
-fn write_place(out: &mut String, rows: &Rows, train: u32, place: u32) -> Result<(), AllocError> {
-    write!(out, "place {place}")?;
-    write_point(out, rows, train, place)
+fn write_place(out: &mut Text, rows: &Rows, train: u32, place: u32) {
+    out.say("place ");
+    out.say_number(u64::from(place));
+    write_point(out, rows, train, place);
 }
 
 // Adds what a node says.
-fn write_claim(out: &mut String, scope: &Scope, node: Node) -> Result<(), AllocError> {
+fn write_claim(out: &mut Text, scope: &Scope, node: Node) {
     let trains = scope.names.trains;
+    out.say(" (");
     match node {
         Node::Split { train, place } => {
-            out.push_str(" (")?;
-            write_train(out, trains, train)?;
-            write!(out, " up to place {place}, or beyond it)")
+            write_train(out, trains, train);
+            out.say(" up to place ");
+            out.say_number(u64::from(place));
+            out.say(", or beyond it");
         }
         Node::Clash { first, second } => {
-            out.push_str(" (")?;
-            write_trains(out, trains, first, second)?;
-            out.push_str(" are at the same point)")
+            write_trains(out, trains, first, second);
+            out.say(" are at the same point");
         }
-        Node::Overfull { section } => write!(out, " (section {section} is overfull)"),
-        Node::Arrived => out.push_str(" (all trains have arrived)"),
+        Node::Overfull { section } => {
+            out.say("section ");
+            out.say_number(u64::from(section));
+            out.say(" is overfull");
+        }
+        Node::Arrived => out.say("all trains have arrived"),
         Node::Move { train } => {
-            out.push_str(" (")?;
-            write_train(out, trains, train)?;
-            out.push_str(" has a move)")
+            write_train(out, trains, train);
+            out.say(" has a move");
         }
     }
+    out.say(")");
 }
 
 // Adds what a connection says.
-fn write_rule(out: &mut String, scope: &Scope, rule: &Connection) -> Result<(), AllocError> {
+fn write_rule(out: &mut Text, scope: &Scope, rule: &Connection) {
     let trains = scope.names.trains;
-    out.push_str(" (")?;
-    write_train(out, trains, rule.train())?;
-    out.push_str(" leaves ")?;
-    write_place(out, &scope.rows, rule.train(), rule.place())?;
-    out.push_str(" after ")?;
-    write_train(out, trains, rule.other())?;
-    out.push_str(" has reached ")?;
-    write_place(out, &scope.rows, rule.other(), rule.reached())?;
-    out.push_str(")")
+    out.say(" (");
+    write_train(out, trains, rule.train());
+    out.say(" leaves ");
+    write_place(out, &scope.rows, rule.train(), rule.place());
+    out.say(" after ");
+    write_train(out, trains, rule.other());
+    out.say(" has reached ");
+    write_place(out, &scope.rows, rule.other(), rule.reached());
+    out.say(")");
 }
 
 /// Adds the names of two trains.
-pub(crate) fn write_trains(
-    out: &mut String,
-    trains: &[String],
-    first: u32,
-    second: u32,
-) -> Result<(), AllocError> {
-    write_train(out, trains, first)?;
-    out.push_str(" and ")?;
-    write_train(out, trains, second)
+pub(crate) fn write_trains(out: &mut Text, trains: &[String], first: u32, second: u32) {
+    write_train(out, trains, first);
+    out.say(" and ");
+    write_train(out, trains, second);
 }
 
 /// Adds the name of a train, or its number where it has no name.
-pub(crate) fn write_train(
-    out: &mut String,
-    trains: &[String],
-    train: u32,
-) -> Result<(), AllocError> {
+pub(crate) fn write_train(out: &mut Text, trains: &[String], train: u32) {
     match trains.get(train as usize) {
-        Some(name) => out.push_str(name.as_str()),
-        None => write!(out, "train {train}"),
+        Some(name) => out.say(name.as_str()),
+        None => {
+            out.say("train ");
+            out.say_number(u64::from(train));
+        }
     }
 }

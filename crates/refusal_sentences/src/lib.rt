@@ -14,6 +14,7 @@ mod section_points;
 mod shapes;
 mod state_lines;
 mod states;
+mod text;
 
 pub use explained::Explained;
 pub use explaining::explain_line;

@@ -4,50 +4,46 @@ use crate::fields::{Scope, scope_of, write_where};
 use crate::lines::words_of;
 use crate::names::{members_of, names_of};
 use crate::refusals::{Refusal, refusal_of};
-use std::alloc::AllocError;
+use crate::text::Text;
 
 /// Adds what a line means for a document, in two or three lines; says whether it is a line of `ats`.
-pub(crate) fn write_meaning(
-    out: &mut String,
-    document: &[u8],
-    line: &str,
-) -> Result<bool, AllocError> {
-    let alloc = *out.allocator();
-    let words = words_of(alloc, line)?;
-    match refusal_of(words.as_str()) {
-        Some(refusal) => write_refusal(out, document, words.as_str(), line, refusal),
-        None => Ok(false),
+pub(crate) fn write_meaning(out: &mut Text, document: &[u8], line: &str) -> bool {
+    match words_of(out.alloc(), line) {
+        Ok(words) => write_meaning_of(out, document, words.as_str(), line),
+        Err(_) => {
+            out.note_no_memory();
+            false
+        }
+    }
+}
+
+// Adds what a line with these words means.
+fn write_meaning_of(out: &mut Text, document: &[u8], words: &str, line: &str) -> bool {
+    match refusal_of(words) {
+        Some(refusal) => {
+            write_refusal(out, document, words, line, refusal);
+            true
+        }
+        None => false,
     }
 }
 
 // Adds what a refusal means.
-fn write_refusal(
-    out: &mut String,
-    document: &[u8],
-    words: &str,
-    line: &str,
-    refusal: Refusal,
-) -> Result<bool, AllocError> {
-    let members = members_of(*out.allocator(), document)?;
-    let scope = scope_of(names_of(&members), words, line);
-    write_lines(out, &scope, line, refusal)?;
-    Ok(true)
+fn write_refusal(out: &mut Text, document: &[u8], words: &str, line: &str, refusal: Refusal) {
+    match members_of(out.alloc(), document) {
+        Ok(members) => {
+            let scope = scope_of(names_of(&members), words, line);
+            write_lines(out, &scope, line, refusal);
+        }
+        Err(_) => out.note_no_memory(),
+    }
 }
 
 // Adds what a refusal means, where it is, and what to do about it.
-fn write_lines(
-    out: &mut String,
-    scope: &Scope,
-    line: &str,
-    refusal: Refusal,
-) -> Result<(), AllocError> {
-    write_line(out, refusal.meaning)?;
-    write_where(out, scope, line)?;
-    write_line(out, refusal.advice)
-}
-
-// Adds a sentence as a line.
-fn write_line(out: &mut String, sentence: &str) -> Result<(), AllocError> {
-    out.push_str(sentence)?;
-    out.push_str("\n")
+fn write_lines(out: &mut Text, scope: &Scope, line: &str, refusal: Refusal) {
+    out.say(refusal.meaning);
+    out.say("\n");
+    write_where(out, scope, line);
+    out.say(refusal.advice);
+    out.say("\n");
 }

@@ -1,17 +1,16 @@
 // The points at which trains have shares of a section.
 
 use crate::names::Rows;
+use crate::text::Text;
 use std::alloc::AllocError;
 
 /// Adds up to six of the points at which a train has a share of a section.
-pub(crate) fn write_section_points(
-    out: &mut String,
-    rows: &Rows,
-    section: u32,
-) -> Result<(), AllocError> {
-    let mut points = Vec::new(*out.allocator());
-    push_section_points(&mut points, rows, section)?;
-    write_points(out, &points)
+pub(crate) fn write_section_points(out: &mut Text, rows: &Rows, section: u32) {
+    let mut points = Vec::new(out.alloc());
+    match push_section_points(&mut points, rows, section) {
+        Ok(()) => write_points(out, &points),
+        Err(_) => out.note_no_memory(),
+    }
 }
 
 // Adds the points at which a train's share of a section is above 0, in the order of the missions.
@@ -55,14 +54,14 @@ fn is_known(points: &[&str], point: &str) -> bool {
 }
 
 // Adds up to six points in brackets.
-fn write_points(out: &mut String, points: &[&str]) -> Result<(), AllocError> {
+fn write_points(out: &mut Text, points: &[&str]) {
     for (index, point) in points.iter().enumerate().take(6) {
-        out.push_str(if index == 0 { " (" } else { ", " })?;
-        out.push_str(point)?;
+        out.say(if index == 0 { " (" } else { ", " });
+        out.say(point);
     }
     match points.len() {
-        0 => Ok(()),
-        1..=6 => out.push_str(")"),
-        _ => out.push_str(" and others)"),
+        0 => {}
+        1..=6 => out.say(")"),
+        _ => out.say(" and others)"),
     }
 }
