@@ -1,5 +1,5 @@
 // The shares that trains hold of a section, and the changes that make them.
-ghost use Rattle.std.specs.Prelude.{◌≡◌, IfOk, bytes_eq, string_bytes};
+ghost use Rattle.std.specs.Prelude.{◌≡◌, IfOk, bytes_eq, slice_get, string_bytes};
 ghost use Rattle.plan_document.specs.Shares as spec;
 
 use crate::Holding;
@@ -20,20 +20,42 @@ pub fn is_among(names: &[String], name: &str) -> bool
     names.iter().any(|known| is_called(known, name))
 }
 
+// Whether a place lies in the stretch of a holding.
+fn lies_in(holding: &Holding, place: usize) -> bool
+    ensures { result ≡ spec.lies_in holding.now place }
+{
+    holding.from <= place && place < holding.until
+}
+
+// Whether the point of a place of a route, if there is one, is one of these.
+fn is_in(points: &[String], route: &[String], place: usize) -> bool
+    ensures { result ≡ spec.is_in points.now (slice_get route.now place) }
+{
+    match route.get(place) {
+        Some(point) => is_among(points, point.as_str()),
+        None => false,
+    }
+}
+
 /// The share of a train at a place of its route: its weight exactly where the point of that place is in the section, within its stretch.
 pub fn share_at(points: &[String], holding: &Holding, route: &[String], place: usize) -> u8
     ensures { result ≡ spec.share_at points.now holding.now route.now place }
 {
-    if place < holding.from || holding.until <= place {
-        return 0;
+    if lies_in(holding, place) && is_in(points, route, place) {
+        holding.weight
+    } else {
+        0
     }
-    match route.get(place) {
-        Some(point) => if is_among(points, point.as_str()) {
-            holding.weight
-        } else {
-            0
-        },
-        None => 0,
+}
+
+// The share at the place before; nothing before the first.
+fn share_before(points: &[String], holding: &Holding, route: &[String], place: usize) -> u8
+    ensures { result ≡ spec.share_before points.now holding.now route.now place }
+{
+    if place == 0 {
+        0
+    } else {
+        share_at(points, holding, route, place - 1)
     }
 }
 
@@ -41,11 +63,7 @@ pub fn share_at(points: &[String], holding: &Holding, route: &[String], place: u
 fn change_at(points: &[String], holding: &Holding, route: &[String], place: usize) -> i32
     ensures { result ≡ spec.change_at points.now holding.now route.now place }
 {
-    let before = if place == 0 {
-        0
-    } else {
-        share_at(points, holding, route, place - 1)
-    };
+    let before = share_before(points, holding, route, place);
     i32::from(share_at(points, holding, route, place)) - i32::from(before)
 }
 

@@ -102,6 +102,16 @@ fn keys_of(values: &[Value], index: usize) -> Option<&Table>
     }
 }
 
+// The place that a value says for a train: its own, or that for all.
+fn place_in<'t>(value: &'t Value, train: &str) -> Option<&'t str>
+    ensures { option_copied result ≡ spec.place_in train.now (view value.now) }
+{
+    match value.as_str() {
+        Some(place) => Some(place),
+        None => value.get(train)?.as_str(),
+    }
+}
+
 impl<'t> Entries<'t> {
     /// An entry; one without keys for one that isn't there.
     pub fn entry(&self, index: usize) -> Entry<'t>
@@ -224,11 +234,7 @@ impl<'t> Entry<'t> {
     pub fn place_for(&self, key: &str, train: &str) -> Option<&'t str>
         ensures { option_copied result ≡ option_and_then (spec.place_in train.now) (value_at key.now self.now) }
     {
-        let value = self.value(key)?;
-        match value.as_str() {
-            Some(place) => Some(place),
-            None => value.get(train)?.as_str(),
-        }
+        place_in(self.value(key)?, train)
     }
 
     /// Whether a key has a place for all, or a table of places.

@@ -39,6 +39,25 @@ fn sort_by_lines(list: &mut Vec<Fault>) -> Result<(), AllocError>
     Ok(())
 }
 
+// The last of the lines of faults; 1, if there are none.
+fn last_line(list: &[Fault]) -> u32 {
+    let mut last = 1u32;
+    for fault in list {
+        last = last.max(fault.line);
+    }
+    last
+}
+
+// Adds that there are more faults than these.
+fn push_more(alloc: Global, list: &mut Vec<Fault>) -> Result<(), AllocError>
+    ensures { IfOk result (λ _. 0 < length list.new.items) }
+{
+    let line = last_line(list.as_slice());
+    let words = String::from_str(alloc, "there are more faults than these")?;
+    list.push(Fault { line, words })?;
+    Ok(())
+}
+
 impl Fault {
     // Whether it is in this line and has these words.
     fn is(&self, line: u32, words: &str) -> bool {
@@ -122,6 +141,20 @@ impl<'a> Faults<'a> {
         }
     }
 
+    // Puts the faults in the order of their lines. Where there are more of them than are reported, one in the last of the lines says so.
+    fn close(&mut self) -> Result<(), AllocError>
+        ensures told { IfOk result (λ _. has_fault self.old ≡ true → 0 < length self.new.list.items) }
+        ensures in_order { IfOk result (λ _. IsNonDecreasingBy (λ (f : Fault). f.line) self.new.list.items) }
+    {
+        if self.lost {
+            return Err(AllocError);
+        }
+        if self.more {
+            push_more(self.alloc, &mut self.list)?;
+        }
+        sort_by_lines(&mut self.list)
+    }
+
     /// The faults in the order of their lines.
     ///
     /// # Errors
@@ -131,22 +164,8 @@ impl<'a> Faults<'a> {
         ensures told { IfOk result (λ list. has_fault self.entry ≡ true → 0 < length list.items) }
         ensures in_order { IfOk result (λ list. IsNonDecreasingBy (λ (f : Fault). f.line) list.items) }
     {
-        let Faults {
-            alloc,
-            source: _,
-            mut list,
-            more,
-            lost,
-        } = self;
-        if lost {
-            return Err(AllocError);
-        }
-        if more {
-            let line = list.iter().map(|fault| fault.line).max().unwrap_or(1);
-            let words = String::from_str(alloc, "there are more faults than these")?;
-            list.push(Fault { line, words })?;
-        }
-        sort_by_lines(&mut list)?;
-        Ok(list)
+        let mut faults = self;
+        faults.close()?;
+        Ok(faults.list)
     }
 }

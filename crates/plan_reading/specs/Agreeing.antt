@@ -1,6 +1,7 @@
 -- Whether the entries of a text are what stands at their places in a plan.
-use Rattle.std.specs.Prelude.{ℕ, ℤ, pos, List, [], ◌∷◌, length, take, drop, zip, ◌==◌, ◌&&◌, Bool, true, false, codes, String, string_bytes, bytes_eq, Option, Some, None, option_and_then, unwrap_or, slice_get}
+use Rattle.std.specs.Prelude.{◌≡◌, ℕ, ℤ, pos, List, [], ◌∷◌, length, take, drop, zip, ◌==◌, ◌&&◌, Bool, true, false, codes, String, string_bytes, bytes_eq, Option, Some, None, option_and_then, unwrap_or, slice_get}
 use Rattle.std.specs.List.{list_all}
+use Rattle.std.specs.Borrow.{Bor}
 use Rattle.std.specs.Ordering.{int_eq}
 use Rattle.std.specs.declared.alloc.Global.{Global}
 use Rattle.toml.specs.Data.{Data, Items, no_items, item, get, as_str, as_integer, as_bool}
@@ -21,6 +22,10 @@ agree_beside t vs xs = list_all (λ p. t (view p.0) p.1) (zip vs xs)
 -- the same, and there are as many
 abbrev pub agree_values : {X : Type 0} → (Data → X → Bool) → List Value → List X → Bool
 agree_values t vs xs = (length vs == length xs) && agree_beside t vs xs
+
+-- each answer at a value is that of a test of the item that the value stands for
+abbrev pub Tells : {X : Type 0} → (Bor Value → Bor X → Bool → Type 0) → (Data → X → Bool) → Type 0
+Tells {X} P t = (v : Bor Value) (x : Bor X) (b : Bool) → P v x b → b ≡ t (view v.now) x.now
 
 -- what an entry has at a key, if that is a text, and if it is a number
 abbrev pub text_at : List ℕ → Data → Option (List ℕ)

@@ -5,7 +5,7 @@ ghost use Rattle.plan_reading.specs.Agreeing.{agree_values};
 ghost use Rattle.plan_reading.specs.Said as spec;
 ghost use Rattle.plan_reading.specs.Said.{IsPlanOf, AgreesFirst, AgreesInTables};
 
-use crate::matching::{is_due, is_exit, is_limited, is_named, is_routed, is_start, is_wait};
+use crate::matching::{agree, is_due, is_exit, is_limited, is_named, is_routed, is_start, is_wait};
 use plan_document::{Plan, SectionPlan, TablePlan, Wait};
 use toml::{Table, Value};
 
@@ -26,55 +26,35 @@ fn entries_of<'t>(table: &'t Table, key: &str) -> &'t [Value]
 fn are_named(entries: &[Value], names: &[String]) -> bool
     ensures { result ≡ agree_values spec.is_named entries.now names.now }
 {
-    entries.len() == names.len()
-        && entries
-            .iter()
-            .zip(names)
-            .all(|(entry, name)| is_named(entry, name))
+    agree(entries, names, is_named)
 }
 
 // Whether these are the routes of the entries, in order.
 fn are_routed(entries: &[Value], routes: &[Vec<String>]) -> bool
     ensures { result ≡ agree_values spec.is_routed entries.now routes.now }
 {
-    entries.len() == routes.len()
-        && entries
-            .iter()
-            .zip(routes)
-            .all(|(entry, route)| is_routed(entry, route))
+    agree(entries, routes, is_routed)
 }
 
 // Whether these are the exits of the entries, in order.
 fn are_exits(entries: &[Value], exits: &[bool]) -> bool
     ensures { result ≡ agree_values spec.is_exit entries.now exits.now }
 {
-    entries.len() == exits.len()
-        && entries
-            .iter()
-            .zip(exits)
-            .all(|(entry, exit)| is_exit(entry, *exit))
+    agree(entries, exits, is_exit)
 }
 
 // Whether these sections have the limits of the entries, in order.
 fn are_limited(entries: &[Value], sections: &[SectionPlan]) -> bool
     ensures { result ≡ agree_values spec.is_limited entries.now sections.now }
 {
-    entries.len() == sections.len()
-        && entries
-            .iter()
-            .zip(sections)
-            .all(|(entry, section)| is_limited(entry, section))
+    agree(entries, sections, is_limited)
 }
 
 // Whether these tables are due when the entries say, in order.
 fn are_due(entries: &[Value], tables: &[TablePlan]) -> bool
     ensures { result ≡ agree_values spec.is_due entries.now tables.now }
 {
-    entries.len() == tables.len()
-        && entries
-            .iter()
-            .zip(tables)
-            .all(|(entry, table)| is_due(entry, table))
+    agree(entries, tables, is_due)
 }
 
 // Whether the trains of the entries start at these places of these routes, in order.
@@ -95,11 +75,9 @@ fn are_starts(entries: &[Value], routes: &[Vec<String>], places: &[u32]) -> bool
 fn are_waits(entries: &[Value], waits: &[Wait], trains: &[String], first: &TablePlan) -> bool
     ensures { result ≡ agree_values (spec.is_wait trains.now first.now.routes.items) entries.now waits.now }
 {
-    entries.len() == waits.len()
-        && entries
-            .iter()
-            .zip(waits)
-            .all(|(entry, wait)| is_wait(entry, wait, trains, first))
+    agree(entries, waits, |entry, wait| {
+        is_wait(entry, wait, trains, first)
+    })
 }
 
 // Whether the first table of a plan has the routes, exits, starts, limits and connections of its text.

@@ -1,7 +1,7 @@
 // Whether an entry of a text is what a plan has of it.
 ghost use Rattle.std.specs.Prelude.{◌≡◌, option_copied, slice_get, string_bytes};
 ghost use Rattle.toml.specs.View.{view};
-ghost use Rattle.plan_reading.specs.Agreeing.{agree_values, exits as exits_of, is_name as is_name_of, is_number as is_number_of, is_text as is_text_of, names_place as names_place_of, names_point as names_point_of, names_train as names_train_of, number_at as number_of, text_at as text_of};
+ghost use Rattle.plan_reading.specs.Agreeing.{Tells, agree_values, exits as exits_of, is_name as is_name_of, is_number as is_number_of, is_text as is_text_of, names_place as names_place_of, names_point as names_point_of, names_train as names_train_of, number_at as number_of, text_at as text_of};
 ghost use Rattle.plan_reading.specs.Said as spec;
 
 use plan_document::{SectionPlan, TablePlan, Wait};
@@ -79,10 +79,26 @@ fn exits(entry: &Value) -> bool
 }
 
 /// Whether an entry exits exactly if this says so.
-pub(crate) fn is_exit(entry: &Value, exit: bool) -> bool
-    ensures { result ≡ spec.is_exit (view entry.now) exit }
+pub(crate) fn is_exit(entry: &Value, exit: &bool) -> bool
+    ensures { result ≡ spec.is_exit (view entry.now) exit.now }
 {
-    if exit { exits(entry) } else { !exits(entry) }
+    if *exit { exits(entry) } else { !exits(entry) }
+}
+
+/// Whether there are as many of these as values, and each is what this says of its value.
+pub(crate) fn agree<T, F: Fn(&Value, &T) -> bool + Copy>(
+    values: &[Value],
+    these: &[T],
+    says: F,
+) -> bool
+    requires { F.IsAlwaysCallable says }
+    ensures { (t : _) → Tells (F.post says) t → result ≡ agree_values t values.now these.now }
+{
+    values.len() == these.len()
+        && values
+            .iter()
+            .zip(these)
+            .all(|(value, this)| says(value, this))
 }
 
 // Whether a value is this name.
@@ -96,11 +112,7 @@ fn is_name(value: &Value, name: &String) -> bool
 fn are_names(values: &[Value], names: &[String]) -> bool
     ensures { result ≡ agree_values is_name_of values.now names.now }
 {
-    values.len() == names.len()
-        && values
-            .iter()
-            .zip(names)
-            .all(|(value, name)| is_name(value, name))
+    agree(values, names, is_name)
 }
 
 /// Whether an entry has this route.

@@ -1,13 +1,5 @@
-use Rattle.std.proofs.Common.{arith, rules, tests}
-use Rattle.std.proofs.lemmas.Iterator.{YieldsList-from_slice, YieldsList-from_zip}
-use Rattle.std.proofs.lemmas.Iterator.Search.{all_from_yields_List}
-use Rattle.toml.specs.View.{view}
 use Rattle.plan_reading.specs.Said.{is_routed}
-use Rattle.plan_reading.proofs.Compared.{counted}
 use Rattle.plan_reading.proofs.agreement.are_routed.Goals as goal
 
-pub returns-then-entries-routes : goal.returns-then-entries-routes
-returns-then-entries-routes c =
-    let pairs = YieldsList-from_zip (YieldsList-from_slice c.args.entries.now cc) (YieldsList-from_slice c.args.routes.now cc) in
-    let beside = all_from_yields_List (λ p. is_routed (view p.0) p.1) c.all.new.self _ c.all.result c.all.ensures.ran pairs (λ x b q k. search (rules, tests)) in
-    counted is_routed c.args.entries.now c.args.routes.now c.all.result (omega (arith, c.if-entries-routes.true)) beside
+pub returns : goal.returns
+returns c = c.agree.ensures is_routed (λ v x b says. says)
