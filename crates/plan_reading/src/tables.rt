@@ -116,15 +116,17 @@ fn add_tables(
     Ok(())
 }
 
-// Adds where the trains start, under the first table; what is wrong with it is reported.
+// Adds where the trains start, under the first table, if it is there; what is wrong with it is reported.
 fn add_starts(
     alloc: Global,
     faults: &mut Faults,
     top: &Entry,
     ground: &Ground,
-    first: &TablePlan,
-    places: &mut Vec<u32>,
+    plan: &mut Plan,
 ) -> Result<(), AllocError> {
+    let Some(first) = plan.tables.first() else {
+        return Ok(());
+    };
     let scope = Scope {
         points: &ground.points,
         trains: &ground.trains,
@@ -138,7 +140,8 @@ fn add_starts(
     let sections = top.list(Kind::Section);
     check_taken(alloc, faults, &sections, &first.sections, &scope, &starts)?;
     for start in &starts {
-        places.push(u32::try_from(start.unwrap_or(0)).unwrap_or(0))?;
+        plan.start
+            .push(u32::try_from(start.unwrap_or(0)).unwrap_or(0))?;
     }
     Ok(())
 }
@@ -178,9 +181,9 @@ fn fill(
         own: Entry::part(Kind::Top, None),
         number: 0,
     };
-    let first = table_plan(alloc, faults, &layer, ground)?;
-    add_starts(alloc, faults, top, ground, &first, &mut plan.start)?;
-    plan.tables.push(first)?;
+    plan.tables
+        .push(table_plan(alloc, faults, &layer, ground)?)?;
+    add_starts(alloc, faults, top, ground, plan)?;
     add_tables(alloc, faults, top, ground, plan)?;
     add_names(alloc, ground, plan)?;
     add_links(alloc, ground, plan)
