@@ -1,10 +1,11 @@
 // The grid of ticks and points, and the tables that take over.
 use crate::Axes;
 use crate::labels::{Labels, text_width};
+use crate::shapes::{push_label, push_line};
 use rail_model::Layout;
 use run_timetable::{Takeover, point_name};
 use std::alloc::{AllocError, Global};
-use svg_text::{Shape, Spot, label, line, polygon};
+use svg_text::{Shape, Spot, polygon};
 
 /// Adds paper under a picture.
 pub(crate) fn push_paper(
@@ -71,8 +72,7 @@ pub(crate) fn push_ticks(
         x: u64::from(axes.left) + u64::from(axes.width / 2),
         y: axes.floor().saturating_add(28),
     };
-    shapes.push(label(alloc, middle, "ticks")?)?;
-    Ok(())
+    push_label(alloc, shapes, middle, "ticks")
 }
 
 // Adds the line of a tick, and its number.
@@ -90,8 +90,7 @@ fn push_tick(
         y: bottom.saturating_add(13),
     };
     let number = format!(in alloc; "{tick}")?;
-    shapes.push(label(alloc, under, number.as_str())?)?;
-    Ok(())
+    push_label(alloc, shapes, under, number.as_str())
 }
 
 // Adds a line from the top of the grid to its bottom.
@@ -106,8 +105,7 @@ fn push_upright(
         y: axes.ceiling(),
     };
     let bottom = Spot { x, y: axes.floor() };
-    shapes.push(line(alloc, top, bottom)?)?;
-    Ok(())
+    push_line(alloc, shapes, top, bottom)
 }
 
 /// Adds the lines of points, each with its name, which ends so far to the left of tick 0.
@@ -124,12 +122,12 @@ pub(crate) fn push_points(
             x: axes.right(),
             y: from.y,
         };
-        shapes.push(line(alloc, from, to)?)?;
+        push_line(alloc, shapes, from, to)?;
         let end = Spot {
             x: from.x.saturating_sub(before),
             y: from.y.saturating_add(4),
         };
-        shapes.push(label(alloc, end, point_name(layout, *point))?)?;
+        push_label(alloc, shapes, end, point_name(layout, *point))?;
     }
     Ok(())
 }
@@ -162,8 +160,7 @@ fn push_table(
     let words = format!(in alloc; "table {table}")?;
     let width = text_width(words.as_str());
     let spot = labels.place(&table_spots(axes, x, width), width)?;
-    shapes.push(label(alloc, spot, words.as_str())?)?;
-    Ok(())
+    push_label(alloc, shapes, spot, words.as_str())
 }
 
 // Where the number of a table may stand: over its line, on either side, or at the line's end.

@@ -1,10 +1,10 @@
 // The legend: what the lines of a picture mean.
 use crate::labels::text_width;
-use crate::marks::train_line;
+use crate::shapes::{push_label, push_train_line};
 use rail_model::Names;
 use run_timetable::{Run, train_name};
 use std::alloc::{AllocError, Global};
-use svg_text::{Shape, Spot, label};
+use svg_text::{Shape, Spot};
 
 /// How wide a picture is.
 pub(crate) const WIDTH: u16 = 800;
@@ -87,8 +87,7 @@ pub(crate) fn push_legend(
     } else {
         "sloped: it travels; level: it waits; thin: it has arrived; dotted: a table takes over"
     };
-    shapes.push(label(alloc, under(at), words)?)?;
-    Ok(())
+    push_label(alloc, shapes, under(at), words)
 }
 
 // Adds the sample of a train's line, and its name.
@@ -101,11 +100,16 @@ fn push_entry(
 ) -> Result<(), AllocError> {
     let y = at.y.saturating_sub(4);
     let end = at.x.saturating_add(SAMPLE);
-    shapes.push(train_line(alloc, train, Spot { x: at.x, y }, Spot { x: end, y })?)?;
+    push_train_line(
+        alloc,
+        shapes,
+        train,
+        Spot { x: at.x, y },
+        Spot { x: end, y },
+    )?;
     let words = Spot {
         x: end.saturating_add(6),
         y: at.y,
     };
-    shapes.push(label(alloc, words, name)?)?;
-    Ok(())
+    push_label(alloc, shapes, words, name)
 }

@@ -1,7 +1,8 @@
 // Trains that stand, and their names.
 use crate::Axes;
 use crate::labels::{Labels, text_width};
-use crate::marks::{of_train, train_line};
+use crate::marks::of_train;
+use crate::shapes::push_train_line;
 use rail_model::Names;
 use run_timetable::{Row, Run, Step, rows_of, train_name};
 use std::alloc::{AllocError, Global};
@@ -52,8 +53,7 @@ fn push_level(
         Some(point) if from < until => {
             let from = axes.spot(from, point);
             let to = axes.spot(until, point);
-            shapes.push(train_line(alloc, row.train, from, to)?)?;
-            Ok(())
+            push_train_line(alloc, shapes, row.train, from, to)
         }
         _ => Ok(()),
     }

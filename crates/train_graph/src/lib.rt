@@ -11,6 +11,7 @@ mod levels;
 mod marks;
 mod order;
 mod scale;
+mod shapes;
 
 pub use drawing::train_graph;
 pub use scale::Axes;

@@ -1,0 +1,38 @@
+// Shapes that are added to others.
+use crate::marks::train_line;
+use std::alloc::{AllocError, Global};
+use svg_text::{Shape, Spot, label, line};
+
+/// Adds a line.
+pub(crate) fn push_line(
+    alloc: Global,
+    shapes: &mut Vec<Shape>,
+    from: Spot,
+    to: Spot,
+) -> Result<(), AllocError> {
+    shapes.push(line(alloc, from, to)?)?;
+    Ok(())
+}
+
+/// Adds a line of a train.
+pub(crate) fn push_train_line(
+    alloc: Global,
+    shapes: &mut Vec<Shape>,
+    train: u32,
+    from: Spot,
+    to: Spot,
+) -> Result<(), AllocError> {
+    shapes.push(train_line(alloc, train, from, to)?)?;
+    Ok(())
+}
+
+/// Adds words.
+pub(crate) fn push_label(
+    alloc: Global,
+    shapes: &mut Vec<Shape>,
+    at: Spot,
+    words: &str,
+) -> Result<(), AllocError> {
+    shapes.push(label(alloc, at, words)?)?;
+    Ok(())
+}
