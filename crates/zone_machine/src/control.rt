@@ -23,7 +23,7 @@ use crate::{CONTROL, Core, NotAllowed};
 use legal_state::count_of;
 use move_claim::{Cell, Known, Owed};
 use rail_model::{
-    Entry, HasTable, Layout, Reply, Standing, State, Table, Tried, sections_of, trains_of, zones_of,
+    Entry, HasTable, Layout, Reply, Standing, State, Table, Tried, sections_of, zones_of,
 };
 use table_exchange::{NotNow, admit, all_arrived, due};
 use zone_locks::ZoneSet;
@@ -165,7 +165,7 @@ impl<'a, A: HasTable> Core<'a, A> {
         if let Some(zone) = ZoneSet::all(zones_of(self.layout)).first_outside(&row.held) {
             return Some(NotAllowed::Zone { zone });
         }
-        if let Some(cell) = unknown_position(&row.known, trains_of(self.tables[0].table())) {
+        if let Some(cell) = unknown_position(&row.known, self.trains()) {
             return Some(NotAllowed::Unknown { cell });
         }
         if !self.has_more(row) {

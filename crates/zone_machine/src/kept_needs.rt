@@ -7,7 +7,7 @@ ghost use Rattle.zone_machine.specs.World.{Setup, trains_of as trains_in};
 
 use crate::Core;
 use move_claim::Footprint;
-use rail_model::{HasTable, trains_of};
+use rail_model::HasTable;
 use std::alloc::{AllocError, Global};
 use std::marker::Model;
 
@@ -87,9 +87,7 @@ impl<'a, A: HasTable> Core<'a, A> {
             return;
         };
         let place = row.position;
-        if trains_of(self.tables[0].table()) <= number
-            || kept_for(&self.kept, number, table, place, 1).is_some()
-        {
+        if self.trains() <= number || kept_for(&self.kept, number, table, place, 1).is_some() {
             return;
         }
         self.keep_at(number, table, place);

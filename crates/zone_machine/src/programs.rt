@@ -18,10 +18,10 @@ ghost use Rattle.zone_machine.specs.Needs.{table_of};
 use crate::control::unknown_position;
 use crate::kept_needs::kept_for;
 use crate::machine::Row;
-use crate::refusals::first_zone;
+use crate::refusals::{first_owed, first_zone};
 use crate::{CONTROL, Core, Stage, Step};
 use move_claim::{Cell, Footprint, Known};
-use rail_model::{HasTable, trains_of, zones_of};
+use rail_model::{HasTable, zones_of};
 use zone_locks::ZoneSet;
 
 // The first zone is given back, where zones are to be given back and one is held.
@@ -106,7 +106,7 @@ impl<'a, A: HasTable> Core<'a, A> {
         if known.number(Cell::Table).is_none() {
             return Some(Cell::Table);
         }
-        unknown_position(known, trains_of(self.tables[0].table()))
+        unknown_position(known, self.trains())
     }
 
     // The next step of the control, which neither owes a cell nor is closing.
@@ -191,8 +191,8 @@ impl<'a, A: HasTable> Core<'a, A> {
     {
         // What holds of the core is known from here on.
         let _ = &self.layout;
-        if let Some(item) = row.owed.items().first() {
-            return Step::Pay { cell: item.0 };
+        if let Some(cell) = first_owed(&row.owed) {
+            return Step::Pay { cell };
         }
         if let Some(step) = release_if(row.closing, &row.held) {
             return step;

@@ -2,9 +2,9 @@
 ghost use Rattle.std.specs.Prelude.{◌≡◌, ◌+◌, ◌++◌, ◌<◌, [], map, length, option_to_list, unwrap_or, IfOk};
 ghost use Rattle.rail_model.specs.declared.types.Reply.TheVariants.{Driver, Control as ControlReply};
 ghost use Rattle.rail_model.specs.declared.types.Line.TheVariants.{Move as MoveLine};
-ghost use Rattle.rail_model.specs.Lines.{line_of};
+ghost use Rattle.rail_model.specs.Lines.{journal_of, line_of};
 ghost use Rattle.rail_model.specs.Table.{IsTable, trains, place as place_of, last, point};
-ghost use Rattle.rail_model.specs.Yard.{IsAnswer, after_entry, control};
+ghost use Rattle.rail_model.specs.Yard.{IsAnswer, IsHistory, after, after_entry, control};
 ghost use Rattle.table_exchange.specs.Tables.{AreTables, Stands};
 ghost use Rattle.zone_machine.specs.Weave.{plain_of};
 
@@ -116,6 +116,25 @@ fn replay<A: HasTable>(
     }
 }
 
+// Adds the lines of all entries, and goes on to the state after the last one.
+fn replay_all<A: HasTable>(
+    tables: &[A],
+    history: &[Entry],
+    yard: &mut Standing,
+    lines: &mut Vec<Line>,
+) -> Result<(), AllocError>
+    requires are { AreTables (map A.offer tables.now) }
+    requires stands { Stands (map A.offer tables.now) yard.old }
+    requires right { IsHistory (map A.offer tables.now) yard.old history.now }
+    ensures after { IfOk result (λ _. yard.new ≡ after yard.old history.now) }
+    ensures adds { IfOk result (λ _. lines.new.items ≡ lines.old.items ++ journal_of (map A.offer tables.now) yard.old history.now) }
+{
+    for entry in history {
+        replay(tables, yard, lines, *entry)?;
+    }
+    Ok(())
+}
+
 impl<'a, A: HasTable> Core<'a, A> {
     /// The state that the history leads to, and its journal.
     ///
@@ -129,9 +148,7 @@ impl<'a, A: HasTable> Core<'a, A> {
         let positions = start.positions().copy(alloc)?;
         let mut yard = Standing::new(positions, start.table(), start.tried(), start.moves());
         let mut lines = Vec::new(alloc);
-        for entry in &self.history {
-            replay(self.tables, &mut yard, &mut lines, *entry)?;
-        }
+        replay_all(self.tables, &self.history, &mut yard, &mut lines)?;
         Ok(PlainState::new(yard, lines))
     }
 }

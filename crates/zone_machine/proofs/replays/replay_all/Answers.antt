@@ -1,0 +1,15 @@
+use Rattle.std.proofs.Common.{◌++◌, map, get_or}
+use Rattle.rail_model.specs.declared.types.Ask.TheVariants.{Yes}
+use Rattle.rail_model.specs.declared.types.Reply.TheVariants.{Driver}
+use Rattle.rail_model.specs.declared.types.Entry.{Entry}
+use Rattle.rail_model.specs.Lines.{journal_of}
+use Rattle.rail_model.specs.Yard.{after}
+use Rattle.zone_machine.proofs.Replaying.{next_replayed}
+use Rattle.zone_machine.proofs.replays.replay_all.Goals as goal
+
+pub loop-entry-preserved : goal.loop-entry-preserved
+loop-entry-preserved g c =
+    let tables = map g.A.HasTable.offer c.args.tables.now in
+    let e : Entry = record { who = 0; reply = Driver Yes } in
+    next_replayed tables c.requires.are (after c.args.yard.now c.args.history.now) (c.args.lines.now.items ++ journal_of tables c.args.yard.now c.args.history.now)
+    c.args.history.now c.loop-entry.entry-index e c.loop-entry-test.true _ _ _ _ c.loop-entry.invariant c.in_ok-replay.ensures.after c.in_ok-replay.ensures.adds
