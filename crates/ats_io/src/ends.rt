@@ -5,7 +5,7 @@ ghost use Rattle.ats_io.specs.Bytes.{Adds};
 ghost use Rattle.ats_io.specs.Faults.{Rose};
 
 /// The device has failed, and has counted the fault.
-#[derive(Clone, Copy, Debug, PartialEq, Eq)]
+#[derive(Clone, Copy)]
 pub struct Failed;
 
 /// Gives bytes, a piece at a time.

@@ -2,7 +2,7 @@
 // it there.
 
 /// A moment of a pass at the shared yard.
-#[derive(Clone, Copy, Debug, PartialEq, Eq)]
+#[derive(Clone, Copy)]
 pub enum Moment {
     /// The number of the table in force was read without a zone.
     Glanced,
@@ -25,7 +25,7 @@ pub trait Gate: Sync {
 }
 
 /// Holds nobody.
-#[derive(Clone, Copy, Debug, PartialEq, Eq)]
+#[derive(Clone, Copy)]
 pub struct NoGate;
 
 impl Gate for NoGate {

@@ -9,7 +9,7 @@ use crate::{Failed, Sink, Source};
 use std::alloc::{AllocError, Global};
 
 /// Why a source was not read to its end.
-#[derive(Clone, Copy, Debug, PartialEq, Eq)]
+#[derive(Clone, Copy, Debug)]
 pub enum ReadAll {
     /// There was no memory for the bytes.
     Memory,
@@ -36,7 +36,7 @@ impl From<Failed> for ReadAll {
 }
 
 /// A sink failed before it took all the bytes.
-#[derive(Clone, Copy, Debug, PartialEq, Eq)]
+#[derive(Clone, Copy, Debug)]
 pub struct WriteFault;
 
 /// All the bytes that the source has left, if they are at most `limit`.
