@@ -1,4 +1,4 @@
-use Rattle.std.proofs.Common.{◌≡◌, ◌≤◌, true, arith, rules}
+use Rattle.std.proofs.Common.{◌≡◌, ◌<◌, ◌≤◌, ℕ, true, arith, rules}
 use Rattle.zone_machine.proofs.Entering.{is_unknown, unknown_found, none_unknown}
 use Rattle.zone_machine.proofs.control.unknown_position.Goals as goal
 
@@ -9,4 +9,7 @@ returns-then-is_none c =
 
 pub returns : goal.returns
 returns c =
-    none_unknown c.args.known.now c.args.trains (λ j lt. c.loop-train.invariant j (let n : c.args.trains ≤ c.loop-train.train = search rules in omega arith))
+    none_unknown c.args.known.now c.args.trains (λ j lt. c.loop-train.invariant j (within j c.args.trains c.loop-train.train lt c.loop-train-test.false))
+  where
+    within : (j trains train : ℕ) → j < trains → trains ≤ train → j < train
+    within j trains train lt whole = omega (arith, lt, whole)
