@@ -16,6 +16,7 @@ mod to_tokens;
 mod token_document;
 mod token_parts;
 mod token_table;
+mod token_text;
 mod writing;
 
 pub use document::{DocMembers, read_document};

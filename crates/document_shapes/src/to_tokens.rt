@@ -1,14 +1,14 @@
 // Values of one shape, written as the tokens of JSON.
-ghost use Rattle.std.specs.Prelude.{All, IsUtf8, OnOk, ⊤, codes, string_bytes};
+ghost use Rattle.std.specs.Prelude.{All, IsUtf8, ⊤, codes, string_bytes};
 ghost use Rattle.serde_json.specs.Data.{Data, boolean, string};
 ghost use Rattle.document_shapes.specs.Added.{AddsTokens, member_tokens, tokens_of};
 ghost use Rattle.document_shapes.specs.InRange.{IsSmall, IsChange, NodeIsSmall, ConnectionIsSmall, SectionIsSmall};
 ghost use Rattle.document_shapes.specs.Written as written;
 ghost use Rattle.document_shapes.specs.Written.{list_data, pair_data};
 
-use json::Writer;
+use crate::token_text::TokenText;
+use json::Token;
 use rail_model::{Changes, Connection, Node, Section, TrainTimes};
-use std::alloc::AllocError;
 
 /// What stands for a value in JSON.
 pub(crate) trait ToTokens {
@@ -19,9 +19,9 @@ pub(crate) trait ToTokens {
     ghost in_range: { Self → Type 0 };
 
     /// Writes the data.
-    fn to_tokens(&self, writer: &mut Writer) -> Result<(), AllocError>
-        ensures tokens { OnOk result (AddsTokens (tokens_of (stands self.now)) writer.old writer.new) }
-        ensures in_range { OnOk result (in_range self.now) };
+    fn to_tokens(&self, text: &mut TokenText)
+        ensures tokens { AddsTokens (tokens_of (stands self.now)) text.old text.new }
+        ensures in_range { in_range self.now };
 }
 
 impl ToTokens for bool {
@@ -29,8 +29,8 @@ impl ToTokens for bool {
 
     ghost in_range = { λ _. ⊤ };
 
-    fn to_tokens(&self, writer: &mut Writer) -> Result<(), AllocError> {
-        writer.boolean(*self)
+    fn to_tokens(&self, text: &mut TokenText) {
+        text.token(Token::Bool(*self));
     }
 }
 
@@ -39,8 +39,9 @@ impl ToTokens for u32 {
 
     ghost in_range = { IsSmall };
 
-    fn to_tokens(&self, writer: &mut Writer) -> Result<(), AllocError> {
-        writer.u64(u64::from(*self))
+    fn to_tokens(&self, text: &mut TokenText) {
+        let written = text.writer.u64(u64::from(*self));
+        text.note(written);
     }
 }
 
@@ -49,8 +50,9 @@ impl ToTokens for i32 {
 
     ghost in_range = { IsChange };
 
-    fn to_tokens(&self, writer: &mut Writer) -> Result<(), AllocError> {
-        writer.i64(i64::from(*self))
+    fn to_tokens(&self, text: &mut TokenText) {
+        let written = text.writer.i64(i64::from(*self));
+        text.note(written);
     }
 }
 
@@ -59,8 +61,8 @@ impl ToTokens for String {
 
     ghost in_range = { λ s. IsUtf8 (string_bytes s) };
 
-    fn to_tokens(&self, writer: &mut Writer) -> Result<(), AllocError> {
-        writer.string(self.as_str())
+    fn to_tokens(&self, text: &mut TokenText) {
+        text.token(Token::String(self.as_str()));
     }
 }
 
@@ -69,13 +71,13 @@ impl ToTokens for Node {
 
     ghost in_range = { NodeIsSmall };
 
-    fn to_tokens(&self, writer: &mut Writer) -> Result<(), AllocError> {
+    fn to_tokens(&self, text: &mut TokenText) {
         match *self {
-            Node::Split { train, place } => write_list(writer, &[0, train, place]),
-            Node::Clash { first, second } => write_list(writer, &[1, first, second]),
-            Node::Overfull { section } => write_list(writer, &[2, section]),
-            Node::Arrived => write_list(writer, &[3]),
-            Node::Move { train } => write_list(writer, &[4, train]),
+            Node::Split { train, place } => write_list(text, &[0, train, place]),
+            Node::Clash { first, second } => write_list(text, &[1, first, second]),
+            Node::Overfull { section } => write_list(text, &[2, section]),
+            Node::Arrived => write_list(text, &[3]),
+            Node::Move { train } => write_list(text, &[4, train]),
         }
     }
 }
@@ -85,11 +87,11 @@ impl ToTokens for Connection {
 
     ghost in_range = { ConnectionIsSmall };
 
-    fn to_tokens(&self, writer: &mut Writer) -> Result<(), AllocError> {
+    fn to_tokens(&self, text: &mut TokenText) {
         write_list(
-            writer,
+            text,
             &[self.train(), self.place(), self.other(), self.reached()],
-        )
+        );
     }
 }
 
@@ -98,8 +100,8 @@ impl ToTokens for TrainTimes {
 
     ghost in_range = { All IsSmall };
 
-    fn to_tokens(&self, writer: &mut Writer) -> Result<(), AllocError> {
-        write_list(writer, self.as_slice())
+    fn to_tokens(&self, text: &mut TokenText) {
+        write_list(text, self.as_slice());
     }
 }
 
@@ -108,19 +110,18 @@ impl ToTokens for Changes {
 
     ghost in_range = { All IsChange };
 
-    fn to_tokens(&self, writer: &mut Writer) -> Result<(), AllocError> {
-        write_list(writer, self.as_slice())
+    fn to_tokens(&self, text: &mut TokenText) {
+        write_list(text, self.as_slice());
     }
 }
 
 // Writes the changes of a section, a list for each train.
-fn write_changes(writer: &mut Writer, changes: &[Changes]) -> Result<(), AllocError>
-    ensures tokens { OnOk result
-        (AddsTokens (member_tokens (codes "changes") (list_data (list_data written.change_data) changes.now)) writer.old writer.new) }
-    ensures in_range { OnOk result (All (All IsChange) changes.now) }
+fn write_changes(text: &mut TokenText, changes: &[Changes])
+    ensures tokens { AddsTokens (member_tokens (codes "changes") (list_data (list_data written.change_data) changes.now)) text.old text.new }
+    ensures in_range { All (All IsChange) changes.now }
 {
-    writer.key("changes")?;
-    write_list(writer, changes)
+    text.token(Token::Key("changes"));
+    write_list(text, changes);
 }
 
 impl ToTokens for Section {
@@ -128,25 +129,21 @@ impl ToTokens for Section {
 
     ghost in_range = { SectionIsSmall };
 
-    fn to_tokens(&self, writer: &mut Writer) -> Result<(), AllocError> {
-        writer.begin_object()?;
-        write_changes(writer, self.all_changes())?;
-        write_named(writer, "limit", &self.limit())?;
-        writer.end_object()
+    fn to_tokens(&self, text: &mut TokenText) {
+        text.token(Token::BeginObject);
+        write_changes(text, self.all_changes());
+        write_named(text, "limit", &self.limit());
+        text.token(Token::EndObject);
     }
 }
 
 /// Writes a member of this name.
-pub(crate) fn write_named<T: ToTokens>(
-    writer: &mut Writer,
-    name: &str,
-    item: &T,
-) -> Result<(), AllocError>
-    ensures tokens { OnOk result (AddsTokens (member_tokens name.now (T.ToTokens.stands item.now)) writer.old writer.new) }
-    ensures in_range { OnOk result (T.ToTokens.in_range item.now) }
+pub(crate) fn write_named<T: ToTokens>(text: &mut TokenText, name: &str, item: &T)
+    ensures tokens { AddsTokens (member_tokens name.now (T.ToTokens.stands item.now)) text.old text.new }
+    ensures in_range { T.ToTokens.in_range item.now }
 {
-    writer.key(name)?;
-    item.to_tokens(writer)
+    text.token(Token::Key(name));
+    item.to_tokens(text);
 }
 
 impl<T: ToTokens> ToTokens for Vec<T> {
@@ -154,21 +151,21 @@ impl<T: ToTokens> ToTokens for Vec<T> {
 
     ghost in_range = { λ v. All T.ToTokens.in_range v.items };
 
-    fn to_tokens(&self, writer: &mut Writer) -> Result<(), AllocError> {
-        write_list(writer, self.as_slice())
+    fn to_tokens(&self, text: &mut TokenText) {
+        write_list(text, self.as_slice());
     }
 }
 
 // Writes the list of what stands for each item.
-fn write_list<T: ToTokens>(writer: &mut Writer, items: &[T]) -> Result<(), AllocError>
-    ensures tokens { OnOk result (AddsTokens (tokens_of (list_data T.ToTokens.stands items.now)) writer.old writer.new) }
-    ensures in_range { OnOk result (All T.ToTokens.in_range items.now) }
+fn write_list<T: ToTokens>(text: &mut TokenText, items: &[T])
+    ensures tokens { AddsTokens (tokens_of (list_data T.ToTokens.stands items.now)) text.old text.new }
+    ensures in_range { All T.ToTokens.in_range items.now }
 {
-    writer.begin_array()?;
+    text.token(Token::BeginArray);
     for item in items {
-        item.to_tokens(writer)?;
+        item.to_tokens(text);
     }
-    writer.end_array()
+    text.token(Token::EndArray);
 }
 
 impl<A: ToTokens, B: ToTokens> ToTokens for (A, B) {
@@ -176,10 +173,10 @@ impl<A: ToTokens, B: ToTokens> ToTokens for (A, B) {
 
     ghost in_range = { λ p. A.ToTokens.in_range p.0 × B.ToTokens.in_range p.1 };
 
-    fn to_tokens(&self, writer: &mut Writer) -> Result<(), AllocError> {
-        writer.begin_array()?;
-        self.0.to_tokens(writer)?;
-        self.1.to_tokens(writer)?;
-        writer.end_array()
+    fn to_tokens(&self, text: &mut TokenText) {
+        text.token(Token::BeginArray);
+        self.0.to_tokens(text);
+        self.1.to_tokens(text);
+        text.token(Token::EndArray);
     }
 }

@@ -1,5 +1,5 @@
 // The text of a document.
-ghost use Rattle.std.specs.Prelude.{◌≡◌, IfOk, OnOk, Ok, option_map};
+ghost use Rattle.std.specs.Prelude.{◌≡◌, IfOk, Ok, option_map};
 ghost use Rattle.document_shapes.specs.Added.{AddsTokens, member_tokens, given_tokens};
 ghost use Rattle.document_shapes.specs.InRange.{InRange, TableInRange, IfGiven};
 ghost use Rattle.document_shapes.specs.Members.{name_of};
@@ -8,36 +8,26 @@ ghost use Rattle.document_shapes.specs.Seen.{seen_document, seen_table};
 ghost use Rattle.document_shapes.specs.Written.{table_data, doc_data, text_of};
 
 use crate::to_tokens::{ToTokens, write_named};
+use crate::token_text::TokenText;
 use crate::{DocMembers, Member, TableMembers};
-use json::Writer;
+use json::Token;
 use std::alloc::{AllocError, Global};
 
 // Writes a member of an object.
-fn write_member<T: ToTokens>(
-    writer: &mut Writer,
-    member: Member,
-    item: &T,
-) -> Result<(), AllocError>
-    ensures tokens { OnOk result
-        (AddsTokens (member_tokens (name_of member) (T.ToTokens.stands item.now)) writer.old writer.new) }
-    ensures in_range { OnOk result (T.ToTokens.in_range item.now) }
+fn write_member<T: ToTokens>(text: &mut TokenText, member: Member, item: &T)
+    ensures tokens { AddsTokens (member_tokens (name_of member) (T.ToTokens.stands item.now)) text.old text.new }
+    ensures in_range { T.ToTokens.in_range item.now }
 {
-    write_named(writer, member.name(), item)
+    write_named(text, member.name(), item);
 }
 
 // Writes a member of an object, where there is one.
-fn write_given<T: ToTokens>(
-    writer: &mut Writer,
-    member: Member,
-    item: &Option<T>,
-) -> Result<(), AllocError>
-    ensures tokens { OnOk result
-        (AddsTokens (given_tokens (name_of member) (option_map T.ToTokens.stands item.now)) writer.old writer.new) }
-    ensures in_range { OnOk result (IfGiven T.ToTokens.in_range item.now) }
+fn write_given<T: ToTokens>(text: &mut TokenText, member: Member, item: &Option<T>)
+    ensures tokens { AddsTokens (given_tokens (name_of member) (option_map T.ToTokens.stands item.now)) text.old text.new }
+    ensures in_range { IfGiven T.ToTokens.in_range item.now }
 {
-    match item {
-        Some(item) => write_member(writer, member, item),
-        None => Ok(()),
+    if let Some(item) = item {
+        write_member(text, member, item);
     }
 }
 
@@ -46,16 +36,16 @@ impl ToTokens for TableMembers {
 
     ghost in_range = { λ t. TableInRange (seen_table t) };
 
-    fn to_tokens(&self, writer: &mut Writer) -> Result<(), AllocError> {
-        writer.begin_object()?;
-        write_given(writer, Member::After, &self.after)?;
-        write_given(writer, Member::Certificate, &self.certificate)?;
-        write_given(writer, Member::Connections, &self.connections)?;
-        write_given(writer, Member::Exits, &self.exits)?;
-        write_member(writer, Member::Missions, &self.missions)?;
-        write_given(writer, Member::Sections, &self.sections)?;
-        write_given(writer, Member::Times, &self.times)?;
-        writer.end_object()
+    fn to_tokens(&self, text: &mut TokenText) {
+        text.token(Token::BeginObject);
+        write_given(text, Member::After, &self.after);
+        write_given(text, Member::Certificate, &self.certificate);
+        write_given(text, Member::Connections, &self.connections);
+        write_given(text, Member::Exits, &self.exits);
+        write_member(text, Member::Missions, &self.missions);
+        write_given(text, Member::Sections, &self.sections);
+        write_given(text, Member::Times, &self.times);
+        text.token(Token::EndObject);
     }
 }
 
@@ -64,16 +54,16 @@ impl ToTokens for DocMembers {
 
     ghost in_range = { λ m. InRange (seen_document m) };
 
-    fn to_tokens(&self, writer: &mut Writer) -> Result<(), AllocError> {
-        writer.begin_object()?;
-        write_member(writer, Member::Links, &self.links)?;
-        write_member(writer, Member::Points, &self.points)?;
-        write_member(writer, Member::Start, &self.start)?;
-        write_member(writer, Member::Tables, &self.tables)?;
-        write_member(writer, Member::Trains, &self.trains)?;
-        write_member(writer, Member::Version, &self.version)?;
-        write_member(writer, Member::Zones, &self.zones)?;
-        writer.end_object()
+    fn to_tokens(&self, text: &mut TokenText) {
+        text.token(Token::BeginObject);
+        write_member(text, Member::Links, &self.links);
+        write_member(text, Member::Points, &self.points);
+        write_member(text, Member::Start, &self.start);
+        write_member(text, Member::Tables, &self.tables);
+        write_member(text, Member::Trains, &self.trains);
+        write_member(text, Member::Version, &self.version);
+        write_member(text, Member::Zones, &self.zones);
+        text.token(Token::EndObject);
     }
 }
 
@@ -83,9 +73,9 @@ pub fn write_document(alloc: Global, document: &DocMembers) -> Result<Vec<u8>, A
     ensures reads_back { IfOk result
         (λ b. IsRead (seen_document document.now) → members_of b.items ≡ Ok (seen_document document.now)) }
 {
-    let mut writer = Writer::new(Vec::new(alloc));
-    document.to_tokens(&mut writer)?;
-    let mut bytes = writer.into_inner();
+    let mut text = TokenText::new(alloc);
+    document.to_tokens(&mut text);
+    let mut bytes = text.into_bytes()?;
     bytes.push(b'\n')?;
     Ok(bytes)
 }

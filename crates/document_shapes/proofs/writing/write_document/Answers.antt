@@ -10,8 +10,9 @@ pub returns-clause-text : goal.returns-clause-text
 returns-clause-text c =
     let d = doc_data (seen_document c.args.document.now) in
     c.in_ok-push.ensures.items
-    ∙ ap (λ t. t ++ 10 ∷ []) (c.into_inner-bytes.ensures.items ∙ printed-text d _ _ (c.new-writer.ensures.before ∙ c.new.ensures.items) c.new-writer.ensures.tokens c.in_ok-to_tokens.ensures.tokens)
+    ∙ ap (λ t. t ++ 10 ∷ [])
+    (c.in_ok-bytes.ensures.text ∙ printed-text d _ _ c.new-text.ensures.before c.new-text.ensures.tokens c.to_tokens.ensures.tokens c.in_ok-bytes.ensures.whole)
 
 pub returns-clause-reads_back : goal.returns-clause-reads_back
 returns-clause-reads_back c of =
-    ap members_of (returns-clause-text c) ∙ text-back (seen_document c.args.document.now) of c.in_ok-to_tokens.ensures.in_range
+    ap members_of (returns-clause-text c) ∙ text-back (seen_document c.args.document.now) of c.to_tokens.ensures.in_range

@@ -1,5 +1,4 @@
-use Rattle.std.proofs.Common.{OnOk, subst}
-use Rattle.std.proofs.lemmas.Result.{on_ok_weaker}
+use Rattle.std.proofs.Common.{subst}
 use Rattle.document_shapes.specs.Added.{AddsTokens}
 use Rattle.document_shapes.proofs.AddedLemmas.{adds-seven}
 use Rattle.document_shapes.proofs.SeenLemmas.{doc-tokens, doc-in_range}
@@ -7,15 +6,12 @@ use Rattle.document_shapes.proofs.writing.DocMembersToTokens.to_tokens.Goals as 
 
 pub returns-clause-tokens : goal.returns-clause-tokens
 returns-clause-tokens c =
-    subst (λ ts. OnOk c.end_object.result (AddsTokens ts c.args.writer.now c.end_object.new.self)) (doc-tokens c.args.self.now)
-    (adds-seven _ _ _ _ _ _ _ _ _ _ _ _ _ _ _ _ _ c.end_object.result
-    (record { tokens = c.in_ok-begin_object.ensures.ok; before = c.begin_object.ensures.room.0 })
-    c.in_ok-write_member.ensures.tokens c.in_ok-write_member-2.ensures.tokens c.in_ok-write_member-3.ensures.tokens c.in_ok-write_member-4.ensures.tokens
-    c.in_ok-write_member-5.ensures.tokens c.in_ok-write_member-6.ensures.tokens c.in_ok-write_member-7.ensures.tokens c.end_object.ensures)
+    subst (λ ts. AddsTokens ts c.args.text.now c.token-2.new.self) (doc-tokens c.args.self.now)
+    (adds-seven _ _ _ _ _ _ _ _ _ _ _ _ _ _ _ _ _ c.token.ensures
+    c.write_member.ensures.tokens c.write_member-2.ensures.tokens c.write_member-3.ensures.tokens c.write_member-4.ensures.tokens
+    c.write_member-5.ensures.tokens c.write_member-6.ensures.tokens c.write_member-7.ensures.tokens c.token-2.ensures)
 
 pub returns-clause-in_range : goal.returns-clause-in_range
 returns-clause-in_range c =
-    on_ok_weaker c.end_object.result
-    (λ _. doc-in_range c.args.self.now c.in_ok-write_member-7.ensures.in_range c.in_ok-write_member-5.ensures.in_range c.in_ok-write_member-4.ensures.in_range
-    c.in_ok-write_member-3.ensures.in_range c.in_ok-write_member-2.ensures.in_range c.in_ok-write_member.ensures.in_range)
-    c.end_object.ensures.ok
+    doc-in_range c.args.self.now c.write_member-7.ensures.in_range c.write_member-5.ensures.in_range c.write_member-4.ensures.in_range
+    c.write_member-3.ensures.in_range c.write_member-2.ensures.in_range c.write_member.ensures.in_range
