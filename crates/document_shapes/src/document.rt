@@ -19,6 +19,8 @@ use crate::{Member, ShapeRefused, TableMembers};
 use serde_json::Value;
 use std::alloc::Global;
 
+const LATEST_VERSION: u32 = 3;
+
 /// A document's members: points with their zones, links by the names of their points.
 #[derive(Drop)]
 pub struct DocMembers {
@@ -63,7 +65,7 @@ fn version(value: &Value) -> Result<u32, ShapeRefused>
     ensures { result ≡ in_turn (need None Member.Version shape.whole (view value.now)) known_version }
 {
     let version = number(value, Member::Version)?;
-    if 1 <= version && version <= 3 {
+    if 1 <= version && version <= LATEST_VERSION {
         Ok(version)
     } else {
         Err(ShapeRefused::Version { value: version })
