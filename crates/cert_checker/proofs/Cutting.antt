@@ -1,5 +1,5 @@
 -- Parts that are divided stand for the same visits, and their first fault is the tree's.
-use Rattle.std.proofs.Common.{◌≡◌, ℕ, ◌+◌, List, [], ◌∷◌, ◌++◌, length, drop, refl, sym, ◌∙◌, ap, subst, arith, append_assoc, length-append}
+use Rattle.std.proofs.Common.{◌≡◌, ◌⊎◌, inl, inr, ℕ, ◌+◌, List, [], ◌∷◌, ◌++◌, length, drop, refl, sym, ◌∙◌, ap, subst, arith, append_assoc, length-append}
 use Rattle.std.specs.Prelude.{All, Result, Ok, Err, OnOk, IfErr, MatchResult}
 use Rattle.std.specs.List.{AllZip}
 use Rattle.std.proofs.lemmas.List.{append-nil, drop_more}
@@ -15,7 +15,7 @@ use Rattle.cert_checker.specs.declared.faults.CheckFault.{CheckFault}
 use Rattle.cert_checker.specs.declared.faults.CheckFault.TheVariants.{Memory, Bad as BadNode}
 use Rattle.cert_checker.specs.Faults.{HasFault}
 use Rattle.cert_checker.specs.Walked.{walked, IsFirstBad, StopsAt}
-use Rattle.cert_checker.specs.Cut.{IsEnd, IsCut, IsDivided, IsChecked, part_visits, first_fault}
+use Rattle.cert_checker.specs.Cut.{IsEnd, IsCut, IsDivided, IsChecked, ArePartsChecked, part_visits, first_fault}
 use Rattle.cert_checker.proofs.Whole.{walk_whole, visits_answer}
 
 -- one part is the whole
@@ -124,7 +124,7 @@ in_either P B (Ok u) h = (h, tt)
 in_either P B (Err e) h = (tt, h)
 
 -- what the parts of a certificate's nodes answer is what the certificate answers
-pub whole_answered : (T : Table) (cert : Tree) (nodes : List Node) (parts : List Part) (answers : List (Result (Unit {0}) CheckFault))
+whole_answered : (T : Table) (cert : Tree) (nodes : List Node) (parts : List Part) (answers : List (Result (Unit {0}) CheckFault))
     → nodes ≡ preorder cert → IsCut T nodes 0 parts (walked (full_box T ∷ []) (drop 0 nodes)) → AllZip (λ p r. IsChecked T nodes p r) parts answers
     → OnOk (first_fault answers) (Accepts T cert) × IfErr (first_fault answers) (HasFault T cert)
 whole_answered T cert nodes parts answers spelled cut all =
@@ -132,3 +132,13 @@ whole_answered T cert nodes parts answers spelled cut all =
     let whole : visited ≡ visits (full_box T) cert = ap (λ (ns : List Node). walked (full_box T ∷ []) (drop 0 ns)) spelled ∙ walk_whole cert (full_box T) in
     let answer = in_either (All (λ v. IsGood T v.0 v.1) visited) (StopsAt T visited 0) (first_fault answers) (answered T nodes parts answers 0 visited cut all) in
     visits_answer T cert visited (first_fault answers) whole answer.0 answer.1
+
+-- so where there was no memory to start
+pub cut_answered : (T : Table) (cert : Tree) (nodes : List Node) (parts : List Part) (answer : Result (Unit {0}) CheckFault)
+    → nodes ≡ preorder cert → IsCut T nodes 0 parts (walked (full_box T ∷ []) (drop 0 nodes)) → (answer ≡ Err Memory) ⊎ ArePartsChecked T nodes parts answer
+    → OnOk answer (Accepts T cert) × IfErr answer (HasFault T cert)
+cut_answered T cert nodes parts answer spelled cut (inl none) =
+    subst (λ (r : Result (Unit {0}) CheckFault). OnOk r (Accepts T cert) × IfErr r (HasFault T cert)) (sym none) (tt, tt)
+cut_answered T cert nodes parts answer spelled cut (inr checked) =
+    subst (λ (r : Result (Unit {0}) CheckFault). OnOk r (Accepts T cert) × IfErr r (HasFault T cert)) (sym checked.2)
+    (whole_answered T cert nodes parts checked.0 spelled cut checked.1)

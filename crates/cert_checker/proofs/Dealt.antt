@@ -1,9 +1,11 @@
 -- What loads answer is what their parts answer.
-use Rattle.std.proofs.Common.{◌≡◌, List, [], ◌∷◌, ◌++◌, reverse, refl, ◌∙◌, ap}
+use Rattle.std.proofs.Common.{◌≡◌, ◌≤◌, ℕ, List, [], ◌∷◌, ◌++◌, reverse, take, drop, refl, sym, ◌∙◌, ap}
 use Rattle.std.specs.Prelude.{All, Result, Ok, Err, map}
-use Rattle.std.proofs.lemmas.List.{reverse-append}
+use Rattle.std.proofs.lemmas.Grind.{flat_map-append}
+use Rattle.std.proofs.lemmas.List.{append-nil, reverse-append, take-append-drop, take-take}
+use Rattle.std.proofs.lemmas.Slice.{between_is}
 use Rattle.std.proofs.lemmas.List.Elements.{All-nil, All-cons, All-head, All-tail, All-push, All-same}
-use Rattle.std.specs.List.{AllZip}
+use Rattle.std.specs.List.{AllZip, between}
 use Rattle.rayon.proofs.ListFacts.{AllZip-append}
 use Rattle.rail_model.specs.declared.types.Node.{Node}
 use Rattle.rail_model.specs.Table.{Table}
@@ -61,7 +63,7 @@ module _ (T : Table) (nodes : List Node) where
       let here = all.0 in
       let rest = of_parts loads rs all.1 in (
         here.0 ++ rest.0,
-        AllZip-append (λ p r. IsChecked T nodes p r) load.parts.items (parts_of loads) here.0 rest.0 here.1 rest.1,
+        AllZip-append (λ p r. IsChecked T nodes p r) load.parts.now (parts_of loads) here.0 rest.0 here.1 rest.1,
         ap (λ (a : Answer). first_fault (a ∷ rs)) here.2 ∙ first_of_both here.0 rest.0 rs rest.2,
       )
 
@@ -69,5 +71,16 @@ module _ (T : Table) (nodes : List Node) where
   pub are_loads : (loads : List Load) → All (λ p. IsPart T nodes p) (parts_of loads) → All (λ load. IsLoad T nodes load) loads
   are_loads [] all = All-nil (λ load. IsLoad T nodes load)
   are_loads (load ∷ loads) all =
-      let both = All-both (λ p. IsPart T nodes p) load.parts.items (parts_of loads) all in
+      let both = All-both (λ p. IsPart T nodes p) load.parts.now (parts_of loads) all in
       All-cons (λ load. IsLoad T nodes load) load loads both.0 (are_loads loads both.1)
+
+-- one more load
+pub dealt_more : (loads : List Load) (load : Load) (parts : List Part) (from until : ℕ) → parts_of loads ≡ take from parts
+    → load.parts.now ≡ between from until parts → from ≤ until → parts_of (loads ++ load ∷ []) ≡ take until parts
+dealt_more loads load parts from until so_far is within =
+    let front = take until parts in
+    flat_map-append (λ load. load.parts.now) loads (load ∷ [])
+    ∙ (λ k. so_far k ++ (is k ++ []))
+    ∙ ap (λ (ps : List Part). take from parts ++ ps) (append-nil (between from until parts) ∙ between_is parts from until)
+    ∙ ap (λ (ps : List Part). ps ++ drop from front) (sym (take-take from until parts within))
+    ∙ take-append-drop from front

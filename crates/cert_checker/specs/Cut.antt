@@ -74,10 +74,10 @@ first_fault (Err e ∷ later) = Err e
 
 -- the parts of loads, in order
 abbrev pub parts_of : List Load → List Part
-parts_of loads = flat_map (λ load. load.parts.items) loads
+parts_of loads = flat_map (λ load. load.parts.now) loads
 
 abbrev pub IsLoad : Table → List Node → Load → Type 0
-IsLoad T nodes load = All (λ p. IsPart T nodes p) load.parts.items
+IsLoad T nodes load = All (λ p. IsPart T nodes p) load.parts.now
 
 -- The first fault of parts that are checked one after the other. Those after it need not be checked.
 abbrev pub ArePartsChecked : Table → List Node → List Part → Result (Unit {0}) CheckFault → Type 0
@@ -85,4 +85,4 @@ ArePartsChecked T nodes parts answer =
     (answers : List (Result (Unit {0}) CheckFault)) × AllZip (λ p r. IsChecked T nodes p r) parts answers × (answer ≡ first_fault answers)
 
 abbrev pub IsLoadChecked : Table → List Node → Load → Result (Unit {0}) CheckFault → Type 0
-IsLoadChecked T nodes load answer = ArePartsChecked T nodes load.parts.items answer
+IsLoadChecked T nodes load answer = ArePartsChecked T nodes load.parts.now answer

@@ -21,7 +21,7 @@ pub fn check(alloc: Global, table: &Table, cert: &Cert) -> Result<(), CheckFault
     ensures bad { IfErr result (HasFault table.now cert.now) }
     ensures formed { IsTable table.now }
 {
-    let sums = RangeSums::full(alloc, table)?;
+    let mut sums = RangeSums::full(alloc, table)?;
     let lists = Lists::new(alloc, table)?;
-    visit_tree(alloc, table, &lists, sums, cert.as_slice(), 0)
+    visit_tree(alloc, table, &lists, &mut sums, cert.as_slice(), 0)
 }

@@ -6,30 +6,33 @@ use crate::parts::Part;
 use std::alloc::{AllocError, Global};
 
 /// Parts that one thread checks, one after the other.
-#[derive(Drop)]
-pub(crate) struct Load {
-    pub parts: Vec<Part>,
+#[derive(Clone, Copy)]
+pub(crate) struct Load<'a> {
+    pub parts: &'a [Part],
 }
 
 /// The parts in loads, in order. A load is full if the next part begins at least this many nodes after its first.
 pub(crate) fn loads_of(
     alloc: Global,
-    parts: Vec<Part>,
+    parts: &[Part],
     full: usize,
-) -> Result<Vec<Load>, AllocError>
-    ensures { IfOk result (λ loads. parts_of loads.items ≡ parts.items) }
+) -> Result<Vec<Load<'_>>, AllocError>
+    ensures { IfOk result (λ loads. parts_of loads.items ≡ parts.now) }
 {
     let mut loads = Vec::new(alloc);
-    let mut load = Vec::new(alloc);
+    let mut begin = 0;
     let mut first = 0;
-    for part in parts {
-        if part.first.saturating_sub(first) >= full {
-            loads.push(Load { parts: load })?;
-            load = Vec::new(alloc);
-            first = part.first;
+    for index in 0..parts.len() {
+        if parts[index].first.saturating_sub(first) >= full {
+            loads.push(Load {
+                parts: &parts[begin..index],
+            })?;
+            begin = index;
+            first = parts[index].first;
         }
-        load.push(part)?;
     }
-    loads.push(Load { parts: load })?;
+    loads.push(Load {
+        parts: &parts[begin..],
+    })?;
     Ok(loads)
 }

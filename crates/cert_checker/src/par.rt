@@ -1,10 +1,11 @@
 // The check of the parts of a tree, side by side.
-ghost use Rattle.std.specs.Prelude.{◌≡◌, All, IfOk, IfErr, OnOk};
+ghost use Rattle.std.specs.Prelude.{◌≡◌, ◌≤◌, ◌⊎◌, length, Err, All, IfOk, IfErr, OnOk};
 ghost use Rattle.std.specs.List.{AllZip};
 ghost use Rattle.rail_model.specs.Table.{IsTable};
 ghost use Rattle.rail_model.specs.Certificate.{Accepts};
-ghost use Rattle.cert_checker.specs.Cut.{IsPart, IsChecked, IsListed, IsLoad, IsLoadChecked, first_fault as first_fault_of};
+ghost use Rattle.cert_checker.specs.Cut.{IsPart, IsChecked, IsListed, IsLoad, IsLoadChecked, ArePartsChecked, first_fault as first_fault_of};
 ghost use Rattle.cert_checker.specs.Faults.{HasFault};
+ghost use Rattle.cert_checker.specs.declared.faults.CheckFault.TheVariants.{Memory};
 
 use crate::CheckFault;
 use crate::checks::check;
@@ -39,12 +40,14 @@ fn check_part(alloc: Global, tree: &Listed<'_>, part: &Part) -> Result<(), Check
     ensures { IsChecked tree.now.table.now tree.now.nodes.now part.now result }
 {
     let ranges = part.ranges.copy(alloc)?;
-    let sums = RangeSums::new(alloc, tree.table, ranges)?;
-    visit_tree(alloc, tree.table, tree.lists, sums, tree.nodes, part.first)
+    let mut sums = RangeSums::new(alloc, tree.table, ranges)?;
+    visit_tree(
+        alloc, tree.table, tree.lists, &mut sums, tree.nodes, part.first,
+    )
 }
 
 // The check of the parts of a load, up to the first fault.
-fn check_load(alloc: Global, tree: &Listed<'_>, load: &Load) -> Result<(), CheckFault>
+fn check_load(alloc: Global, tree: &Listed<'_>, load: &Load<'_>) -> Result<(), CheckFault>
     requires tree { IsListed tree.now.table.now tree.now.lists.now tree.now.nodes.now }
     requires load { IsLoad tree.now.table.now tree.now.nodes.now load.now }
     ensures { IsLoadChecked tree.now.table.now tree.now.nodes.now load.now result }
@@ -60,7 +63,7 @@ fn check_loads(
     rt: &(impl Threads + Sync),
     alloc: Global,
     tree: &Listed<'_>,
-    loads: &[Load],
+    loads: &[Load<'_>],
 ) -> Result<Vec<Result<(), CheckFault>>, AllocError>
     requires tree { IsListed tree.now.table.now tree.now.lists.now tree.now.nodes.now }
     requires loads { All (λ load. IsLoad tree.now.table.now tree.now.nodes.now load) loads.now }
@@ -70,7 +73,7 @@ fn check_loads(
         .par_iter()
         .with_min_len(1)
         .map(
-            |load: &Load| -> Result<(), CheckFault>
+            |load: &Load<'_>| -> Result<(), CheckFault>
                 requires { IsListed tree.now.table.now tree.now.lists.now tree.now.nodes.now × IsLoad tree.now.table.now tree.now.nodes.now load.now }
                 ensures { IsLoadChecked tree.entry.now.table.now tree.entry.now.nodes.now load.now result }
             { check_load(alloc, tree, load) },
@@ -88,6 +91,43 @@ fn first_fault(answers: &[Result<(), CheckFault>]) -> Result<(), CheckFault>
         }
     }
     Ok(())
+}
+
+// The check of the parts of a tree.
+fn check_parts(
+    rt: &(impl Threads + Sync),
+    alloc: Global,
+    tree: &Listed<'_>,
+    parts: &[Part],
+) -> Result<(), CheckFault>
+    requires tree { IsListed tree.now.table.now tree.now.lists.now tree.now.nodes.now }
+    requires parts { All (λ p. IsPart tree.now.table.now tree.now.nodes.now p) parts.now }
+    ensures { (result ≡ Err Memory) ⊎ ArePartsChecked tree.now.table.now tree.now.nodes.now parts.now result }
+{
+    let loads = loads_of(alloc, parts, tree.nodes.len() / LOADS)?;
+    let answers = check_loads(rt, alloc, tree, &loads)?;
+    first_fault(&answers)
+}
+
+// The check of the parts of a certificate's nodes under a table.
+fn check_cut(
+    rt: &(impl Threads + Sync),
+    alloc: Global,
+    table: &Table,
+    nodes: &[Node],
+    parts: &[Part],
+) -> Result<(), CheckFault>
+    requires few { length nodes.now ≤ 1000000 }
+    requires parts { All (λ p. IsPart table.now nodes.now p) parts.now }
+    ensures { (result ≡ Err Memory) ⊎ ArePartsChecked table.now nodes.now parts.now result }
+{
+    let lists = Lists::new(alloc, table)?;
+    let tree = Listed {
+        table,
+        lists: &lists,
+        nodes,
+    };
+    check_parts(rt, alloc, &tree, parts)
 }
 
 /// What `check` answers, from as many threads as there are processors, or where the tree is small from one.
@@ -110,13 +150,5 @@ pub fn check_par(
         return check(alloc, table, cert);
     }
     let parts = cut(alloc, table, nodes)?;
-    let loads = loads_of(alloc, parts, nodes.len() / LOADS)?;
-    let lists = Lists::new(alloc, table)?;
-    let tree = Listed {
-        table,
-        lists: &lists,
-        nodes,
-    };
-    let answers = check_loads(rt, alloc, &tree, &loads)?;
-    first_fault(&answers)
+    check_cut(rt, alloc, table, nodes, &parts)
 }

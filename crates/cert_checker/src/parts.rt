@@ -2,7 +2,7 @@
 ghost use Rattle.std.specs.Prelude.{◌≡◌, List, ◌∷◌, ◌++◌, [], ◌<◌, ◌≤◌, length, drop, reverse, All, IfOk, IfSome, OnOk};
 ghost use Rattle.rail_model.specs.Table.{IsTable, trains};
 ghost use Rattle.rail_model.specs.Certificate.{IsBox, full_box as full_box_of};
-ghost use Rattle.cert_checker.specs.Cut.{AreEnds, IsPart, IsCut, IsCutFurther, IsDivided};
+ghost use Rattle.cert_checker.specs.Cut.{AreEnds, IsPart, IsCut, IsCutFurther, IsDivided, part_visits};
 ghost use Rattle.cert_checker.specs.Walked.{walked};
 
 use crate::ends::ends_of;
@@ -73,25 +73,72 @@ fn divide(
     };
     let first = part.first + 1;
     let (left, right) = halves(alloc, part.ranges, train, place)?;
-    pending.push(Part {
-        first: tree.ends[first] as usize,
-        ranges: right,
-    })?;
-    pending.push(Part {
+    let left = Part {
         first,
         ranges: left,
-    })?;
+    };
+    let right = Part {
+        first: tree.ends[first] as usize,
+        ranges: right,
+    };
+    open(pending, left, right)
+}
+
+// Adds the two halves of a part to the pending parts, the first of which comes next.
+fn open(pending: &mut Vec<Part>, left: Part, right: Part) -> Result<(), AllocError>
+    ensures { OnOk result (pending.new.items ≡ (pending.old.items ++ right ∷ []) ++ left ∷ []) }
+{
+    pending.push(right)?;
+    pending.push(left)?;
     Ok(())
 }
 
 // Adds the pending parts, the last one first.
-fn add_pending(mut pending: Vec<Part>, parts: &mut Vec<Part>) -> Result<(), AllocError>
-    ensures { OnOk result (parts.new.items ≡ parts.old.items ++ reverse pending.items) }
+fn add_pending(pending: &mut Vec<Part>, parts: &mut Vec<Part>) -> Result<(), AllocError>
+    ensures added { OnOk result (parts.new.items ≡ parts.old.items ++ reverse pending.old.items) }
 {
     while let Some(part) = pending.pop() {
         parts.push(part)?;
     }
     Ok(())
+}
+
+// Divides the pending parts until each has few of the nodes, or one alone, and adds them to the others.
+fn divide_all(
+    alloc: Global,
+    tree: &Spelled<'_>,
+    pending: &mut Vec<Part>,
+    parts: &mut Vec<Part>,
+) -> Result<(), AllocError>
+    requires ends { AreEnds tree.now.nodes.now tree.now.ends.now }
+    requires pending { All (λ p. IsPart tree.now.table.now tree.now.nodes.now p) pending.old.items }
+    requires parts { All (λ p. IsPart tree.now.table.now tree.now.nodes.now p) parts.old.items }
+    ensures further { OnOk result (IsCutFurther tree.now.table.now tree.now.nodes.now
+        (parts.old.items ++ reverse pending.old.items) parts.new.items) }
+    ensures parts { OnOk result (All (λ p. IsPart tree.now.table.now tree.now.nodes.now p) parts.new.items) }
+{
+    for _node in 0..tree.nodes.len() {
+        let Some(part) = pending.pop() else {
+            return Ok(());
+        };
+        divide(alloc, tree, part, pending, parts)?;
+    }
+    add_pending(pending, parts)
+}
+
+// The parts of a tree, of which this is the whole.
+fn cut_whole(alloc: Global, tree: &Spelled<'_>, whole: Part) -> Result<Vec<Part>, AllocError>
+    requires ends { AreEnds tree.now.nodes.now tree.now.ends.now }
+    requires whole { IsPart tree.now.table.now tree.now.nodes.now whole }
+    requires first { whole.first ≡ 0 }
+    ensures cut { IfOk result (λ parts. IsCut tree.now.table.now tree.now.nodes.now 0 parts.items (part_visits tree.now.nodes.now whole)) }
+    ensures parts { IfOk result (λ parts. All (λ p. IsPart tree.now.table.now tree.now.nodes.now p) parts.items) }
+{
+    let mut pending = Vec::new(alloc);
+    pending.push(whole)?;
+    let mut parts = Vec::new(alloc);
+    divide_all(alloc, tree, &mut pending, &mut parts)?;
+    Ok(parts)
 }
 
 /// The parts of a tree, in preorder. Each has few of the nodes, or one alone.
@@ -109,15 +156,5 @@ pub(crate) fn cut(alloc: Global, table: &Table, nodes: &[Node]) -> Result<Vec<Pa
         ends: &ends,
         most: nodes.len() / SHARE,
     };
-    let mut pending = Vec::new(alloc);
-    pending.push(Part { first: 0, ranges })?;
-    let mut parts = Vec::new(alloc);
-    for _node in 0..nodes.len() {
-        let Some(part) = pending.pop() else {
-            return Ok(parts);
-        };
-        divide(alloc, &tree, part, &mut pending, &mut parts)?;
-    }
-    add_pending(pending, &mut parts)?;
-    Ok(parts)
+    cut_whole(alloc, &tree, Part { first: 0, ranges })
 }

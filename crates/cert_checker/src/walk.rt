@@ -138,25 +138,25 @@ pub(crate) fn visit_tree(
     alloc: Global,
     table: &Table,
     lists: &Lists,
-    mut sums: RangeSums,
+    sums: &mut RangeSums,
     nodes: &[Node],
     first: usize,
 ) -> Result<(), CheckFault>
     requires lists { AreLists table.now lists.now }
-    requires sums { AreSums table.now sums }
+    requires sums { AreSums table.now sums.old }
     requires few { length nodes.now ≤ 1000000 }
     requires first { first ≤ length nodes.now }
-    ensures good { OnOk result (All (λ v. IsGood table.now v.0 v.1) (walked (sums.ranges ∷ []) (drop first nodes.now))) }
-    ensures bad { IfErr result (StopsAt table.now (walked (sums.ranges ∷ []) (drop first nodes.now)) first) }
+    ensures good { OnOk result (All (λ v. IsGood table.now v.0 v.1) (walked (sums.old.ranges ∷ []) (drop first nodes.now))) }
+    ensures bad { IfErr result (StopsAt table.now (walked (sums.old.ranges ∷ []) (drop first nodes.now)) first) }
 {
     let mut steps = Vec::new(alloc);
     for index in first..nodes.len() {
         let node = nodes[index];
-        if !is_good(table, lists, &sums, node) {
-            return Err(refusal(table, &sums, node, index as u32));
+        if !is_good(table, lists, sums, node) {
+            return Err(refusal(table, sums, node, index as u32));
         }
-        plan(table, &sums, &mut steps, node)?;
-        if !advance(table, lists, &mut sums, &mut steps) {
+        plan(table, sums, &mut steps, node)?;
+        if !advance(table, lists, sums, &mut steps) {
             return Ok(());
         }
     }

@@ -12,7 +12,7 @@ pub returns-in_err-check_part : goal.returns-in_err-check_part
 returns-in_err-check_part c =
     let T = c.args.tree.now.table.now in
     let nodes = c.args.tree.now.nodes.now in
-    let parts : List Part = c.args.load.now.parts.items in
+    let parts : List Part = c.args.load.now.parts.now in
     let at = c.loop-part.part-index in
     let part : Part = c.part-item.result in
     let fault : CheckFault = c.in_err-check_part.field-0.0 in
@@ -28,7 +28,7 @@ pub loop-part-preserved : goal.loop-part-preserved
 loop-part-preserved c answer later =
     let T = c.args.tree.now.table.now in
     let nodes = c.args.tree.now.nodes.now in
-    let parts : List Part = c.args.load.now.parts.items in
+    let parts : List Part = c.args.load.now.parts.now in
     let at = c.loop-part.part-index in
     let part : Part = c.part-item.result in
     let here : drop at parts ≡ part ∷ drop (at + 1) parts = search (rules, drop_more) in
@@ -40,6 +40,6 @@ pub returns : goal.returns
 returns c =
     let T = c.args.tree.now.table.now in
     let nodes = c.args.tree.now.nodes.now in
-    let parts : List Part = c.args.load.now.parts.items in
+    let parts : List Part = c.args.load.now.parts.now in
     let good : Result (Unit {0}) CheckFault = Ok tt in
     c.loop-part.invariant good (subst (λ (ps : List Part). ArePartsChecked T nodes ps good) (sym (drop_all c.loop-part.part-index parts (omega arith))) (none_checked T nodes))

@@ -1,5 +1,6 @@
 use Rattle.std.proofs.Common.{◌≡◌, ◌+◌, ◌++◌, ◌∷◌, [], List, reverse, refl, sym, ◌∙◌, ap, subst, arith}
 use Rattle.std.specs.Prelude.{All}
+use Rattle.std.proofs.lemmas.Result.{on_ok_weaker}
 use Rattle.std.proofs.lemmas.List.{reverse-append}
 use Rattle.std.proofs.lemmas.List.Elements.{All-push}
 use Rattle.rail_model.specs.Certificate.{IsBox}
@@ -10,21 +11,23 @@ use Rattle.cert_checker.proofs.Cutting.{divided_behind}
 use Rattle.cert_checker.proofs.parts.divide.Goals as goal
 
 pub returns-clause-further : goal.returns-clause-further
-returns-clause-further c at visits cut =
+returns-clause-further c =
     let T = c.args.tree.now.table.now in
     let nodes = c.args.tree.now.nodes.now in
     let part = c.args.part in
     let left : Part = record { first = part.first + 1; ranges = c.in_ok-left.left } in
-    let right : Part = record { first = _; ranges = c.in_ok-left.right } in
     let older = c.args.pending.now.items in
     let d : IsDivided T nodes part c.in-Some.train c.in-Some.place = c.in-Some.ensures in
     let there = d.there in
-    let turned : reverse c.push-3.new.self.items ≡ left ∷ right ∷ reverse older =
-    ap reverse (c.in_ok-push-3.ensures.items ∙ ap (λ (ps : List Part). ps ++ left ∷ []) c.in_ok-push-2.ensures.items)
-    ∙ reverse-append (older ++ right ∷ []) (left ∷ []) ∙ ap (λ (ps : List Part). left ∷ ps) (reverse-append older (right ∷ [])) in
+    on_ok_weaker c.open.result
+    (λ pushed at visits cut.
+    let right : Part = record { first = _; ranges = c.in_ok-left.right } in
+    let turned : reverse c.open.new.pending.items ≡ left ∷ right ∷ reverse older =
+    ap reverse pushed ∙ reverse-append (older ++ right ∷ []) (left ∷ []) ∙ ap (λ (ps : List Part). left ∷ ps) (reverse-append older (right ∷ [])) in
     subst (λ (ps : List Part). IsCut T nodes at (c.args.parts.now.items ++ ps) visits) (sym turned)
     (divided_behind T nodes c.args.parts.now.items part left right c.in-Some.train c.in-Some.place at (reverse older) visits d refl
-    c.in_ok-left.ensures.0 c.in_ok-left.ensures.1 (c.requires.ends.each (part.first + 1) (omega arith) (omega (arith, there))).0 cut)
+    c.in_ok-left.ensures.0 c.in_ok-left.ensures.1 (c.requires.ends.each (part.first + 1) (omega arith) (omega (arith, there))).0 cut))
+    c.open.ensures
 
 pub returns-clause-pending : goal.returns-clause-pending
 returns-clause-pending c =
@@ -42,6 +45,8 @@ returns-clause-pending c =
       boxed = subst (IsBox T) (sym c.in_ok-left.ensures.0) (left_is_box T part.ranges c.in-Some.train c.in-Some.place c.requires.part.boxed d.splits);
       first = omega (arith, there);
     } in
-    subst (λ (ps : List Part). All (λ p. IsPart T nodes p) ps)
-    (sym (c.in_ok-push-3.ensures.items ∙ ap (λ (ps : List Part). ps ++ left ∷ []) c.in_ok-push-2.ensures.items))
-    (All-push (IsPart T nodes) _ left (All-push (IsPart T nodes) _ _ c.requires.pending is_right) is_left)
+    on_ok_weaker c.open.result
+    (λ pushed.
+    subst (λ (ps : List Part). All (λ p. IsPart T nodes p) ps) (sym pushed)
+    (All-push (IsPart T nodes) _ left (All-push (IsPart T nodes) _ _ c.requires.pending is_right) is_left))
+    c.open.ensures

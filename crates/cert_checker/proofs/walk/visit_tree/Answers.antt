@@ -9,7 +9,7 @@ returns-then-not-is_good-clause-bad c =
     let nodes = c.args.nodes.now in
     let index = c.loop-index.index in
     let n = get_or nodes index (Split 0 0) in
-    stops_at c.args.table.now nodes c.args.first index c.args.sums.ranges _ _ n _ c.loop-index.invariant.visiting (drop_more nodes index (Split 0 0) c.loop-index-test.true) c.refusal.ensures
+    stops_at c.args.table.now nodes c.args.first index c.args.sums.now.ranges _ _ n _ c.loop-index.invariant.visiting (drop_more nodes index (Split 0 0) c.loop-index-test.true) c.refusal.ensures
 
 pub returns-then-not-advance-clause-good : goal.returns-then-not-advance-clause-good
 returns-then-not-advance-clause-good c =
@@ -17,9 +17,9 @@ returns-then-not-advance-clause-good c =
     let nodes = c.args.nodes.now in
     let index = c.loop-index.index in
     let n = get_or nodes index (Split 0 0) in
-    let behind = passed T nodes c.args.first index c.args.sums.ranges c.loop-index.sums.ranges _ n c.loop-index.invariant.visiting
+    let behind = passed T nodes c.args.first index c.args.sums.now.ranges c.loop-index.sums.ranges _ n c.loop-index.invariant.visiting
     (drop_more nodes index (Split 0 0) c.loop-index-test.true) (c.if-not-is_good.ensures.0 refl) in
-    closed T nodes c.args.first (index + 1) c.args.sums.ranges _ behind
+    closed T nodes c.args.first (index + 1) c.args.sums.now.ranges _ behind
     (sym c.in_ok-plan.ensures.boxes ∙ c.if-not-advance.ensures.boxes ∙ none_shown false _ _ refl (c.if-not-advance.ensures.ended refl))
 
 pub loop-index-preserved : goal.loop-index-preserved
@@ -28,10 +28,10 @@ loop-index-preserved c =
     let nodes = c.args.nodes.now in
     let index = c.loop-index.index in
     let n = get_or nodes index (Split 0 0) in
-    let behind = passed T nodes c.args.first index c.args.sums.ranges c.loop-index.sums.ranges _ n c.loop-index.invariant.visiting
+    let behind = passed T nodes c.args.first index c.args.sums.now.ranges c.loop-index.sums.ranges _ n c.loop-index.invariant.visiting
     (drop_more nodes index (Split 0 0) c.loop-index-test.true) (c.if-not-is_good.ensures.0 refl) in
     record {
       sums = c.if-not-advance.ensures.sums;
       steps = c.if-not-advance.ensures.steps;
-      visiting = subst (Visiting T nodes c.args.first (index + 1) c.args.sums.ranges) (sym c.in_ok-plan.ensures.boxes ∙ c.if-not-advance.ensures.boxes) behind;
+      visiting = subst (Visiting T nodes c.args.first (index + 1) c.args.sums.now.ranges) (sym c.in_ok-plan.ensures.boxes ∙ c.if-not-advance.ensures.boxes) behind;
     }
