@@ -1,3 +1,4 @@
+pub mod Asked
 pub mod Leaves
 mod Parses
 mod Rows

@@ -1,7 +1,7 @@
 // The command as clap takes it.
 ghost use Rattle.std.specs.Prelude.{◌≡◌, false, map, IfOk};
 ghost use Rattle.clap.specs.Words.{app_of, rule_of, with_subcommand};
-ghost use Rattle.command_words.specs.Built.{IsBuiltAs, IsSubcommand, IsLocal, leaf, long_option, with_all};
+ghost use Rattle.command_words.specs.Built.{IsBuiltAs, IsSubcommand, IsLocal, leaf, long_option};
 ghost use Rattle.command_words.specs.Options.{rule_for};
 ghost use Rattle.command_words.specs.Words as spec;
 
@@ -11,13 +11,32 @@ use crate::options::{
 use clap::{Arg, Command};
 use std::alloc::{AllocError, Global};
 
+// The subcommands, each with its options.
+const SUBCOMMANDS: [(&str, &[NumberOption]); 12] = [
+    ("run", &[WORKERS, ROUNDS, BLOCK]),
+    ("resume", &[WORKERS, ROUNDS, BLOCK]),
+    ("check", &[]),
+    ("verify", &[]),
+    ("migrate", &[]),
+    ("make", &[BUDGET]),
+    ("derive", &[MOST, BUDGET]),
+    ("repair", &[BUDGET, REPAIR_ROUNDS]),
+    ("sim", &[]),
+    ("gen", &[SEED, TRAINS]),
+    ("drill", &[SEED, TRAINS, WORKERS]),
+    ("weave", &[SEED, STEPS]),
+];
+
 /// The whole command.
 pub(crate) fn command<'a>(alloc: Global) -> Result<Command<'a>, AllocError>
     ensures { IfOk result (IsBuiltAs spec.ats) }
 {
-    let command = with_runs(alloc, start(alloc))?;
-    let command = with_makers(alloc, command)?;
-    with_trials(alloc, command)
+    let subcommands: &[(&str, &[NumberOption])] = &SUBCOMMANDS;
+    let mut command = start(alloc);
+    for &(name, options) in subcommands {
+        command = with_subcommand(alloc, command, name, options)?;
+    }
+    Ok(command)
 }
 
 // The command before any subcommand.
@@ -29,37 +48,6 @@ fn start<'a>(alloc: Global) -> Command<'a>
         .subcommand_required(true)
         .disable_help_flag(true)
         .disable_help_subcommand(true)
-}
-
-fn with_runs<'a>(alloc: Global, command: Command<'a>) -> Result<Command<'a>, AllocError>
-    requires { IsLocal command }
-    ensures { IfOk result (IsBuiltAs (with_all (map spec.shape_of spec.runs) (app_of command.entry))) }
-{
-    let options: &[NumberOption] = &[WORKERS, ROUNDS, BLOCK];
-    let command = with_subcommand(alloc, command, "run", options)?;
-    let command = with_subcommand(alloc, command, "resume", options)?;
-    let command = with_subcommand(alloc, command, "check", &[])?;
-    with_subcommand(alloc, command, "verify", &[])
-}
-
-fn with_makers<'a>(alloc: Global, command: Command<'a>) -> Result<Command<'a>, AllocError>
-    requires { IsLocal command }
-    ensures { IfOk result (IsBuiltAs (with_all (map spec.shape_of spec.makers) (app_of command.entry))) }
-{
-    let command = with_subcommand(alloc, command, "migrate", &[])?;
-    let command = with_subcommand(alloc, command, "make", &[BUDGET])?;
-    let command = with_subcommand(alloc, command, "derive", &[MOST, BUDGET])?;
-    with_subcommand(alloc, command, "repair", &[BUDGET, REPAIR_ROUNDS])
-}
-
-fn with_trials<'a>(alloc: Global, command: Command<'a>) -> Result<Command<'a>, AllocError>
-    requires { IsLocal command }
-    ensures { IfOk result (IsBuiltAs (with_all (map spec.shape_of spec.trials) (app_of command.entry))) }
-{
-    let command = with_subcommand(alloc, command, "sim", &[])?;
-    let command = with_subcommand(alloc, command, "gen", &[SEED, TRAINS])?;
-    let command = with_subcommand(alloc, command, "drill", &[SEED, TRAINS, WORKERS])?;
-    with_subcommand(alloc, command, "weave", &[SEED, STEPS])
 }
 
 // The command with one more subcommand, which has these options.
