@@ -1,5 +1,5 @@
 // Cells: for each section the least and the greatest share of one train at the places of a span.
-ghost use Rattle.std.specs.Prelude.{◌≡◌, ℕ, ◌+◌, ◌*◌, ◌<◌, ◌/◌, ◌%◌, pos, ◌≤ℤ◌, length, IfOk};
+ghost use Rattle.std.specs.Prelude.{◌≡◌, ◌+◌, ◌*◌, ◌<◌, ◌≤◌, pos, ◌≤ℤ◌, length, IfOk, vec_capacity};
 ghost use Rattle.rail_model.specs.Table.{trains, last, share};
 ghost use Rattle.state_boxes.specs.Cells.{AreSingle};
 ghost use Rattle.state_boxes.specs.Extremes.{IsJoinedRow};
@@ -41,23 +41,40 @@ impl Extremes {
     }
 }
 
-// The share after those that are listed place by place, at each place section by section.
-fn next_share(table: &Table, train: u32, cells: &[Extremes]) -> i32
+// The share of a section at a place, where the cells before it are listed place by place, at each place section by section.
+fn next_share(table: &Table, train: u32, section: u32, place: u32, cells: &[Extremes]) -> i32
     requires train { train < trains table.now }
+    requires section { section < length table.now.sections }
+    requires place { place ≤ last table.now train }
     requires cells { AreSingle table.now train cells.now }
-    requires more { length cells.now < (last table.now train + 1) * length table.now.sections }
-    ensures share { result ≡ share table.now train (length cells.now % length table.now.sections) (length cells.now / length table.now.sections) }
+    requires many { length cells.now ≡ place * length table.now.sections + section }
+    ensures share { result ≡ share table.now train section place }
     ensures low { pos 0 ≤ℤ result }
     ensures high { result ≤ℤ pos 4 }
 {
-    let sections = sections_of(table) as usize;
-    let place = (cells.len() / sections) as u32;
-    let section = (cells.len() % sections) as u32;
     let change = change_at(table, train, section, place);
     if place == 0 {
         return change;
     }
-    i32::from(cells[cells.len() - sections].least) + change
+    let before = cells[cells.len() - sections_of(table) as usize];
+    i32::from(before.least) + change
+}
+
+// Adds the shares at a place, section by section.
+fn add_place(table: &Table, train: u32, place: u32, cells: &mut Vec<Extremes>)
+    requires train { train < trains table.now }
+    requires place { place ≤ last table.now train }
+    requires single { AreSingle table.now train cells.old.items }
+    requires many { length cells.old.items ≡ place * length table.now.sections }
+    requires room { (place + 1) * length table.now.sections ≤ vec_capacity cells.old }
+    ensures single { AreSingle table.now train cells.new.items }
+    ensures many { length cells.new.items ≡ (place + 1) * length table.now.sections }
+    ensures room { vec_capacity cells.new ≡ vec_capacity cells.old }
+{
+    for section in 0..sections_of(table) {
+        let share = next_share(table, train, section, place, cells);
+        cells.push_reserved(Extremes::single(share));
+    }
 }
 
 /// The shares of a train, place by place, at each place section by section.
@@ -66,11 +83,11 @@ pub fn single_cells(alloc: Global, table: &Table, train: u32) -> Result<Vec<Extr
     ensures single { IfOk result (λ cells. AreSingle table.now train cells.items) }
     ensures many { IfOk result (λ cells. length cells.items ≡ (last table.now train + 1) * length table.now.sections) }
 {
-    let many = (last_of(table, train) + 1) as usize * sections_of(table) as usize;
+    let places = last_of(table, train) + 1;
+    let many = places as usize * sections_of(table) as usize;
     let mut cells = Vec::with_capacity(alloc, many)?;
-    for _ in 0..many {
-        let share = next_share(table, train, &cells);
-        cells.push(Extremes::single(share))?;
+    for place in 0..places {
+        add_place(table, train, place, &mut cells);
     }
     Ok(cells)
 }
@@ -86,7 +103,7 @@ pub fn joined_cells(
 {
     let mut cells = Vec::with_capacity(alloc, first.len())?;
     for at in 0..first.len() {
-        cells.push(first[at].joined(second[at]))?;
+        cells.push_reserved(first[at].joined(second[at]));
     }
     Ok(cells)
 }

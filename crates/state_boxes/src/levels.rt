@@ -264,6 +264,15 @@ impl TrainShares {
         front[section as usize].joined(back[section as usize])
     }
 
+    /// The row of one place.
+    pub(crate) fn single(&self, table: &Table, train: u32, place: u32) -> &[Extremes]
+        requires shares { IsTrainShares table.now train self.now }
+        requires place { place ≤ last table.now train }
+        ensures { IsRow table.now train place 0 result.now }
+    {
+        self.levels[0].row(place)
+    }
+
     /// The row of the first places of a span.
     pub fn front(&self, table: &Table, train: u32, span: Span) -> &[Extremes]
         requires shares { IsTrainShares table.now train self.now }

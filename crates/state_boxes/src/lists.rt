@@ -35,7 +35,7 @@ impl Lists {
     {
         let ways = ways_of(alloc, table)?;
         let shares = Shares::new(alloc, table)?;
-        let rises = rises_of(alloc, table)?;
+        let rises = rises_of(alloc, table, &shares)?;
         let members = members_of(alloc, table, &shares)?;
         Ok(Lists {
             ways,

@@ -3,11 +3,11 @@ ghost use Rattle.std.specs.Prelude.{◌≡◌, ℕ, ◌+◌, ◌<◌, ◌≤◌,
 ghost use Rattle.rail_model.specs.Table.{IsTable, trains, last, limit, change, share};
 ghost use Rattle.rail_model.specs.Move.{IsFirstOrNone};
 ghost use Rattle.rail_model.specs.Certificate.{range, most_with, MayBeFull};
-ghost use Rattle.state_boxes.specs.Extremes.{IsShares};
+ghost use Rattle.state_boxes.specs.Extremes.{IsRow, IsShares, IsTrainShares};
 ghost use Rattle.state_boxes.specs.Sums.{AreSums, AreRises, AreSteps, IsRise, rises_at as rises_at_place, is_tight as is_tight_of};
 
-use crate::{RangeSums, Shares};
-use rail_model::{Table, change_at, last_of, limit_of, sections_of, share_at, trains_of};
+use crate::{Extremes, RangeSums, Shares, TrainShares};
+use rail_model::{Table, last_of, limit_of, sections_of, trains_of};
 use std::alloc::{AllocError, Global};
 use std::marker::Model;
 
@@ -78,26 +78,58 @@ impl Rises {
     }
 }
 
-// Adds a rise, where a train's step from a place adds to the section.
+// A train's share of a section, by the row of its place.
+fn share_in(table: &Table, train: u32, section: u32, place: u32, row: &[Extremes]) -> i32
+    requires section { section < length table.now.sections }
+    requires row { IsRow table.now train place 0 row.now }
+    ensures { result ≡ share table.now train section place }
+{
+    i32::from(row[section as usize].least)
+}
+
+// By how much a train's step from a place raises its share of a section, by the rows of both places.
+fn change_between(
+    table: &Table,
+    train: u32,
+    section: u32,
+    place: u32,
+    here: &[Extremes],
+    next: &[Extremes],
+) -> i32
+    requires section { section < length table.now.sections }
+    requires here { IsRow table.now train place 0 here.now }
+    requires next { IsRow table.now train (place + 1) 0 next.now }
+    ensures { result ≡ change table.now train section (place + 1) }
+{
+    let before = i32::from(here[section as usize].least);
+    let after = i32::from(next[section as usize].least);
+    after - before
+}
+
+// Adds a rise, where a train's step from a place adds to the section; by the rows of both places.
 fn add_rise(
     table: &Table,
     train: u32,
     section: u32,
     place: u32,
+    here: &[Extremes],
+    next: &[Extremes],
     rises: &mut Vec<Rise>,
 ) -> Result<(), AllocError>
+    requires formed { IsTable table.now }
     requires train { train < trains table.now }
     requires section { section < length table.now.sections }
     requires place { place < last table.now train }
-    requires formed { IsTable table.now }
+    requires here { IsRow table.now train place 0 here.now }
+    requires next { IsRow table.now train (place + 1) 0 next.now }
     ensures { OnOk result (rises.new.items ≡ rises.old.items
         ++ (if int_lt (pos 0) (change table.now train section (place + 1)) then record { section = section; place = place; share = share table.now train section (place + 1); by = change table.now train section (place + 1) } ∷ [] else [])) }
 {
-    let by = change_at(table, train, section, place + 1);
+    let by = change_between(table, train, section, place, here, next);
     if by <= 0 {
         return Ok(());
     }
-    let share = share_at(table, train, section, place + 1);
+    let share = share_in(table, train, section, place + 1, next);
     rises.push(Rise {
         section,
         place,
@@ -111,40 +143,51 @@ fn add_rise(
 fn place_rises(
     alloc: Global,
     table: &Table,
+    shares: &TrainShares,
     train: u32,
     place: u32,
 ) -> Result<PlaceRises, AllocError>
+    requires shares { IsTrainShares table.now train shares.now }
     requires train { train < trains table.now }
     requires place { place < last table.now train }
     ensures { IfOk result (λ rises. rises ≡ rises_at_place table.now train place (length table.now.sections)) }
 {
+    let here = shares.single(table, train, place);
+    let next = shares.single(table, train, place + 1);
     let mut items = Vec::new(alloc);
     for section in 0..sections_of(table) {
-        add_rise(table, train, section, place, &mut items)?;
+        add_rise(table, train, section, place, here, next, &mut items)?;
     }
     Ok(PlaceRises { items })
 }
 
 // The rises of a train.
-fn train_rises(alloc: Global, table: &Table, train: u32) -> Result<TrainRises, AllocError>
-    requires { train < trains table.now }
+fn train_rises(
+    alloc: Global,
+    table: &Table,
+    shares: &TrainShares,
+    train: u32,
+) -> Result<TrainRises, AllocError>
+    requires shares { IsTrainShares table.now train shares.now }
+    requires train { train < trains table.now }
     ensures { IfOk result (AreSteps table.now train) }
 {
     let last = last_of(table, train);
     let mut places = Vec::with_capacity(alloc, last as usize)?;
     for place in 0..last {
-        places.push(place_rises(alloc, table, train, place)?)?;
+        places.push(place_rises(alloc, table, shares, train, place)?)?;
     }
     Ok(TrainRises { places })
 }
 
 /// The rises of all trains of a table.
-pub(crate) fn rises_of(alloc: Global, table: &Table) -> Result<Rises, AllocError>
+pub(crate) fn rises_of(alloc: Global, table: &Table, shares: &Shares) -> Result<Rises, AllocError>
+    requires { IsShares table.now shares.now }
     ensures { IfOk result (AreRises table.now) }
 {
     let mut all = Vec::new(alloc);
     for train in 0..trains_of(table) {
-        all.push(train_rises(alloc, table, train)?)?;
+        all.push(train_rises(alloc, table, shares.train(train), train)?)?;
     }
     Ok(Rises { trains: all })
 }
