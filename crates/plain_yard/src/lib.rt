@@ -9,5 +9,6 @@ mod rounds;
 
 pub use checked::CheckedTable;
 pub use laws::{begun_keeps, finished_is_whole, histories_keep, replayed_keeps, run_is_whole};
+pub use lines::table_line;
 pub use plain::{MOST_LINES, PlainYard, begin};
 pub use rounds::has_answer;

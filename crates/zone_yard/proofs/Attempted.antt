@@ -1,5 +1,5 @@
 -- From one try's steps to what came of it.
-use Rattle.std.proofs.Common.{◌≡◌, ◌+◌, ℕ, List, [], ◌++◌, length, true, false, sym, ap, ◌∙◌, subst, Some}
+use Rattle.std.proofs.Common.{◌≡◌, ◌≢◌, ◌+◌, ◌<◌, ◌≤◌, ℕ, List, [], ◌++◌, length, true, false, sym, ap, ◌∙◌, subst, arith, Some}
 use Rattle.atomic_table.specs.Seated.{TableId}
 use Rattle.rail_model.specs.declared.types.BlockAsk.{BlockAsk}
 use Rattle.rail_model.specs.declared.types.Entry.{Entry}
@@ -16,8 +16,47 @@ use Rattle.zone_yard.specs.Blocks.{needs, replies_of, granted_steps, CanAnswer, 
 use Rattle.zone_yard.specs.Views.{new_entries, pass_of}
 use Rattle.zone_yard.specs.Aboard.{IsIdle}
 use Rattle.zone_yard.specs.Tells.{Sat, Appends}
-use Rattle.zone_yard.specs.Holding.{HoldsZones, Learns, StillOwes, Frees}
-use Rattle.zone_yard.specs.Attempts.{IsBack, IsToldBlock}
+use Rattle.zone_yard.specs.Holding.{HoldsZones, Meets, Learns, StillOwes, Frees}
+use Rattle.zone_yard.specs.Attempts.{RefusesZone, Moves, IsBack, IsToldBlock}
+
+-- what the zones and the reads leave
+known_under : (held : List ℕ) (m0 m1 m2 : Sat) → HoldsZones m0 m1 held → Learns m1 m2
+    → m2 ≡ (record m0.0 { tries = m1.0.tries; noted = m2.0.noted; actor = record m0.0.actor { held = held; known = m2.0.actor.known } }, m0.1)
+known_under held m0 m1 m2 holds learns =
+    learns.now ∙ ap (λ (m : Sat). (record m.0 { noted = m2.0.noted; actor = record m.0.actor { known = m2.0.actor.known } }, m.1)) holds.now
+
+-- another table was read under the zones, which are given back
+pub moves_back : (table : ℕ) (held : List ℕ) (m0 m1 m2 m3 : Sat) → HoldsZones m0 m1 held → Learns m1 m2 → m2.0.noted ≢ table → Frees m2 m3 → Moves table m0 m3
+moves_back table held m0 m1 m2 m3 holds learns another frees =
+    let first = known_under held m0 m1 m2 holds learns in
+    let tries : m3.0.tries ≡ m1.0.tries = ap (λ (m : Sat). m.0.tries) frees ∙ ap (λ (m : Sat). m.0.tries) first in
+    let noted : m3.0.noted ≡ m2.0.noted = ap (λ (m : Sat). m.0.noted) frees in
+    let before : m1.0.noted ≡ m0.0.noted = ap (λ (m : Sat). m.0.noted) holds.now in
+    let tables : length m1.0.setup.tables ≡ length m0.0.setup.tables = ap (λ (m : Sat). length m.0.setup.tables) holds.now in
+    let later = learns.noted in
+    let listed = learns.listed in
+    record {
+      tries = subst (λ l. StartsWith l m0.0.tries) (sym tries) holds.tries;
+      noted = omega (arith, noted, before, later);
+      listed = omega (arith, noted, tables, listed);
+      another = λ e. another (sym noted ∙ e);
+      now = frees ∙ (ap (λ (m : Sat). (record m.0 { actor = record m.0.actor { held = []; known = []; closing = false; glance = m3.0.actor.glance } }, m.1)) first
+          ∙ (λ i. (record m0.0 { tries = sym tries i; noted = sym noted i; actor = record m0.0.actor { held = []; known = []; closing = false; glance = m3.0.actor.glance } }, m0.1)));
+    }
+
+-- a zone was found held, and those below it are given back
+pub refused_back : (zones : ℕ) (needed : List ℕ) (m0 m1 m2 : Sat) (zone found : ℕ) → Meets zones needed m0 m1 zone found → Frees m1 m2 → RefusesZone zones needed m0 m2 zone found
+refused_back zones needed m0 m1 m2 zone found meets frees =
+    let tries : m2.0.tries ≡ m1.0.tries = ap (λ (m : Sat). m.0.tries) frees in
+    record {
+      low = meets.low;
+      wanted = meets.wanted;
+      another = meets.another;
+      earlier = meets.earlier;
+      tries = tries ∙ meets.tries;
+      now = frees ∙ (ap (λ (m : Sat). (record m.0 { actor = record m.0.actor { held = []; known = []; closing = false; glance = m2.0.actor.glance } }, m.1)) meets.now
+          ∙ (λ i. (record m0.0 { tries = sym tries i; actor = record m0.0.actor { held = []; known = []; closing = false; glance = m2.0.actor.glance } }, m0.1)));
+    }
 
 module _ (S : Setup) (id : TableId) (w : Wanted) (f : Footprint) (answer : BlockAsk) (ticket : ℕ) (held : List ℕ) (m0 m1 m2 m3 m4 m5 : Sat)
     (made : m0.0.setup ≡ S) (train : m0.0.number ≡ w.train) (aboard : m0.0.aboard ≡ true) (idle : IsIdle m0.0.actor.position m0.0.actor)
@@ -29,9 +68,9 @@ module _ (S : Setup) (id : TableId) (w : Wanted) (f : Footprint) (answer : Block
   abbrev replies : List Reply
   replies = replies_of f.claim.steps answer
 
-  -- what the zones and the reads leave, and what the payments and the releases do
+  -- what the payments and the releases do
   first : m2 ≡ (record m0.0 { tries = m1.0.tries; noted = m2.0.noted; actor = record m0.0.actor { held = held; known = m2.0.actor.known } }, m0.1)
-  first = learns.now ∙ ap (λ (m : Sat). (record m.0 { noted = m2.0.noted; actor = record m.0.actor { known = m2.0.actor.known } }, m.1)) holds.now
+  first = known_under held m0 m1 m2 holds learns
 
   last : m5 ≡ (record m3.0 { actor = record m3.0.actor { held = []; known = []; owed = []; closing = false; glance = m5.0.actor.glance } }, m3.1)
   last = frees ∙ ap (λ (m : Sat). (record m.0 { actor = record m.0.actor { held = []; known = []; closing = false; glance = m5.0.actor.glance } }, m.1)) pays

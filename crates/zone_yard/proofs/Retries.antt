@@ -1,5 +1,5 @@
 -- Tries at a block of steps, one after the other.
-use Rattle.std.proofs.Common.{◌≡◌, ℕ, suc, ◌+◌, ◌<◌, ◌≤◌, List, [], ◌∷◌, ◌++◌, length, true, false, Some, Option, sym, ap, ◌∙◌, subst, arith, append_assoc}
+use Rattle.std.proofs.Common.{◌≡◌, ℕ, suc, ◌+◌, ◌-◌, ◌<◌, ◌≤◌, List, [], ◌∷◌, ◌++◌, length, true, false, Some, Option, sym, ap, ◌∙◌, subst, arith, append_assoc}
 use Rattle.std.specs.Option.{option_map_or}
 use Rattle.atomic_table.specs.Seated.{TableId}
 use Rattle.rail_model.specs.declared.types.BlockAsk.{BlockAsk}
@@ -15,7 +15,7 @@ use Rattle.zone_yard.specs.Blocks.{needs, granted_steps}
 use Rattle.zone_yard.specs.Views.{glanced, pass_of}
 use Rattle.zone_yard.specs.Aboard.{IsIdle}
 use Rattle.zone_yard.specs.Tells.{Sat}
-use Rattle.zone_yard.specs.Attempts.{RefusesZone, IsToldBlock, Attempts, Since, TurnsAway, Asks}
+use Rattle.zone_yard.specs.Attempts.{RefusesZone, Moves, IsToldBlock, Attempts, Since, TurnsAway, Asks}
 use Rattle.zone_yard.proofs.Lists.{starts_on}
 use Rattle.zone_yard.proofs.Replied.{answered_since}
 
@@ -39,6 +39,25 @@ back : (position noted : ℕ) (tries : List Try) (glance : Option ℕ) (old g : 
 back position noted tries glance old g s idle =
     ap (λ (m : Sat). (record m.0 { tries = tries; noted = noted; actor = record m.0.actor { held = []; known = []; closing = false; glance = glance } }, m.1)) s.now
     ∙ (λ i. (record old.0 { tries = tries; noted = noted; actor = record old.0.actor { held = sym idle.held i; known = sym idle.known i; closing = sym idle.still i; glance = glance } }, old.1))
+
+-- another table came into force meanwhile
+pub since_moved : (position table : ℕ) (old g new : Sat) → Since old g → IsIdle position old.0.actor → Moves table g new → Since old new
+since_moved position table old g new s idle h = record {
+  tries = starts_on new.0.tries g.0.tries old.0.tries h.tries s.tries;
+  noted = (let a = s.noted in let b = h.noted in omega (arith, a, b));
+  now = h.now ∙ back position new.0.noted new.0.tries new.0.actor.glance old g s idle;
+}
+
+-- and so fewer tables are left
+pub fewer_left : (t : ℕ) (old l g new : Sat) → Since old l → l.0.noted ≤ t → g ≡ (glanced t l.0, l.1) → Moves t g new
+    → length old.0.setup.tables - new.0.noted < length old.0.setup.tables - l.0.noted
+fewer_left t old l g new s le is h =
+    let tables : length g.0.setup.tables ≡ length old.0.setup.tables = ap (λ (m : Sat). length m.0.setup.tables) is ∙ ap (λ (m : Sat). length m.0.setup.tables) s.now in
+    let noted : g.0.noted ≡ t = ap (λ (m : Sat). m.0.noted) is in
+    let later = h.noted in
+    let listed = h.listed in
+    let another = h.another in
+    omega (arith, tables, noted, later, listed, another, le)
 
 pub told_since : (id : TableId) (asked steps ticket : ℕ) (answer : BlockAsk) (old g new : Sat) → Since old g → IsToldBlock id asked answer steps ticket g new → IsToldBlock id asked answer steps ticket old new
 told_since id asked steps ticket answer old g new s h = (

@@ -3,9 +3,7 @@ ghost use Rattle.std.specs.Prelude.{◌≡◌, ℕ, ◌+◌, ◌++◌, ◌<◌, 
 ghost use Rattle.rail_model.specs.declared.types.Line.TheVariants.{Move as MoveLine};
 ghost use Rattle.rail_model.specs.Blocks.{block_entries};
 ghost use Rattle.rail_model.specs.Table.{point, trains};
-ghost use Rattle.rail_model.specs.declared.types.Reply.TheVariants.{Control as ControlReply};
-ghost use Rattle.rail_model.specs.Lines.{line_of};
-ghost use Rattle.rail_model.specs.Yard.{Offer, Yard as YardValue, offer, control};
+ghost use Rattle.rail_model.specs.Yard.{offer, control};
 ghost use Rattle.zone_machine.specs.Entries.{known_positions, tried};
 ghost use Rattle.zone_machine.specs.World.{trains_of};
 ghost use Rattle.zone_yard.specs.Setup.{core};
@@ -22,6 +20,7 @@ use crate::steps::append;
 use crate::views::{HowMany, Place};
 use crate::yard::Yard;
 use move_claim::{Claim, Known};
+use plain_yard::table_line;
 use rail_model::{BlockAsk, Line, State, Table, Tried, point_of};
 use std::alloc::{AllocError, Global};
 use std::marker::{Brand, Model};
@@ -138,26 +137,6 @@ pub(crate) fn enter_answer<J: HowMany>(
         receipts.push_moves(yard.key.table(table), claim, ticket);
     }
     ticket
-}
-
-// The line of what the control is answered of the table, where the table has its answer.
-fn table_line(table: u32, told: Tried) -> Option<Line>
-    ensures { (tables : List Offer) (y : YardValue) → table ≡ y.tried + 1 → result ≡ line_of tables y (record { who = control; reply = ControlReply told }) }
-{
-    match told {
-        Tried::Exchanged => Some(Line::Table { table }),
-        Tried::Differs { train, place } => Some(Line::KeptDiffers {
-            table,
-            train,
-            place,
-        }),
-        Tried::Over { section, count } => Some(Line::KeptOver {
-            table,
-            section,
-            count,
-        }),
-        Tried::Early { .. } | Tried::NoMore => None,
-    }
 }
 
 // The control holds all zones and knows all that it asks about: the answer of the next table is entered, and its line is kept. What it is

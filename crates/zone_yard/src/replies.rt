@@ -3,7 +3,7 @@
 use rail_model::Ask;
 
 /// The answer to a request for one step. A ticket is the entry's place in the one history of the yard.
-#[derive(Clone, Copy, Debug, PartialEq, Eq)]
+#[derive(Clone, Copy, Debug)]
 pub enum Reply {
     Granted {
         ticket: u64,
@@ -34,7 +34,7 @@ pub enum Reply {
 }
 
 /// The answer to a request for a block of steps, which are granted whole or not at all.
-#[derive(Clone, Copy, Debug, PartialEq, Eq)]
+#[derive(Clone, Copy, Debug)]
 pub enum BlockReply {
     /// This many steps, at this ticket and those after it.
     Granted {
@@ -71,7 +71,7 @@ pub enum BlockReply {
 }
 
 /// The answer to the control that tries the next table.
-#[derive(Clone, Copy, Debug, PartialEq, Eq)]
+#[derive(Clone, Copy, Debug)]
 pub enum Turn {
     Exchanged {
         ticket: u64,
@@ -96,7 +96,7 @@ pub enum Turn {
 }
 
 /// Why a pass can't board.
-#[derive(Clone, Copy, Debug, PartialEq, Eq)]
+#[derive(Clone, Copy, Debug)]
 pub enum Board {
     /// It has boarded once.
     Taken,

@@ -10,7 +10,7 @@ use Rattle.zone_yard.specs.Setup.{Setup, SharedYard}
 use Rattle.zone_yard.specs.Tells.{Sat}
 use Rattle.zone_yard.specs.Blocks.{needs}
 use Rattle.zone_yard.specs.Attempts.{Attempts}
-use Rattle.zone_yard.proofs.Retries.{since_glance, asks_since}
+use Rattle.zone_yard.proofs.Retries.{since_glance, since_moved, fewer_left, asks_since}
 use Rattle.zone_yard.proofs.asking.ask_on.Goals as goal
 
 -- the footprint that was filled is that of the next steps under the table
@@ -41,3 +41,22 @@ returns-in-Some g c =
           (subst (λ (id : TableId). Attempts id wanted c.args.yard.now.setup.layout.zones c.fill_block.new.self.zones seen (Some c.in-Some.attempt) c.ask_once.new.seat.me) same c.in-Some.ensures.attempts);
       formed = c.word_of-word.ensures.formed;
     }
+
+pub rounds-preserved : goal.rounds-preserved
+rounds-preserved g c =
+    let old : Sat = c.args.seat.now.me in
+    let seen : Sat = c.glance-table.new.seat.me in
+    let glance = c.glance-table.ensures in
+    let before = c.rounds.invariant in
+    record {
+      table = c.ask_once.ensures.same.0 ∙ (glance.same.0 ∙ before.table);
+      id = c.ask_once.ensures.same.1 ∙ (glance.same.1 ∙ before.id);
+      since = since_moved c.args.position c.glance-table.result old seen c.ask_once.new.seat.me
+          (since_glance c.glance-table.result old c.rounds.seat.me seen before.since glance.sees.0 glance.glanced) c.requires.idle c.in_default.ensures.attempts;
+      lines = c.in_default.ensures.lines;
+    }
+
+pub rounds-smaller : goal.rounds-smaller
+rounds-smaller g c =
+    fewer_left c.glance-table.result c.args.seat.now.me c.rounds.seat.me c.glance-table.new.seat.me c.ask_once.new.seat.me c.rounds.invariant.since
+    c.glance-table.ensures.sees.0 c.glance-table.ensures.glanced c.in_default.ensures.attempts
