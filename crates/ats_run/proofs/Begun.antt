@@ -24,7 +24,7 @@ use Rattle.ats_run.specs.Generating.{IsDrilled}
 use Rattle.ats_run.specs.Headline.{Ends, plain_after}
 use Rattle.ats_run.specs.Journals.{IsCutAt, document_part, journal_part}
 use Rattle.ats_run.specs.Orders.{crew_in}
-use Rattle.ats_run.specs.Tasks.{RunsTrains, PrintsText, PrintsCounts, Prints, LeadsTo, TaskLeads}
+use Rattle.ats_run.specs.Tasks.{RunsTrains, PrintsText, PrintsCounts, Prints, LeadsTo, TaskLeads, IsPrinted}
 use Rattle.ats_run.proofs.Drilled.{drilled}
 use Rattle.ats_run.proofs.Inputs.{resumed_input}
 use Rattle.ats_run.proofs.Resumed.{resumed_front}
@@ -85,6 +85,12 @@ task_weaker Print P Q weaker (Goes checked from) leads = (
   },
 )
 task_weaker Print P Q weaker (Printed text) leads = λ crew. weaker crew text.items (leads crew)
+
+-- bytes that are printed already
+pub printed_leads : (Print : Doc → List Tree → Plain → List ℕ → Type 0) (P : Crew → List ℕ → Type 0) (task : Task) (written : List ℕ) → IsPrinted task written
+    → ((crew : Crew) → P crew written) → TaskLeads Print P task
+printed_leads Print P (Goes checked from) written is all = absurd is
+printed_leads Print P (Printed text) written is all = λ crew. subst (λ (bytes : List ℕ). P crew bytes) (sym is) (all crew)
 
 -- few certificates
 pub few_trees : (D : Doc) (trees : List Tree) → IsDoc D → length trees ≡ length D.tables → length trees ≤ 16

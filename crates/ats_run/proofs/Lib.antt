@@ -20,6 +20,7 @@ mod LineFaults
 pub mod Made
 mod MakeRows
 mod OneTable
+mod PairFaults
 pub mod Reading
 mod Repairable
 mod Repaired

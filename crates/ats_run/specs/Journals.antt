@@ -1,12 +1,14 @@
 -- Inputs of a document and a journal, and what is said of them.
-use Rattle.std.specs.Prelude.{◌≡◌, ◌≢◌, ◌⊎◌, ℕ, ◌+◌, List, ◌++◌, length, take, drop, codes, decimal}
+use Rattle.std.specs.Prelude.{◌≡◌, ◌≢◌, ◌⊎◌, ℕ, ◌+◌, List, Option, Some, None, ◌++◌, length, take, drop, codes, decimal}
 use Rattle.memchr.specs.Find.{OccursAt}
 use Rattle.rail_model.specs.declared.types.Line.{Line as Step}
 use Rattle.rail_model.specs.Move.{IsFirst}
 use Rattle.rail_model.specs.Certificate.{Tree}
 use Rattle.rail_model.specs.Yard.{Offer, Yard, opening}
 use Rattle.rail_model.specs.Names.{Names}
-use Rattle.rail_model.specs.Journal.{Journal, IsWhole, text, with_counts}
+use Rattle.rail_model.specs.Plain.{Plain}
+use Rattle.rail_model.specs.Journal.{Journal, IsRight, IsWhole, after_lines, text, with_counts}
+use Rattle.plain_yard.specs.Keeps.{Keeps}
 use Rattle.move_journal.specs.declared.faults.BadText.{BadText}
 use Rattle.move_journal.specs.declared.faults.BadText.TheVariants.{NoEnd}
 use Rattle.move_journal.specs.declared.faults.BadLine.{BadLine}
@@ -113,3 +115,29 @@ pub record FailsToResume (D : Doc) (given : List ℕ) (cause : BadLine) : Type 0
   pub accepted : AreAccepted D trees
   pub fault : (IsTextOf (names_of D) given journal × IsBrokenJournal (offers_of D) (opening D.start) journal cause)
       ⊎ (IsFrontOf (names_of D) given journal × HasBadLine (offers_of D) (opening D.start) journal.lines cause)
+
+-- Why bytes are no text of a whole journal of the document, as a failure of the program.
+abbrev pub IsUnverified : Doc → List ℕ → Failure → Type 0
+IsUnverified D given (Text cause) = IsUnreadable D given cause
+IsUnverified D given (Line cause) = FailsToVerify D given cause
+IsUnverified D given e = ⊥
+
+-- The bytes are the text of a front of the document, which leads to this state.
+pub record IsFrontTo (D : Doc) (given : List ℕ) (state : Plain) : Type 0 where
+  pub front : Journal
+  pub text : IsFrontOf (names_of D) given front
+  pub right : IsRight (offers_of D) (opening D.start) front.lines
+  pub yard : state.yard ≡ after_lines (opening D.start) front.lines
+  pub lines : state.lines ≡ front.lines
+  pub keeps : Keeps (offers_of D) state.yard state.lines
+
+-- The bytes lead to this state; or if there is none, they are the text of a whole journal.
+abbrev pub LeadsOnTo : Doc → List ℕ → Option Plain → Type 0
+LeadsOnTo D given (Some state) = IsFrontTo D given state
+LeadsOnTo D given None = (crew : Crew) → IsResumed D crew given given
+
+-- Why nothing goes on from the bytes, as a failure of the program.
+abbrev pub IsNoFront : Doc → List ℕ → Failure → Type 0
+IsNoFront D given (Text cause) = IsUnreadable D given cause × (cause ≢ NoEnd)
+IsNoFront D given (Line cause) = FailsToResume D given cause
+IsNoFront D given e = ⊥

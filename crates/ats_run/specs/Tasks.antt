@@ -13,6 +13,7 @@ use Rattle.ats_run.specs.declared.tasks.Task.TheVariants.{Goes, Printed}
 use Rattle.ats_run.specs.Checking.{nodes_below}
 use Rattle.ats_run.specs.Generating.{drill_text}
 use Rattle.ats_run.specs.Headline.{Ends}
+use Rattle.ats_run.specs.Orders.{crew_in}
 
 -- The order runs trains.
 abbrev pub RunsTrains : Order → Type 0
@@ -35,6 +36,13 @@ abbrev pub Prints : Order → Doc → List Tree → Plain → List ℕ → Type 
 Prints (Drill seed trains workers) D trees end written = PrintsCounts D trees end written
 Prints order D trees end written = PrintsText D trees end written
 
+-- The bytes are what the order prints of a run that its crew ends from this state.
+pub record EndsWith (order : Order) (D : Doc) (trees : List Tree) (from : Plain) (written : List ℕ) : Type 0 where
+  pub end : Plain
+  pub ends : Ends D (crew_in order) from end
+  pub keeps : Keeps (offers_of D) end.yard end.lines
+  pub printed : Prints order D trees end written
+
 -- A run of the document is at this state: however a crew ends it, of what is printed of that end the fact holds.
 pub record LeadsTo (Printed : Doc → List Tree → Plain → List ℕ → Type 0) (P : Crew → List ℕ → Type 0) (D : Doc) (trees : List Tree) (from : Plain) : Type 0 where
   pub formed : IsDoc D
@@ -46,3 +54,8 @@ pub record LeadsTo (Printed : Doc → List Tree → Plain → List ℕ → Type 
 abbrev pub TaskLeads : (Doc → List Tree → Plain → List ℕ → Type 0) → (Crew → List ℕ → Type 0) → Task → Type 0
 TaskLeads Print P (Goes checked from) = (checked.tables.items ≡ offers_of checked.doc) × LeadsTo Print P checked.doc checked.certs.items from
 TaskLeads Print P (Printed text) = (crew : Crew) → P crew text.items
+
+-- These bytes are printed already.
+abbrev pub IsPrinted : Task → List ℕ → Type 0
+IsPrinted (Goes checked from) written = ⊥
+IsPrinted (Printed text) written = text.items ≡ written

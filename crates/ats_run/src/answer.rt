@@ -1,10 +1,10 @@
 // What an order comes to on the bytes of its input.
-ghost use Rattle.std.specs.Prelude.{◌≡◌, ◌≤◌, ◌⊎◌, Ok, Err, MatchResult, IfOk, length};
+ghost use Rattle.std.specs.Prelude.{◌≡◌, ◌≤◌, ◌⊎◌, Ok, Err, MatchResult, IfOk, IfErr, length};
 ghost use Rattle.command_words.specs.Subcommands.{HasItsNumbers};
 ghost use Rattle.shared_run.specs.Crews.{IsCrew};
 ghost use Rattle.ats_run.specs.Command.{Comes};
 ghost use Rattle.ats_run.specs.Orders.{crew_in, IsAlone};
-ghost use Rattle.ats_run.specs.Tasks.{RunsTrains, TaskLeads, Prints};
+ghost use Rattle.ats_run.specs.Tasks.{EndsWith, RunsTrains, TaskLeads, Prints};
 ghost use Rattle.layout_json.specs.Doc.{offers_of};
 ghost use Rattle.plain_yard.specs.Keeps.{Keeps};
 ghost use Rattle.ats_run.specs.declared.failure.Failure.TheVariants.{Memory as NoMemory};
@@ -106,6 +106,46 @@ fn print(
     }
 }
 
+// The bytes that an order prints of a run that one thread goes on with. The only error is that there is no memory.
+fn end_alone(
+    alloc: Global,
+    order: Order,
+    checked: &Checked,
+    from: PlainState,
+) -> Result<Vec<u8>, Failure>
+    requires tables { checked.now.tables.items ≡ offers_of checked.now.doc }
+    requires keeps { Keeps (offers_of checked.now.doc) from.yard from.lines }
+    requires few { length checked.now.certs.items ≤ 16 }
+    requires alone { IsAlone order }
+    ensures ends { IfOk result (λ text. EndsWith order checked.now.doc checked.now.certs.items from text.items) }
+    ensures memory { IfErr result (λ e. e ≡ NoMemory) }
+{
+    let end = finish_alone(&checked.doc, &checked.tables, from)?;
+    Ok(print(alloc, order, checked, end)?)
+}
+
+// The bytes that an order prints of a run that its workers go on with. The only error is that there is no memory.
+fn end_by<R: Threads + Wait + Sync, G: Gate>(
+    rt: &R,
+    alloc: Global,
+    order: Order,
+    checked: &Checked,
+    from: PlainState,
+    gate: &G,
+) -> Result<Vec<u8>, Failure>
+    requires numbers { HasItsNumbers order }
+    requires workers { 1 ≤ (crew_in order).workers }
+    requires tables { checked.now.tables.items ≡ offers_of checked.now.doc }
+    requires keeps { Keeps (offers_of checked.now.doc) from.yard from.lines }
+    requires few { length checked.now.certs.items ≤ 16 }
+    ensures ends { IfOk result (λ text. EndsWith order checked.now.doc checked.now.certs.items from text.items) }
+    ensures memory { IfErr result (λ e. e ≡ NoMemory) }
+{
+    let crew = crew_of(order);
+    let end = finish_by(rt, alloc, &checked.doc, &checked.tables, from, crew, gate)?;
+    Ok(print(alloc, order, checked, end)?)
+}
+
 // The bytes that an order prints whose trains run on one thread, or why there are none.
 fn run_alone(
     rt: &(impl Threads + Sync),
@@ -120,10 +160,7 @@ fn run_alone(
         (λ e. (e ≡ NoMemory) ⊎ Comes order input.now (Err e)) }
 {
     match begin_task(rt, alloc, order, input)? {
-        Task::Goes { checked, from } => {
-            let end = finish_alone(&checked.doc, &checked.tables, from)?;
-            Ok(print(alloc, order, &checked, end)?)
-        }
+        Task::Goes { checked, from } => end_alone(alloc, order, &checked, from),
         Task::Printed(text) => Ok(text),
     }
 }
@@ -141,12 +178,8 @@ fn answer_by<R: Threads + Wait + Sync, G: Gate>(
     ensures { MatchResult result (λ text. Comes order input.now (Ok text.items))
         (λ e. (e ≡ NoMemory) ⊎ Comes order input.now (Err e)) }
 {
-    let crew = crew_of(order);
     match begin_task(rt, alloc, order, input)? {
-        Task::Goes { checked, from } => {
-            let end = finish_by(rt, alloc, &checked.doc, &checked.tables, from, crew, gate)?;
-            Ok(print(alloc, order, &checked, end)?)
-        }
+        Task::Goes { checked, from } => end_by(rt, alloc, order, &checked, from, gate),
         Task::Printed(text) => Ok(text),
     }
 }

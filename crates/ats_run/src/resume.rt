@@ -1,19 +1,18 @@
 // Runs that go on from a journal.
-ghost use Rattle.std.specs.Prelude.{◌≡◌, ◌⊎◌, ◌++◌, List, ℕ, IfOk, IfErr};
+ghost use Rattle.std.specs.Prelude.{◌≡◌, ◌⊎◌, ℕ, IfOk, IfErr};
 ghost use Rattle.rail_model.specs.Yard.{opening};
 ghost use Rattle.rail_model.specs.Journal.{after_lines, IsRight};
-ghost use Rattle.rail_model.specs.Certificate.{Tree};
 ghost use Rattle.plain_yard.specs.Keeps.{Keeps};
-ghost use Rattle.move_journal.specs.Answers.{IsTextOf, IsFrontOf, IsTextPart};
+ghost use Rattle.move_journal.specs.Answers.{IsTextPart};
 ghost use Rattle.layout_json.specs.Doc.{IsDoc, offers_of, names_of};
 ghost use Rattle.ats_run.specs.Certificates.{AreAccepted};
-ghost use Rattle.ats_run.specs.Journals.{IsResumed, IsLineFault, IsFrontFault, IsPartFault};
-ghost use Rattle.ats_run.specs.Tasks.{TaskLeads, PrintsText};
+ghost use Rattle.ats_run.specs.Journals.{IsFrontFault, IsNoFront, IsPartFault, LeadsOnTo};
+ghost use Rattle.ats_run.specs.Tasks.{IsPrinted, TaskLeads, PrintsText};
 ghost use Rattle.ats_run.specs.Command.{IsResumedInput, RefusesResume};
 ghost use Rattle.ats_run.specs.declared.failure.Failure.TheVariants.{Memory as NoMemory};
 
 use crate::Failure;
-use crate::checked::check_document;
+use crate::checked::{Checked, check_document};
 use crate::journals::cut;
 use crate::tasks::Task;
 use crate::verify::verify_lines;
@@ -38,11 +37,33 @@ pub(crate) fn resume(
         return Err(Failure::NoJournal);
     };
     let checked = check_document(rt, alloc, document)?;
+    match state_after(alloc, &checked, given)? {
+        Some(from) => Ok(Task::Goes { checked, from }),
+        None => keep(alloc, given),
+    }
+}
+
+// The state that a front leads to whose text the bytes are, or none where they are the text of a whole journal.
+fn state_after(
+    alloc: Global,
+    checked: &Checked,
+    given: &[u8],
+) -> Result<Option<PlainState>, Failure>
+    requires tables { checked.now.tables.items ≡ offers_of checked.now.doc }
+    requires accepted { AreAccepted checked.now.doc checked.now.certs.items }
+    ensures leads { IfOk result (LeadsOnTo checked.now.doc given.now) }
+    ensures formed { IsDoc checked.now.doc }
+
+    ensures refused { IfErr result (λ e. (e ≡ NoMemory) ⊎ IsNoFront checked.now.doc given.now e) }
+{
     match read_part(alloc, &checked.doc, given)? {
-        Part::Whole(journal) => keep(alloc, &checked.doc, &checked.tables, &journal, given),
+        Part::Whole(journal) => {
+            verify_lines(alloc, &checked.doc, &checked.tables, &journal)?;
+            Ok(None)
+        }
         Part::Open(front) => {
-            let from = replay_front(alloc, &checked.doc, &checked.tables, &front)?;
-            Ok(Task::Goes { checked, from })
+            let state = replay_front(alloc, &checked.doc, &checked.tables, &front)?;
+            Ok(Some(state))
         }
     }
 }
@@ -59,21 +80,10 @@ fn read_part(alloc: Global, doc: &Frame, given: &[u8]) -> Result<Part, Failure>
 }
 
 // A whole text again.
-fn keep(
-    alloc: Global,
-    doc: &Frame,
-    tables: &[Accepted],
-    journal: &Journal,
-    given: &[u8],
-) -> Result<Task, Failure>
-    requires tables { tables.now ≡ offers_of doc.now }
-    requires text { IsTextOf (names_of doc.now) given.now journal.now }
-    ensures leads { IfOk result (λ task. (trees : List Tree) → AreAccepted doc.now trees
-        → TaskLeads PrintsText (λ crew written. IsResumed doc.now crew given.now written) task) }
-
-    ensures refused { IfErr result (λ e. (e ≡ NoMemory) ⊎ IsLineFault (offers_of doc.now) (opening doc.now.start) journal.now e) }
+fn keep(alloc: Global, given: &[u8]) -> Result<Task, Failure>
+    ensures printed { IfOk result (λ task. IsPrinted task given.now) }
+    ensures memory { IfErr result (λ e. e ≡ NoMemory) }
 {
-    verify_lines(alloc, doc, tables, journal)?;
     Ok(Task::Printed(Vec::from_slice(alloc, given)?))
 }
 

@@ -4,12 +4,13 @@ ghost use Rattle.rail_model.specs.Yard.{opening};
 ghost use Rattle.rail_model.specs.Journal.{IsWhole};
 ghost use Rattle.move_journal.specs.Answers.{IsTextOf};
 ghost use Rattle.layout_json.specs.Doc.{IsDoc, offers_of, names_of};
-ghost use Rattle.ats_run.specs.Journals.{IsLineFault, IsTextFault, verified_text};
+ghost use Rattle.ats_run.specs.Certificates.{AreAccepted};
+ghost use Rattle.ats_run.specs.Journals.{IsLineFault, IsTextFault, IsUnverified, IsVerified, verified_text};
 ghost use Rattle.ats_run.specs.Command.{IsVerifiedInput, RefusesVerify};
 ghost use Rattle.ats_run.specs.declared.failure.Failure.TheVariants.{Memory as NoMemory};
 
 use crate::Failure;
-use crate::checked::check_document;
+use crate::checked::{Checked, check_document};
 use crate::journals::cut;
 use cert_checker::Accepted;
 use layout_json::Frame;
@@ -27,6 +28,17 @@ pub fn verify(rt: &(impl Threads + Sync), alloc: Global, input: &[u8]) -> Result
         return Err(Failure::NoJournal);
     };
     let checked = check_document(rt, alloc, document)?;
+    verify_given(alloc, &checked, given)
+}
+
+// The line of a journal of a document whose text the bytes are.
+fn verify_given(alloc: Global, checked: &Checked, given: &[u8]) -> Result<Vec<u8>, Failure>
+    requires tables { checked.now.tables.items ≡ offers_of checked.now.doc }
+    requires accepted { AreAccepted checked.now.doc checked.now.certs.items }
+    ensures verified { IfOk result (λ text. IsVerified checked.now.doc given.now text.items) }
+
+    ensures refused { IfErr result (λ e. (e ≡ NoMemory) ⊎ IsUnverified checked.now.doc given.now e) }
+{
     let journal = read_given(alloc, &checked.doc, given)?;
     verify_lines(alloc, &checked.doc, &checked.tables, &journal)?;
     let text = verified_line(alloc, &journal)?;

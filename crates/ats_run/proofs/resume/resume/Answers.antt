@@ -1,30 +1,41 @@
-use Rattle.std.proofs.Common.{subst}
+use Rattle.std.proofs.Common.{◌≡◌, ◌⊎◌, subst}
+use Rattle.std.proofs.Math.Logic.{⊎_map}
 use Rattle.std.proofs.lemmas.Result.{IfOk-weaker}
-use Rattle.move_journal.specs.Answers.{IsTextPart}
-use Rattle.layout_json.specs.Doc.{names_of}
-use Rattle.ats_run.specs.Command.{IsResumedInput}
-use Rattle.ats_run.specs.Journals.{IsResumed}
+use Rattle.layout_json.proofs.Refusals.{refused-so}
+use Rattle.ats_run.specs.Command.{IsResumedInput, RefusesResume}
+use Rattle.ats_run.specs.Journals.{IsFrontTo, LeadsOnTo}
 use Rattle.ats_run.specs.Tasks.{PrintsText}
-use Rattle.ats_run.proofs.Begun.{front_leads, task_weaker}
+use Rattle.ats_run.specs.declared.failure.Failure.TheVariants.{Memory as NoMemory}
+use Rattle.ats_run.proofs.Begun.{front_leads, printed_leads}
 use Rattle.ats_run.proofs.Inputs.{resumed_input}
+use Rattle.ats_run.proofs.PairFaults.{resume_refused}
 use Rattle.ats_run.proofs.resume.resume.Goals as goal
 
-pub returns-in-Whole-clause-leads : goal.returns-in-Whole-clause-leads
-returns-in-Whole-clause-leads g c =
+pub returns-in_err-from-clause-refused : goal.returns-in_err-from-clause-refused
+returns-in_err-from-clause-refused g c =
+    let e = c.in_err-from.field-0.0 in
+    refused-so (λ e. (e ≡ NoMemory) ⊎ RefusesResume c.args.input.now e) c.from_residual-in_err-from.result e c.from_residual-in_err-from.ensures.1
+    (⊎_map (λ m. m)
+    (resume_refused c.args.input.now c.in-Some.document.now c.in-Some.given.now c.in-Some.ensures c.in_ok-checked.checked.doc c.in_ok-checked.ensures.document e)
+    c.in_err-from.ensures.refused)
+
+pub returns-in-None-clause-leads : goal.returns-in-None-clause-leads
+returns-in-None-clause-leads g c =
     let D = c.in_ok-checked.checked.doc in
     let input = c.args.input.now in
     let given = c.in-Some.given.now in
+    let whole = subst (LeadsOnTo D given) c.in-None.is c.in_ok-from.ensures.leads in
     IfOk-weaker c.keep.result _ _
-    (λ task h. task_weaker PrintsText (λ crew written. IsResumed D crew given written) (λ crew written. IsResumedInput crew input written)
-    (λ crew written resumed. resumed_input crew input c.in-Some.document.now given written c.in-Some.ensures D c.in_ok-checked.ensures.document resumed) task
-    (h c.in_ok-checked.checked.certs.items c.in_ok-checked.ensures.accepted)) c.keep.ensures.leads
+    (λ task printed. printed_leads PrintsText (λ crew written. IsResumedInput crew input written) task given printed
+    (λ crew. resumed_input crew input c.in-Some.document.now given given c.in-Some.ensures D c.in_ok-checked.ensures.document (whole crew)))
+    c.keep.ensures.printed
 
-pub returns-in_ok-from-in-Open-clause-leads : goal.returns-in_ok-from-in-Open-clause-leads
-returns-in_ok-from-in-Open-clause-leads g c =
+pub returns-in-Some-2-clause-leads : goal.returns-in-Some-2-clause-leads
+returns-in-Some-2-clause-leads g c =
     let D = c.in_ok-checked.checked.doc in
-    let s = c.in_ok-from-in-Open.ensures in (
+    let given = c.in-Some.given.now in
+    let f : IsFrontTo D given c.in-Some-2.from = subst (LeadsOnTo D given) c.in-Some-2.is c.in_ok-from.ensures.leads in (
       c.in_ok-checked.ensures.offers,
-      front_leads D c.in_ok-checked.checked.certs.items c.args.input.now c.in-Some.document.now c.in-Some.given.now c.in-Open.front c.in_ok-from-in-Open.from
-          c.replay_front.ensures.formed c.in_ok-checked.ensures.accepted c.in-Some.ensures c.in_ok-checked.ensures.document
-          (subst (IsTextPart (names_of D) c.in-Some.given.now) c.in-Open.is c.in_ok-journal.ensures.part) s.right s.yard s.lines s.keeps,
+      front_leads D c.in_ok-checked.checked.certs.items c.args.input.now c.in-Some.document.now given f.front c.in-Some-2.from c.state_after.ensures.formed
+          c.in_ok-checked.ensures.accepted c.in-Some.ensures c.in_ok-checked.ensures.document f.text f.right f.yard f.lines f.keeps,
     )
