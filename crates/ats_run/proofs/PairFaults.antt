@@ -11,7 +11,7 @@ use Rattle.ats_run.specs.declared.failure.Failure.{Failure}
 use Rattle.ats_run.specs.declared.failure.Failure.TheVariants.{Line, Text}
 use Rattle.ats_run.specs.Certificates.{AreAccepted}
 use Rattle.ats_run.specs.Command.{IsVerifiedInput, RefusesVerify, RefusesResume}
-use Rattle.ats_run.specs.Journals.{IsCutAt, IsVerified, IsUnreadable, FailsToVerify, FailsToResume, IsTextFault, IsPartFault, IsLineFault, IsFrontFault, IsUnverified, IsNoFront, document_part, journal_part}
+use Rattle.ats_run.specs.Journals.{IsCutAt, IsVerified, IsUnreadable, FailsToVerify, FailsToResume, IsTextFault, IsPartFault, IsLineFault, IsFrontFault, IsVerifyFault, IsResumeFault, document_part, journal_part}
 
 -- The input is cut into these two.
 abbrev pub IsCutInto : List ℕ → List ℕ → List ℕ → Type 0
@@ -22,14 +22,14 @@ module _ (input document given : List ℕ) (cut : IsCutInto input document given
   verified_input written verified =
       (cut.0, cut.1, (D, subst (λ (xs : List ℕ). doc_of xs ≡ Ok D) cut.2 is, subst (λ (xs : List ℕ). IsVerified D xs written) cut.3 verified))
 
-  pub verify_refused : (e : Failure) → IsUnverified D given e → RefusesVerify input e
+  pub verify_refused : (e : Failure) → IsVerifyFault D given e → RefusesVerify input e
   verify_refused (Text cause) h =
       (cut.0, cut.1, (D, subst (λ (xs : List ℕ). doc_of xs ≡ Ok D) cut.2 is, subst (λ (xs : List ℕ). IsUnreadable D xs cause) cut.3 h))
   verify_refused (Line cause) h =
       (cut.0, cut.1, (D, subst (λ (xs : List ℕ). doc_of xs ≡ Ok D) cut.2 is, subst (λ (xs : List ℕ). FailsToVerify D xs cause) cut.3 h))
   verify_refused e h = absurd h
 
-  pub resume_refused : (e : Failure) → IsNoFront D given e → RefusesResume input e
+  pub resume_refused : (e : Failure) → IsResumeFault D given e → RefusesResume input e
   resume_refused (Text cause) h =
       (cut.0, cut.1, (D, subst (λ (xs : List ℕ). doc_of xs ≡ Ok D) cut.2 is, (subst (λ (xs : List ℕ). IsUnreadable D xs cause) cut.3 h.0, h.1)))
   resume_refused (Line cause) h =
@@ -37,22 +37,22 @@ module _ (input document given : List ℕ) (cut : IsCutInto input document given
   resume_refused e h = absurd h
 
 module _ (D : Doc) (trees : List Tree) (given : List ℕ) (doc : IsDoc D) (accepted : AreAccepted D trees) where
-  pub text_unverified : (e : Failure) → IsTextFault (names_of D) given e → IsUnverified D given e
+  pub text_unverified : (e : Failure) → IsTextFault (names_of D) given e → IsVerifyFault D given e
   text_unverified (Text cause) h = record { formed = doc; trees = trees; accepted = accepted; fault = h }
   text_unverified e h = absurd h
 
-  pub lines_unverified : (J : Journal) → IsTextOf (names_of D) given J → (e : Failure) → IsLineFault (offers_of D) (opening D.start) J e → IsUnverified D given e
+  pub lines_unverified : (J : Journal) → IsTextOf (names_of D) given J → (e : Failure) → IsLineFault (offers_of D) (opening D.start) J e → IsVerifyFault D given e
   lines_unverified J text (Line cause) h = record { formed = doc; journal = J; trees = trees; accepted = accepted; text = text; fault = h }
   lines_unverified J text e h = absurd h
 
-  pub text_no_front : (e : Failure) → IsPartFault (names_of D) given e → IsNoFront D given e
+  pub text_no_front : (e : Failure) → IsPartFault (names_of D) given e → IsResumeFault D given e
   text_no_front (Text cause) h = (record { formed = doc; trees = trees; accepted = accepted; fault = h.0 }, h.1)
   text_no_front e h = absurd h
 
-  pub lines_no_front : (J : Journal) → IsTextOf (names_of D) given J → (e : Failure) → IsLineFault (offers_of D) (opening D.start) J e → IsNoFront D given e
+  pub lines_no_front : (J : Journal) → IsTextOf (names_of D) given J → (e : Failure) → IsLineFault (offers_of D) (opening D.start) J e → IsResumeFault D given e
   lines_no_front J text (Line cause) h = record { formed = doc; journal = J; trees = trees; accepted = accepted; fault = inl (text, h) }
   lines_no_front J text e h = absurd h
 
-  pub replay_no_front : (J : Journal) → IsFrontOf (names_of D) given J → (e : Failure) → IsFrontFault (offers_of D) (opening D.start) J e → IsNoFront D given e
+  pub replay_no_front : (J : Journal) → IsFrontOf (names_of D) given J → (e : Failure) → IsFrontFault (offers_of D) (opening D.start) J e → IsResumeFault D given e
   replay_no_front J front (Line cause) h = record { formed = doc; journal = J; trees = trees; accepted = accepted; fault = inr (front, h) }
   replay_no_front J front e h = absurd h

@@ -117,10 +117,10 @@ pub record FailsToResume (D : Doc) (given : List ℕ) (cause : BadLine) : Type 0
       ⊎ (IsFrontOf (names_of D) given journal × HasBadLine (offers_of D) (opening D.start) journal.lines cause)
 
 -- Why bytes are no text of a whole journal of the document, as a failure of the program.
-abbrev pub IsUnverified : Doc → List ℕ → Failure → Type 0
-IsUnverified D given (Text cause) = IsUnreadable D given cause
-IsUnverified D given (Line cause) = FailsToVerify D given cause
-IsUnverified D given e = ⊥
+abbrev pub IsVerifyFault : Doc → List ℕ → Failure → Type 0
+IsVerifyFault D given (Text cause) = IsUnreadable D given cause
+IsVerifyFault D given (Line cause) = FailsToVerify D given cause
+IsVerifyFault D given e = ⊥
 
 -- The bytes are the text of a front of the document, which leads to this state.
 pub record IsFrontTo (D : Doc) (given : List ℕ) (state : Plain) : Type 0 where
@@ -137,7 +137,7 @@ LeadsOnTo D given (Some state) = IsFrontTo D given state
 LeadsOnTo D given None = (crew : Crew) → IsResumed D crew given given
 
 -- Why nothing goes on from the bytes, as a failure of the program.
-abbrev pub IsNoFront : Doc → List ℕ → Failure → Type 0
-IsNoFront D given (Text cause) = IsUnreadable D given cause × (cause ≢ NoEnd)
-IsNoFront D given (Line cause) = FailsToResume D given cause
-IsNoFront D given e = ⊥
+abbrev pub IsResumeFault : Doc → List ℕ → Failure → Type 0
+IsResumeFault D given (Text cause) = IsUnreadable D given cause × (cause ≢ NoEnd)
+IsResumeFault D given (Line cause) = FailsToResume D given cause
+IsResumeFault D given e = ⊥

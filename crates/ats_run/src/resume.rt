@@ -6,7 +6,7 @@ ghost use Rattle.plain_yard.specs.Keeps.{Keeps};
 ghost use Rattle.move_journal.specs.Answers.{IsTextPart};
 ghost use Rattle.layout_json.specs.Doc.{IsDoc, offers_of, names_of};
 ghost use Rattle.ats_run.specs.Certificates.{AreAccepted};
-ghost use Rattle.ats_run.specs.Journals.{IsFrontFault, IsNoFront, IsPartFault, LeadsOnTo};
+ghost use Rattle.ats_run.specs.Journals.{IsFrontFault, IsResumeFault, IsPartFault, LeadsOnTo};
 ghost use Rattle.ats_run.specs.Tasks.{IsPrinted, TaskLeads, PrintsText};
 ghost use Rattle.ats_run.specs.Command.{IsResumedInput, RefusesResume};
 ghost use Rattle.ats_run.specs.declared.failure.Failure.TheVariants.{Memory as NoMemory};
@@ -54,7 +54,7 @@ fn state_after(
     ensures leads { IfOk result (LeadsOnTo checked.now.doc given.now) }
     ensures formed { IsDoc checked.now.doc }
 
-    ensures refused { IfErr result (λ e. (e ≡ NoMemory) ⊎ IsNoFront checked.now.doc given.now e) }
+    ensures refused { IfErr result (λ e. (e ≡ NoMemory) ⊎ IsResumeFault checked.now.doc given.now e) }
 {
     match read_part(alloc, &checked.doc, given)? {
         Part::Whole(journal) => {

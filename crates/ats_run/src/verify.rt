@@ -5,7 +5,7 @@ ghost use Rattle.rail_model.specs.Journal.{IsWhole};
 ghost use Rattle.move_journal.specs.Answers.{IsTextOf};
 ghost use Rattle.layout_json.specs.Doc.{IsDoc, offers_of, names_of};
 ghost use Rattle.ats_run.specs.Certificates.{AreAccepted};
-ghost use Rattle.ats_run.specs.Journals.{IsLineFault, IsTextFault, IsUnverified, IsVerified, verified_text};
+ghost use Rattle.ats_run.specs.Journals.{IsLineFault, IsTextFault, IsVerifyFault, IsVerified, verified_text};
 ghost use Rattle.ats_run.specs.Command.{IsVerifiedInput, RefusesVerify};
 ghost use Rattle.ats_run.specs.declared.failure.Failure.TheVariants.{Memory as NoMemory};
 
@@ -37,7 +37,7 @@ fn verify_given(alloc: Global, checked: &Checked, given: &[u8]) -> Result<Vec<u8
     requires accepted { AreAccepted checked.now.doc checked.now.certs.items }
     ensures verified { IfOk result (λ text. IsVerified checked.now.doc given.now text.items) }
 
-    ensures refused { IfErr result (λ e. (e ≡ NoMemory) ⊎ IsUnverified checked.now.doc given.now e) }
+    ensures refused { IfErr result (λ e. (e ≡ NoMemory) ⊎ IsVerifyFault checked.now.doc given.now e) }
 {
     let journal = read_given(alloc, &checked.doc, given)?;
     verify_lines(alloc, &checked.doc, &checked.tables, &journal)?;
