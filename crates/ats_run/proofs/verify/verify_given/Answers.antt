@@ -19,7 +19,7 @@ returns-in_err-verify_lines-clause-refused c =
     let D = c.args.checked.now.doc in
     let given = c.args.given.now in
     let e = c.in_err-verify_lines.field-0.0 in
-    refused-so (λ e. (e ≡ NoMemory) ⊎ IsVerifyFault D given e) c.from_residual.result e c.from_residual.ensures.1
+    refused-so (λ e. (e ≡ NoMemory) ⊎ IsVerifyFault D given e) c.from_residual-in_err-verify_lines.result e c.from_residual-in_err-verify_lines.ensures.1
     (⊎_map (λ m. m)
     (lines_unverified D c.args.checked.now.certs.items given c.verify_lines.ensures.formed c.requires.accepted c.in_ok-journal.journal c.in_ok-journal.ensures.text e)
     c.in_err-verify_lines.ensures.lacks)
