@@ -1,5 +1,5 @@
 -- From one try's steps to what came of it.
-use Rattle.std.proofs.Common.{◌≡◌, ◌≢◌, ◌+◌, ◌<◌, ◌≤◌, ℕ, List, [], ◌++◌, length, true, false, sym, ap, ◌∙◌, subst, arith, Some}
+use Rattle.std.proofs.Common.{◌≡◌, ◌≢◌, ◌+◌, ℕ, List, [], ◌++◌, length, true, false, sym, ap, ◌∙◌, subst, arith, Some}
 use Rattle.atomic_table.specs.Seated.{TableId}
 use Rattle.rail_model.specs.declared.types.BlockAsk.{BlockAsk}
 use Rattle.rail_model.specs.declared.types.Entry.{Entry}

@@ -1,4 +1,4 @@
-use Rattle.std.proofs.Common.{◌++◌, map, get_or}
+use Rattle.std.proofs.Common.{◌++◌, map}
 use Rattle.rail_model.specs.declared.types.Ask.TheVariants.{Yes}
 use Rattle.rail_model.specs.declared.types.Reply.TheVariants.{Driver}
 use Rattle.rail_model.specs.declared.types.Entry.{Entry}
