@@ -1,5 +1,5 @@
 -- Runs that have begun: what is printed of their end is what the order comes to.
-use Rattle.std.proofs.Common.{◌≡◌, ◌⊎◌, ◌≤◌, ℕ, List, [], length, refl, sym, subst, arith}
+use Rattle.std.proofs.Common.{◌≡◌, ◌⊎◌, ◌≤◌, ℕ, List, [], length, refl, sym, subst, inl, arith, Vec, Global}
 use Rattle.std.specs.Prelude.{Result, Ok, Err, IfOk, IfErr, MatchResult}
 use Rattle.command_words.specs.declared.orders.Order.{Order}
 use Rattle.command_words.specs.declared.orders.Order.TheVariants.{Run, Resume, Check, Verify, Migrate, Make, Derive, Repair, Simulate, Generate, Drill, Weave}
@@ -15,6 +15,7 @@ use Rattle.layout_json.specs.Reading.{doc_of}
 use Rattle.layout_json.proofs.Offered.{offer_count, legal_start}
 use Rattle.ats_run.specs.declared.failure.Failure.{Failure}
 use Rattle.ats_run.specs.declared.failure.Failure.TheVariants.{Memory as NoMemory}
+use Rattle.ats_run.specs.declared.checked.Checked.{Checked}
 use Rattle.ats_run.specs.declared.tasks.Task.{Task}
 use Rattle.ats_run.specs.declared.tasks.Task.TheVariants.{Goes, Printed}
 use Rattle.ats_run.specs.Certificates.{AreAccepted}
@@ -24,7 +25,7 @@ use Rattle.ats_run.specs.Generating.{IsDrilled}
 use Rattle.ats_run.specs.Headline.{Ends, plain_after}
 use Rattle.ats_run.specs.Journals.{IsCutAt, document_part, journal_part}
 use Rattle.ats_run.specs.Orders.{crew_in}
-use Rattle.ats_run.specs.Tasks.{RunsTrains, PrintsText, PrintsCounts, Prints, LeadsTo, TaskLeads, IsPrinted}
+use Rattle.ats_run.specs.Tasks.{RunsTrains, PrintsText, PrintsCounts, Prints, EndsWith, LeadsTo, TaskLeads, IsPrinted}
 use Rattle.ats_run.proofs.Drilled.{drilled}
 use Rattle.ats_run.proofs.Inputs.{resumed_input}
 use Rattle.ats_run.proofs.Resumed.{resumed_front}
@@ -111,6 +112,16 @@ module _ (input : List ℕ) where
       both : (result : Result Task Failure) → IfOk result (TaskLeads (Prints given) P) → IfErr result (λ e. (e ≡ NoMemory) ⊎ Comes given input (Err e)) → IsTaskOf given result
       both (Ok task) ok err = task_weaker (Prints given) P (λ crew written. crew ≡ crew_in given → Comes given input (Ok written)) gives task ok
       both (Err e) ok err = err
+
+-- what is printed of the end of an order's run is what the order comes to
+pub ended : (order : Order) (input : List ℕ) (task : Task) (checked : Checked) (from : Plain) → task ≡ Goes checked from
+    → TaskLeads (Prints order) (λ crew written. crew ≡ crew_in order → Comes order input (Ok written)) task
+    → (result : Result (Vec ℕ Global) Failure) → IfOk result (λ text. EndsWith order checked.doc checked.certs.items from text.items) → IfErr result (λ e. e ≡ NoMemory)
+    → MatchResult result (λ text. Comes order input (Ok text.items)) (λ e. (e ≡ NoMemory) ⊎ Comes order input (Err e))
+ended order input task checked from is leads (Ok text) ends memory =
+    let said : Crew → List ℕ → Type 0 = λ crew written. crew ≡ crew_in order → Comes order input (Ok written) in
+    (subst (TaskLeads (Prints order) said) is leads).1.leads (crew_in order) ends.end text.items ends.ends ends.keeps ends.printed refl
+ended order input task checked from is leads (Err e) ends memory = inl memory
 
 -- an order with workers runs trains
 pub workers_run : (order : Order) → 1 ≤ (crew_in order).workers → RunsTrains order

@@ -21,6 +21,7 @@ pub mod Made
 mod MakeRows
 mod OneTable
 mod PairFaults
+mod Passed
 pub mod Reading
 mod Repairable
 mod Repaired

@@ -1,9 +1,10 @@
 -- What a subcommand asks for, of the numbers of its options.
-use Rattle.std.proofs.Common.{◌≡◌, ℕ, List, Some, ap}
+use Rattle.std.proofs.Common.{◌≡◌, ◌∙◌, ℕ, List, Some, Option, ap, sym}
 use Rattle.std.specs.Prelude.{option_and_then}
 use Rattle.clap.specs.Words.{Row, Text}
 use Rattle.command_words.specs.Options.{NumberOption, number}
 use Rattle.command_words.specs.Subcommands.{with_one, with_two, with_three}
+use Rattle.command_words.specs.Words.{order_of}
 use Rattle.command_words.specs.declared.orders.Order.{Order}
 
 module _ (given : List Row) (called : Text) (first : NumberOption) (a : ℕ) (is : Some a ≡ number first given) where
@@ -17,3 +18,7 @@ module _ (given : List Row) (called : Text) (first : NumberOption) (a : ℕ) (is
     pub asks_three : (third : NumberOption) (c : ℕ) → Some c ≡ number third given → (asked : ℕ → ℕ → ℕ → Order)
         → Some (asked a b c) ≡ (with_three called first second third asked).order given
     asks_three third c is_last asked = λ i. option_and_then (λ n. option_and_then (λ m. option_and_then (λ k. Some (asked n m k)) (is_last i)) (is_too i)) (is i)
+
+-- what the subcommand of a name asks for is what a name that is the same asks for
+pub asks_by_name : (given : List Row) (name known : Text) (asked : Option Order) → name ≡ known → asked ≡ order_of (known, given) → asked ≡ order_of (name, given)
+asks_by_name given name known asked same is = is ∙ ap (λ name. order_of (name, given)) (sym same)

@@ -46,6 +46,7 @@ fn order_of(matches: &ArgMatches<'_>) -> Option<Order>
     order_called(name, inner)
 }
 
+#[tactic(auto, using(crate::proofs::Asked::asks_by_name))]
 fn order_called(name: &str, matches: &ArgMatches<'_>) -> Option<Order>
     ensures exact { result ≡ spec.order_of (name.now, rows_of (found_of matches.now)) }
     ensures within { IfSome result sub.HasItsNumbers }
@@ -67,6 +68,7 @@ fn order_called(name: &str, matches: &ArgMatches<'_>) -> Option<Order>
     }
 }
 
+#[tactic(auto, using(crate::proofs::Asked::asks_three))]
 fn run(matches: &ArgMatches<'_>) -> Option<Order>
     ensures exact { result ≡ sub.run.order (rows_of (found_of matches.now)) }
     ensures within { IfSome result sub.HasItsNumbers }
@@ -81,6 +83,7 @@ fn run(matches: &ArgMatches<'_>) -> Option<Order>
     })
 }
 
+#[tactic(auto, using(crate::proofs::Asked::asks_three))]
 fn resume(matches: &ArgMatches<'_>) -> Option<Order>
     ensures exact { result ≡ sub.resume.order (rows_of (found_of matches.now)) }
     ensures within { IfSome result sub.HasItsNumbers }
@@ -95,6 +98,7 @@ fn resume(matches: &ArgMatches<'_>) -> Option<Order>
     })
 }
 
+#[tactic(auto, using(crate::proofs::Asked::asks_one))]
 fn make(matches: &ArgMatches<'_>) -> Option<Order>
     ensures exact { result ≡ sub.make.order (rows_of (found_of matches.now)) }
     ensures within { IfSome result sub.HasItsNumbers }
@@ -103,6 +107,7 @@ fn make(matches: &ArgMatches<'_>) -> Option<Order>
     Some(Order::Make { budget })
 }
 
+#[tactic(auto, using(crate::proofs::Asked::asks_two))]
 fn derive(matches: &ArgMatches<'_>) -> Option<Order>
     ensures exact { result ≡ sub.derive.order (rows_of (found_of matches.now)) }
     ensures within { IfSome result sub.HasItsNumbers }
@@ -112,6 +117,7 @@ fn derive(matches: &ArgMatches<'_>) -> Option<Order>
     Some(Order::Derive { most, budget })
 }
 
+#[tactic(auto, using(crate::proofs::Asked::asks_two))]
 fn repair(matches: &ArgMatches<'_>) -> Option<Order>
     ensures exact { result ≡ sub.repair.order (rows_of (found_of matches.now)) }
     ensures within { IfSome result sub.HasItsNumbers }
@@ -121,6 +127,7 @@ fn repair(matches: &ArgMatches<'_>) -> Option<Order>
     Some(Order::Repair { budget, rounds })
 }
 
+#[tactic(auto, using(crate::proofs::Asked::asks_two))]
 fn generate(matches: &ArgMatches<'_>) -> Option<Order>
     ensures exact { result ≡ sub.generate.order (rows_of (found_of matches.now)) }
     ensures within { IfSome result sub.HasItsNumbers }
@@ -130,6 +137,7 @@ fn generate(matches: &ArgMatches<'_>) -> Option<Order>
     Some(Order::Generate { seed, trains })
 }
 
+#[tactic(auto, using(crate::proofs::Asked::asks_three))]
 fn drill(matches: &ArgMatches<'_>) -> Option<Order>
     ensures exact { result ≡ sub.drill.order (rows_of (found_of matches.now)) }
     ensures within { IfSome result sub.HasItsNumbers }
@@ -144,6 +152,7 @@ fn drill(matches: &ArgMatches<'_>) -> Option<Order>
     })
 }
 
+#[tactic(auto, using(crate::proofs::Asked::asks_two))]
 fn weave(matches: &ArgMatches<'_>) -> Option<Order>
     ensures exact { result ≡ sub.weave.order (rows_of (found_of matches.now)) }
     ensures within { IfSome result sub.HasItsNumbers }

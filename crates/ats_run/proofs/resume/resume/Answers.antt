@@ -1,23 +1,20 @@
-use Rattle.std.proofs.Common.{◌≡◌, ◌⊎◌, subst}
-use Rattle.std.proofs.Math.Logic.{⊎_map}
+use Rattle.std.proofs.Common.{subst}
 use Rattle.std.proofs.lemmas.Result.{IfOk-weaker}
-use Rattle.layout_json.proofs.Refusals.{refused-so}
 use Rattle.ats_run.specs.Command.{IsResumedInput, RefusesResume}
 use Rattle.ats_run.specs.Journals.{IsFrontTo, LeadsOnTo}
 use Rattle.ats_run.specs.Tasks.{PrintsText}
-use Rattle.ats_run.specs.declared.failure.Failure.TheVariants.{Memory as NoMemory}
 use Rattle.ats_run.proofs.Begun.{front_leads, printed_leads}
 use Rattle.ats_run.proofs.Inputs.{resumed_input}
 use Rattle.ats_run.proofs.PairFaults.{resume_refused}
+use Rattle.ats_run.proofs.Passed.{passed_up}
 use Rattle.ats_run.proofs.resume.resume.Goals as goal
 
 pub returns-in_err-from-clause-refused : goal.returns-in_err-from-clause-refused
 returns-in_err-from-clause-refused g c =
     let e = c.in_err-from.field-0.0 in
-    refused-so (λ e. (e ≡ NoMemory) ⊎ RefusesResume c.args.input.now e) c.from_residual-in_err-from.result e c.from_residual-in_err-from.ensures.1
-    (⊎_map (λ m. m)
+    passed_up (RefusesResume c.args.input.now) c.from_residual-in_err-from.result e c.from_residual-in_err-from.ensures.1
     (resume_refused c.args.input.now c.in-Some.document.now c.in-Some.given.now c.in-Some.ensures c.in_ok-checked.checked.doc c.in_ok-checked.ensures.document e)
-    c.in_err-from.ensures.refused)
+    c.in_err-from.ensures.refused
 
 pub returns-in-None-clause-leads : goal.returns-in-None-clause-leads
 returns-in-None-clause-leads g c =
