@@ -3,4 +3,4 @@ use Rattle.ats_run.proofs.answer.run_alone.Goals as goal
 
 pub returns-in-Goes : goal.returns-in-Goes
 returns-in-Goes g c =
-    ended c.args.order c.args.input.now c.in_ok-checked.checked c.in-Goes.checked c.in-Goes.from c.in-Goes.is c.in_ok-checked.ensures c.end_alone.result c.end_alone.ensures.ends c.end_alone.ensures.memory
+    ended c.args.order c.args.input.now _ _ _ c.in-Goes.is c.in_ok-checked.ensures c.end_alone.result c.end_alone.ensures.ends c.end_alone.ensures.memory
