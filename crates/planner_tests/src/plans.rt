@@ -168,6 +168,7 @@ const CHANGES: &str =
 6: name = "T-1"; 12: points = ["Mm", "N"] / only = ["T7"] / width = 3 => line 6: train "T-1": "T-1" is no name: 1 to 16 of A-Z, a-z, 0-9 and _ / line 12: section "corridor": no point "Mm"; did you mean "M"? / line 13: section "corridor": no train "T7"; did you mean "T0"? / line 14: section "corridor": no key "width"; the keys are name, limit, points, weight, only, from, to
 7: start = "A" / route = ["C", "N", "M", "D"] => line 7: train "T1": "A" is not on the route of train "T1"
 7: start = "M#3" / route = ["C", "N", "M", "D"] => line 7: train "T1": "M#3" is not on the route of train "T1"
+7: start = "M#01" / route = ["C", "N", "M", "D"] => line 7: train "T1": "M#01" is not on the route of train "T1"
 7: times = { "M N" = 3 } / route = ["C", "N", "M", "D"] => line 7: train "T1": "M N" is no step of the route
 7: times = { default = 0, "N M" = 1001 } / route = ["C", "N", "M", "D"] => line 7: train "T1": a time is 1 to 1000, and this is 0 / line 7: train "T1": a time is 1 to 1000, and this is 1001
 7: exit = "yes" / route = ["C", "N", "M", "D"] => line 7: train "T1": "exit" takes true or false, and this is of type string
@@ -207,7 +208,7 @@ const CHANGES: &str =
 13: weight = { T1 = 2 } => line 11: section "corridor": train "T1" alone takes 2 of 1
 13: weight = { T0 = 5, T1 = -1 } => line 13: section "corridor": a weight is 0 to 4, and this is 5 / line 13: section "corridor": a weight is 0 to 4, and this is -1
 13: / [zones] / "2" = ["A"] => line 14: zone 1 has no point, and zone 2 has
-13: / [zones] / "16" = ["A"] / "west" = ["B"] => line 15: "16" is no zone: they are numbered from 0 to 15 / line 16: "west" is no zone: they are numbered from 0 to 15
+13: / [zones] / "16" = ["A"] / "west" = ["B"] / "01" = ["C"] / "+1" = ["D"] => line 15: "16" is no zone: they are numbered from 0 to 15 / line 16: "west" is no zone: they are numbered from 0 to 15 / line 17: "01" is no zone: they are numbered from 0 to 15 / line 18: "+1" is no zone: they are numbered from 0 to 15
 13: / [zones] / "0" = ["A", "B", "M"] / "1" = ["C", "D", "M"] => line 16: "M" is in a zone already"##;
 
 // Adds lines to a text.
