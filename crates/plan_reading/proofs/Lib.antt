@@ -1,2 +1,6 @@
 mod Compared
+mod Numbered
 mod Rows
+mod Steps
+mod TimeRows
+mod ZoneRows

@@ -1,2 +1,4 @@
 pub mod Agreeing
 pub mod Said
+pub mod Timed
+pub mod Zoned

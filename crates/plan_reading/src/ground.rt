@@ -1,5 +1,6 @@
 // The trains and points of a plan and what links the points, in the order in which they are first named, and zones.
 use crate::names::{find, is_known, is_name, text_of};
+use crate::zoned::zone_named;
 use plan_entries::{Entries, Entry, Faults, Kind, Part, names_of};
 use std::alloc::{AllocError, Global};
 use toml::Value;
@@ -53,15 +54,13 @@ fn check_name(faults: &mut Faults, at: &Entry) {
     }
 }
 
-// The number of a zone; one that is out of range is reported.
+// The zone whose number is the key; a key that is the number of none is reported.
 fn zone_of(faults: &mut Faults, at: &Entry) -> Option<u32> {
-    match at.key.parse::<u32>() {
-        Ok(number) if number < MOST_ZONES => Some(number),
-        _ => {
-            tell_of(faults, at, "{} is no zone: they are numbered from 0 to 15");
-            None
-        }
+    let zone = zone_named(at.key);
+    if zone.is_none() {
+        tell_of(faults, at, "{} is no zone: they are numbered from 0 to 15");
     }
+    zone
 }
 
 // Puts a point into a zone, if it is in none.

@@ -11,8 +11,10 @@ mod reading;
 mod routes;
 mod sections;
 mod tables;
+mod timed;
 mod times;
 mod trains;
+mod zoned;
 
 pub use plan_entries::Fault;
 pub use reading::{PlanRead, read_plan};

@@ -1,13 +1,11 @@
 // Travel times, by the links of a route.
 use crate::names::{find, text_of};
 use crate::ranges::Range;
+use crate::timed::{default_in, times_said};
 use plan_entries::{Entry, Faults, Part};
 use rail_model::TrainTimes;
 use std::alloc::{AllocError, Global};
 use toml::{Table, Value};
-
-// The time of a step that has none of its own.
-const USUAL: u32 = 1;
 
 const TIMES: Range = Range {
     least: 1,
@@ -47,14 +45,6 @@ fn check_link(faults: &mut Faults, at: &Entry, points: &[&str], route: &[Value])
     }
 }
 
-// The time for all steps that have none of their own, if it is given.
-fn usual_in(times: &Value) -> Option<i64> {
-    match times {
-        Value::Table(times) => times.get("default")?.as_integer(),
-        _ => times.as_integer(),
-    }
-}
-
 // Tells what is wrong with a table of times.
 fn check_table<'x>(
     faults: &mut Faults,
@@ -80,7 +70,7 @@ pub(crate) fn check_times(faults: &mut Faults, entry: &Entry, points: &[&str], r
         return;
     };
     let at = entry.at("times");
-    if let Some(number) = usual_in(times) {
+    if let Some(number) = default_in(times) {
         TIMES.check(faults, &at, number);
     }
     if let Value::Table(table) = times {
@@ -88,61 +78,17 @@ pub(crate) fn check_times(faults: &mut Faults, entry: &Entry, points: &[&str], r
     }
 }
 
-// Whether a link is named by these two points.
-fn is_link(name: &str, one: &str, other: &str) -> bool {
-    match name.split_once(" ") {
-        Some((from, to)) => from == one && to == other,
-        None => false,
-    }
-}
-
-// The time of a step that has one of its own.
-fn own_time(times: &Table, one: &str, other: &str) -> Option<i64> {
-    for (link, value) in times {
-        if is_link(link.as_str(), one, other) {
-            return value.as_integer();
-        }
-    }
-    None
-}
-
-// The time of the step out of the layout, and of each step that has none of its own.
-fn usual_time(times: Option<&Value>) -> u32 {
-    let number = match times {
-        Some(times) => usual_in(times),
-        None => None,
-    };
-    match number {
-        Some(number) => TIMES.number(number).unwrap_or(USUAL),
-        None => USUAL,
-    }
-}
-
-// The time of a step.
-fn step_time(times: Option<&Value>, one: &str, other: &str) -> u32 {
-    if let Some(Value::Table(own)) = times
-        && let Some(number) = own_time(own, one, other)
-    {
-        return TIMES.number(number).unwrap_or(USUAL);
-    }
-    usual_time(times)
-}
-
-/// The times of the steps of a route.
+/// The times of the steps of a route; in place of one that is out of range, which is reported, the least that there is.
 pub(crate) fn times_of(
     alloc: Global,
-    times: Option<&Value>,
-    route: &[Value],
+    said: Option<&Value>,
+    route: &[String],
     exits: bool,
 ) -> Result<TrainTimes, AllocError> {
-    let mut found = Vec::new(alloc);
-    for pair in route.windows(2) {
-        if let [one, other] = pair {
-            found.push(step_time(times, text_of(one), text_of(other)))?;
-        }
-    }
-    if exits {
-        found.push(usual_time(times))?;
-    }
-    Ok(TrainTimes::from(found))
+    let said = times_said(alloc, said, route, exits)?;
+    let times: Vec<u32> = said
+        .iter()
+        .map(|time| TIMES.number(*time).unwrap_or(TIMES.least))
+        .collect(alloc)?;
+    Ok(TrainTimes::from(times))
 }

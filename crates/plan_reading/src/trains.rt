@@ -157,9 +157,10 @@ fn add_train(
     let route = service.route();
     let exits = service.exits();
     check_times(faults, &service.entry(), points, route);
+    let names = copied(alloc, route)?;
     plan.times
-        .push(times_of(alloc, service.times(), route, exits)?)?;
-    plan.routes.push(copied(alloc, route)?)?;
+        .push(times_of(alloc, service.times(), &names, exits)?)?;
+    plan.routes.push(names)?;
     plan.exits.push(exits)?;
     Ok(())
 }

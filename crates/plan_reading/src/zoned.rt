@@ -1,0 +1,92 @@
+// Whether points are in the zones that a text puts them into.
+ghost use Rattle.std.specs.Prelude.{◌≡◌, ◌<◌, decimal, option_map};
+ghost use Rattle.std.specs.List.{list_any};
+ghost use Rattle.toml.specs.View.{items_view, view};
+ghost use Rattle.plan_reading.specs.Agreeing.{is_name as is_name_of};
+ghost use Rattle.plan_reading.specs.Zoned as spec;
+
+use toml::Value;
+
+// The numbers of the zones, as they are written.
+const NUMBERS: [&str; 16] = [
+    "0", "1", "2", "3", "4", "5", "6", "7", "8", "9", "10", "11", "12", "13", "14", "15",
+];
+
+// The number of a zone, as it is written.
+fn number_of(zone: u32) -> &'static str
+    requires { zone < 16 }
+    ensures { result.now ≡ decimal zone }
+{
+    NUMBERS[zone as usize]
+}
+
+/// The zone whose number is this text.
+#[tactic(auto, using(crate::proofs::Numbered::first_turn, crate::proofs::Numbered::first_end))]
+pub(crate) fn zone_named(text: &str) -> Option<u32>
+    ensures { result ≡ spec.zone_named text.now }
+{
+    for zone in 0..16u32 {
+        if text == number_of(zone) {
+            return Some(zone);
+        }
+    }
+    None
+}
+
+// Whether a value is the name of a point.
+fn is_name(value: &Value, point: &String) -> bool
+    ensures { result ≡ is_name_of (view value.now) point.now }
+{
+    match value.as_str() {
+        Some(name) => name == point.as_str(),
+        None => false,
+    }
+}
+
+// Whether one of these values is the name of a point.
+fn has_name(values: &[Value], point: &String) -> bool
+    ensures { result ≡ list_any (λ v. is_name_of (view v) point.now) values.now }
+{
+    values.iter().any(|value| is_name(value, point))
+}
+
+// The list of a zone.
+fn list_of(zones: Option<&Value>, zone: u32) -> Option<&[Value]>
+    requires { zone < 16 }
+    ensures { option_map (λ values. items_view values.now) result ≡ spec.list_of (option_map (λ v. view v.now) zones.entry) zone }
+{
+    Some(zones?.get(number_of(zone))?.as_array()?.as_slice())
+}
+
+// Whether the list of a zone has a point.
+fn lists(zones: Option<&Value>, zone: u32, point: &String) -> bool
+    requires { zone < 16 }
+    ensures { result ≡ spec.lists (spec.list_of (option_map (λ v. view v.now) zones.entry) zone) point.now }
+{
+    match list_of(zones, zone) {
+        Some(values) => has_name(values, point),
+        None => false,
+    }
+}
+
+// The zone of a point: 0, if no list has it.
+#[tactic(auto, using(crate::proofs::Numbered::first_turn, crate::proofs::Numbered::first_end))]
+fn zone_of(zones: Option<&Value>, point: &String) -> u32
+    ensures { result ≡ spec.zone_of (option_map (λ v. view v.now) zones.entry) point.now }
+{
+    for zone in 1..16u32 {
+        if lists(zones, zone, point) {
+            return zone;
+        }
+    }
+    0
+}
+
+/// Whether each of these points has the zone that it is put into.
+pub(crate) fn are_zoned(zones: Option<&Value>, points: &[(String, u32)]) -> bool
+    ensures { result ≡ spec.are_zoned (option_map (λ v. view v.now) zones.entry) points.now }
+{
+    points
+        .iter()
+        .all(|(point, zone)| *zone == zone_of(zones, point))
+}
