@@ -1,6 +1,12 @@
 mod Compared
+mod Digits
+mod Entries
+mod HeldRows
 mod Numbered
+mod OnePlace
+mod PlaceRows
 mod Rows
 mod Steps
+mod Texts
 mod TimeRows
 mod ZoneRows

@@ -1,4 +1,6 @@
 pub mod Agreeing
+pub mod Held
+pub mod Places
 pub mod Said
 pub mod Timed
 pub mod Zoned

@@ -4,8 +4,10 @@
 mod agreement;
 mod connections;
 mod ground;
+mod held;
 mod matching;
 mod names;
+mod placed;
 mod ranges;
 mod reading;
 mod routes;

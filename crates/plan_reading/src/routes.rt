@@ -65,14 +65,22 @@ pub(crate) fn point_of(name: &str) -> &str {
     }
 }
 
+// A count in decimal, from 1 on, with no sign and no leading zero.
+fn count_of(text: &str) -> Option<usize> {
+    match text.as_bytes() {
+        [b'1'..=b'9', ..] => text.parse::<usize>().ok(),
+        _ => None,
+    }
+}
+
 // The place at which a point comes for this time, counted from 1.
 fn counted_place(route: &[String], point: &str, count: &str) -> Spot {
-    match count.parse::<usize>() {
-        Ok(count) if 0 < count => match nth_place(route, point, count.saturating_sub(1)) {
+    match count_of(count) {
+        Some(count) => match nth_place(route, point, count.saturating_sub(1)) {
             Some(place) => Spot::At(place),
             None => Spot::Nowhere,
         },
-        _ => Spot::Nowhere,
+        None => Spot::Nowhere,
     }
 }
 
