@@ -2,6 +2,7 @@ mod Compared
 mod Digits
 mod Entries
 mod HeldRows
+mod Named
 mod Numbered
 mod OnePlace
 mod PlaceRows

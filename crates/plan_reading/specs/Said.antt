@@ -1,88 +1,136 @@
 -- What a text says of a plan, and what it is to read it right.
-use Rattle.std.specs.Prelude.{◌≡◌, ◌<◌, ℕ, List, [], ◌∷◌, length, zip, ◌==◌, ◌&&◌, codes, Bool, true, not, if◌then◌else◌, String, Vec, vec_len, Option, Some, None, option_and_then, slice_get, IsSomeAnd, IsUtf8}
+use Rattle.std.specs.Prelude.{◌≡◌, ◌<◌, ℕ, zero, suc, List, length, ◌==◌, ◌&&◌, ◌||◌, ◌-◌, nat_lt, codes, Bool, true, false, if◌then◌else◌, String, Vec, vec_len, Option, Some, None, option_and_then, unwrap_or, slice_get, slice_index_or, IsSomeAnd, IsTrue, IsUtf8}
+use Rattle.std.specs.List.{list_all, list_any}
+use Rattle.std.specs.Option.{ForSome, option_or}
 use Rattle.std.specs.declared.alloc.Global.{Global}
-use Rattle.toml.specs.Data.{Data, Items, no_items, Members, get_member, get, as_array}
+use Rattle.toml.specs.Data.{Data, Items, no_items, item, Members, get_member, get_item, as_array}
 use Rattle.toml.specs.Parse.{parse_document}
-use Rattle.toml.specs.declared.value.Value.{Value}
-use Rattle.plan_reading.specs.Agreeing.{agree_all, agree_beside, text_at, number_at, is_text, is_number, are_names, exits, names_place, names_train, starts_at}
 use Rattle.plan_document.specs.Nothing.{points_of}
 use Rattle.plan_document.specs.declared.plan.Plan.{Plan}
 use Rattle.plan_document.specs.declared.plan.TablePlan.{TablePlan}
-use Rattle.plan_document.specs.declared.plan.SectionPlan.{SectionPlan}
 use Rattle.plan_document.specs.declared.plan.Wait.{Wait}
+use Rattle.plan_reading.specs.Agreeing.{agree_all, value_at, text_at, list_at, is_named, is_route, is_exit, names_place, names_train, starts_at, is_due}
+use Rattle.plan_reading.specs.Held.{is_section}
+use Rattle.plan_reading.specs.Timed.{are_times}
+use Rattle.plan_reading.specs.Zoned.{are_zoned}
 use Rattle.plan_reading.specs.declared.reading.PlanRead.{PlanRead}
 
--- these items; none, if there are no items
-abbrev pub items_or_none : Option Items → Items
-items_or_none None = no_items
-items_or_none (Some items) = items
-
--- the entries of the list at a key
+-- the entries of the list at a key of a text
 abbrev pub entries_at : List ℕ → Members → Items
-entries_at key top = items_or_none (option_and_then as_array (get_member key top))
+entries_at key text = unwrap_or (option_and_then as_array (get_member key text)) no_items
 
--- whether an entry has this name
-abbrev pub is_named : Data → String Global → Bool
-is_named entry name = is_text (text_at (codes "name") entry) name
+-- the entries that hold in a table: its own list at a key, or else that of the text
+abbrev pub entries_in : List ℕ → Members → Option Data → Items
+entries_in key text own = unwrap_or (list_at key own) (entries_at key text)
 
--- whether an entry has this route
-abbrev pub is_routed : Data → Vec (String Global) Global → Bool
-is_routed entry route = are_names (option_and_then as_array (get (codes "route") entry)) route.items
+-- what table k says itself, where these are the entries of the further tables: the first says nothing
+abbrev pub own_of : Items → ℕ → Option Data
+own_of further zero = None
+own_of further (suc k) = get_item k further
 
--- whether an entry exits exactly if this says so
-abbrev pub is_exit : Data → Bool → Bool
-is_exit entry exit = if exit then exits entry else not (exits entry)
+-- the first of these entries that has this name
+abbrev pub first_named : Items → String Global → Option Data
+first_named no_items name = None
+first_named (item d ds) name = if is_named d name then Some d else first_named ds name
 
--- whether the train of an entry starts at this place of this route
-abbrev pub is_start : Data → (Vec (String Global) Global × ℕ) → Bool
-is_start entry at = starts_at (text_at (codes "start") entry) at.0.items at.1
+-- what a table says itself of a train, if the train has a name
+abbrev pub change_of : Option Data → Option (String Global) → Option Data
+change_of own name = option_and_then (first_named (unwrap_or (list_at (codes "train") own) no_items)) name
 
--- whether an entry has the limit of this section
-abbrev pub is_limited : Data → SectionPlan → Bool
-is_limited entry section = is_number (number_at (codes "limit") entry) section.limit
+-- this holds of each train of a plan
+abbrev pub EachTrain : Plan → (ℕ → Bool) → Type 0
+EachTrain plan t = (train : ℕ) → train < length plan.trains.items → IsTrue (t train)
 
--- the point of a train's place, if it has one there
-abbrev pub point_of : List (Vec (String Global) Global) → ℕ → ℕ → Option (String Global)
-point_of routes train place = slice_get (points_of (slice_get routes train)) place
+-- what is said of a train at a key: what its table changes there, or else what its entry in the text has
+abbrev pub said_at : List ℕ → Option Data → Option Data → Option Data
+said_at key change entry = option_or (value_at key change) (value_at key entry)
 
--- whether an entry names the trains and the points of this wait
+-- the route of a train in a table, and whether it exits after it
+abbrev pub route_in : TablePlan → ℕ → List (String Global)
+route_in t train = points_of (slice_get t.routes.items train)
+
+abbrev pub exits_in : TablePlan → ℕ → Bool
+exits_in t train = slice_index_or t.exits.items train false
+
+-- whether there are times, and they are those that are said for a route
+abbrev pub has_times : Option Data → List (String Global) → Bool → Option (List ℕ) → Bool
+has_times said route exits None = false
+has_times said route exits (Some times) = are_times said route exits times
+
+-- whether a train goes in a table as is said of it: its route, its exit and its times
+abbrev pub goes_as_said : Option Data → Option Data → TablePlan → ℕ → Bool
+goes_as_said change entry t train =
+    is_route (said_at (codes "route") change entry) (route_in t train)
+    && is_exit (said_at (codes "exit") change entry) (exits_in t train)
+    && has_times (said_at (codes "times") change entry) (route_in t train) (exits_in t train) (slice_get t.times.items train)
+
+-- whether a train of a plan goes in a table as the table says itself, or else the entry of the train
+abbrev pub goes_right : Items → Option Data → Plan → TablePlan → ℕ → Bool
+goes_right entries own plan t train = goes_as_said (change_of own (slice_get plan.trains.items train)) (get_item train entries) t train
+
+-- whether a table has a route, an exit and times for each train of a plan, and no more
+abbrev pub is_complete : Plan → TablePlan → Bool
+is_complete plan t =
+    (length t.routes.items == length plan.trains.items)
+    && (length t.exits.items == length plan.trains.items)
+    && (length t.times.items == length plan.trains.items)
+
+-- whether an entry names the trains and the places of this wait
 abbrev pub is_wait : List (String Global) → List (Vec (String Global) Global) → Data → Wait → Bool
 is_wait trains routes entry w =
     names_train (text_at (codes "train") entry) (slice_get trains w.train)
-    && names_place (text_at (codes "leaves") entry) (point_of routes w.train w.leaves)
+    && names_place (text_at (codes "leaves") entry) (points_of (slice_get routes w.train)) w.leaves
     && names_train (text_at (codes "after") entry) (slice_get trains w.after)
-    && names_place (text_at (codes "reached") entry) (point_of routes w.after w.reached)
+    && names_place (text_at (codes "reached") entry) (points_of (slice_get routes w.after)) w.reached
 
--- whether an entry is due after as many moves as this table
-abbrev pub is_due : Data → TablePlan → Bool
-is_due entry t = is_number (number_at (codes "after") entry) t.after
+-- a table of a plan agrees with a text and with what the table says itself: in its trains, its sections and its connections, and in when it is due
+pub record AgreesIn (text : Members) (own : Option Data) (plan : Plan) (t : TablePlan) : Type 0 where
+  pub complete : is_complete plan t ≡ true
+  pub trains : EachTrain plan (goes_right (entries_at (codes "train") text) own plan t)
+  pub sections : agree_all (is_section plan.points.items plan.trains.items t.routes.items) (entries_in (codes "section") text own) t.sections.items ≡ true
+  pub connections : agree_all (is_wait plan.trains.items t.routes.items) (entries_in (codes "connection") text own) t.waits.items ≡ true
+  pub due : is_due own t.after ≡ true
 
--- whether the trains of these values start at these places of their routes, and there are as many
-abbrev pub agree_starts : List Value → List (Vec (String Global) Global) → List ℕ → Bool
-agree_starts vs routes places = (length places == length routes) && (length vs == length routes) && agree_beside is_start vs (zip routes places)
+-- how many entries there are
+abbrev pub count_of : Items → ℕ
+count_of no_items = 0
+count_of (item d ds) = suc (count_of ds)
 
--- a first table has the routes and the exits of a text, its sections with their limits, and its connections; the trains start there where the text says
-pub record AgreesFirst (text : Members) (plan : Plan) (first : TablePlan) : Type 0 where
-  pub routes : agree_all is_routed (entries_at (codes "train") text) first.routes.items ≡ true
-  pub leave : agree_all is_exit (entries_at (codes "train") text) first.exits.items ≡ true
-  pub as_many : length plan.start.items ≡ length first.routes.items
-  pub starts : agree_all is_start (entries_at (codes "train") text) (zip first.routes.items plan.start.items) ≡ true
-  pub sections : agree_all is_limited (entries_at (codes "section") text) first.sections.items ≡ true
-  pub connections : agree_all (is_wait plan.trains.items first.routes.items) (entries_at (codes "connection") text) first.waits.items ≡ true
+-- the tables of a plan are the first, and one for each of these entries of further tables; each agrees with the text and with what it says itself
+pub record TablesAsSaid (text : Members) (further : Items) (plan : Plan) : Type 0 where
+  pub as_many : length plan.tables.items ≡ suc (count_of further)
+  pub each : (k : ℕ) → ForSome (slice_get plan.tables.items k) (AgreesIn text (own_of further k) plan)
 
--- there are tables: the first is this, and those after it are that
-abbrev pub InTables : List TablePlan → (TablePlan → List TablePlan → Type 0) → Type 0
-InTables [] P = ⊥
-InTables (first ∷ later) P = P first later
+-- whether a train of a plan starts, under the first table, at the place that its entry says
+abbrev pub starts_right : Items → Plan → TablePlan → ℕ → Bool
+starts_right entries plan first train =
+    starts_at (option_and_then (text_at (codes "start")) (get_item train entries)) (route_in first train) (slice_index_or plan.start.items train 0)
 
--- the first table of a plan agrees with a text, and the later ones are due when the text says
-abbrev pub AgreesInTables : Members → Plan → TablePlan → List TablePlan → Type 0
-AgreesInTables text plan first later = AgreesFirst text plan first × (agree_all is_due (entries_at (codes "table") text) later ≡ true)
+-- the trains of a plan start, under the first table, where their entries say
+pub record StartAsSaid (entries : Items) (plan : Plan) (first : TablePlan) : Type 0 where
+  pub as_many : length plan.start.items ≡ length plan.trains.items
+  pub places : EachTrain plan (starts_right entries plan first)
 
--- a plan has the trains of a text, in order, by their names; its first table agrees with the text, and the others are due when the text says
+-- whether each of these points is in one of so many zones, counted from 0
+abbrev pub are_within : List (String Global × ℕ) → ℕ → Bool
+are_within points zones = list_all (λ p. nat_lt p.1 zones) points
+
+-- whether one of these points is in this zone
+abbrev pub is_used : List (String Global × ℕ) → ℕ → Bool
+is_used points zone = list_any (λ p. p.1 == zone) points
+
+-- whether there are exactly as many zones as these points need: the last is zone 0, or one of the points is in it
+abbrev pub has_zones : List (String Global × ℕ) → ℕ → Bool
+has_zones points zones = nat_lt 0 zones && are_within points zones && (zones == 1 || is_used points (zones - 1))
+
+-- a plan is what a text says: it has the text's trains, in order, by their names, and starts them where it says; its points are in the zones that it
+-- says; and its tables are as it says. This leaves out the links, and which points there are and in which order
 pub record IsPlanOf (text : Members) (plan : Plan) : Type 0 where
   pub trains : agree_all is_named (entries_at (codes "train") text) plan.trains.items ≡ true
-  pub tables : InTables plan.tables.items (AgreesInTables text plan)
+  pub starts : ForSome (slice_get plan.tables.items 0) (StartAsSaid (entries_at (codes "train") text) plan)
+  pub zoned : are_zoned (get_member (codes "zones") text) plan.points.items ≡ true
+  pub zones : has_zones plan.points.items plan.zones ≡ true
+  pub tables : TablesAsSaid text (entries_at (codes "table") text) plan
 
 -- a table of keys is read right: as a plan that agrees with it, or with one fault at least
 abbrev pub IsReading : Members → PlanRead → Type 0

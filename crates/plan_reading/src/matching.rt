@@ -1,15 +1,17 @@
-// Whether an entry of a text is what a plan has of it.
-ghost use Rattle.std.specs.Prelude.{◌≡◌, option_copied, slice_get, string_bytes};
-ghost use Rattle.toml.specs.View.{view};
-ghost use Rattle.plan_reading.specs.Agreeing.{Tells, agree_values, exits as exits_of, is_name as is_name_of, is_number as is_number_of, is_text as is_text_of, names_place as names_place_of, names_point as names_point_of, names_train as names_train_of, number_at as number_of, text_at as text_of};
-ghost use Rattle.plan_reading.specs.Said as spec;
+// Whether what a text says is what a plan has.
+ghost use Rattle.std.specs.Prelude.{◌≡◌, option_copied, option_map, slice_get};
+ghost use Rattle.toml.specs.View.{items_view, view};
+ghost use Rattle.plan_reading.specs.Agreeing as spec;
+ghost use Rattle.plan_reading.specs.Agreeing.{Tells, agree_values, seen};
+ghost use Rattle.plan_reading.specs.Said.{is_wait as is_wait_of};
 
-use plan_document::{SectionPlan, TablePlan, Wait};
+use crate::placed::is_place;
+use plan_document::{TablePlan, Wait};
 use toml::Value;
 
-// The text at a key of an entry, if it has one.
-fn text_at<'t>(entry: &'t Value, key: &str) -> Option<&'t str>
-    ensures { option_copied result ≡ text_of key.now (view entry.now) }
+/// The text at a key of an entry, if it has one.
+pub(crate) fn text_at<'t>(entry: &'t Value, key: &str) -> Option<&'t str>
+    ensures { option_copied result ≡ spec.text_at key.now (view entry.now) }
 {
     match entry.get(key) {
         Some(text) => text.as_str(),
@@ -19,7 +21,7 @@ fn text_at<'t>(entry: &'t Value, key: &str) -> Option<&'t str>
 
 // The number at a key of an entry, if it has one.
 fn number_at(entry: &Value, key: &str) -> Option<i64>
-    ensures { result ≡ number_of key.now (view entry.now) }
+    ensures { result ≡ spec.number_at key.now (view entry.now) }
 {
     match entry.get(key) {
         Some(number) => number.as_integer(),
@@ -27,9 +29,29 @@ fn number_at(entry: &Value, key: &str) -> Option<i64>
     }
 }
 
+/// What is said at a key.
+pub(crate) fn value_at<'t>(said: Option<&'t Value>, key: &str) -> Option<&'t Value>
+    ensures { seen result ≡ spec.value_at key.now (seen said.entry) }
+{
+    match said {
+        Some(said) => said.get(key),
+        None => None,
+    }
+}
+
+/// The list at a key.
+pub(crate) fn list_at<'t>(said: Option<&'t Value>, key: &str) -> Option<&'t [Value]>
+    ensures { option_map (λ list. items_view list.now) result ≡ spec.list_at key.now (seen said.entry) }
+{
+    match value_at(said, key)?.as_array() {
+        Some(list) => Some(list.as_slice()),
+        None => None,
+    }
+}
+
 // Whether a text is this name.
 fn is_text(said: Option<&str>, name: &String) -> bool
-    ensures { result ≡ is_text_of (option_copied said.entry) name.now }
+    ensures { result ≡ spec.is_text (option_copied said.entry) name.now }
 {
     match said {
         Some(said) => said == name.as_str(),
@@ -39,7 +61,7 @@ fn is_text(said: Option<&str>, name: &String) -> bool
 
 // Whether a number is this one.
 fn is_number(said: Option<i64>, number: u32) -> bool
-    ensures { result ≡ is_number_of said number }
+    ensures { result ≡ spec.is_number said number }
 {
     match said {
         Some(said) => said == i64::from(number),
@@ -54,35 +76,31 @@ pub(crate) fn is_named(entry: &Value, name: &String) -> bool
     is_text(text_at(entry, "name"), name)
 }
 
-/// Whether an entry has the limit of this section.
-pub(crate) fn is_limited(entry: &Value, section: &SectionPlan) -> bool
-    ensures { result ≡ spec.is_limited (view entry.now) section.now }
+/// Whether a table that says this itself is due after as many moves: the first, which says nothing, at once.
+pub(crate) fn is_due(own: Option<&Value>, after: u32) -> bool
+    ensures { result ≡ spec.is_due (seen own.entry) after }
 {
-    is_number(number_at(entry, "limit"), section.limit)
+    match own {
+        Some(own) => is_number(number_at(own, "after"), after),
+        None => after == 0,
+    }
 }
 
-/// Whether an entry is due after as many moves as this table.
-pub(crate) fn is_due(entry: &Value, table: &TablePlan) -> bool
-    ensures { result ≡ spec.is_due (view entry.now) table.now }
+// Whether a train of which this is said exits: not, if nothing is said.
+fn exits(said: Option<&Value>) -> bool
+    ensures { result ≡ spec.exits (seen said.entry) }
 {
-    is_number(number_at(entry, "after"), table.after)
-}
-
-// Whether an entry exits: not, if it doesn't say.
-fn exits(entry: &Value) -> bool
-    ensures { result ≡ exits_of (view entry.now) }
-{
-    match entry.get("exit") {
+    match said {
         Some(exit) => exit.as_bool().unwrap_or(false),
         None => false,
     }
 }
 
-/// Whether an entry exits exactly if this says so.
-pub(crate) fn is_exit(entry: &Value, exit: &bool) -> bool
-    ensures { result ≡ spec.is_exit (view entry.now) exit.now }
+/// Whether a train exits exactly if this says so.
+pub(crate) fn is_exit(said: Option<&Value>, exit: bool) -> bool
+    ensures { result ≡ spec.is_exit (seen said.entry) exit }
 {
-    if *exit { exits(entry) } else { !exits(entry) }
+    if exit { exits(said) } else { !exits(said) }
 }
 
 /// Whether there are as many of these as values, and each is what this says of its value.
@@ -103,69 +121,55 @@ pub(crate) fn agree<T, F: Fn(&Value, &T) -> bool + Copy>(
 
 // Whether a value is this name.
 fn is_name(value: &Value, name: &String) -> bool
-    ensures { result ≡ is_name_of (view value.now) name.now }
+    ensures { result ≡ spec.is_name (view value.now) name.now }
 {
     is_text(value.as_str(), name)
 }
 
 // Whether these are the names.
 fn are_names(values: &[Value], names: &[String]) -> bool
-    ensures { result ≡ agree_values is_name_of values.now names.now }
+    ensures { result ≡ agree_values spec.is_name values.now names.now }
 {
     agree(values, names, is_name)
 }
 
-/// Whether an entry has this route.
+/// Whether what is said of a train's route is this route.
 #[tactic(auto, using(crate::proofs::Compared::agreed_is))]
-pub(crate) fn is_routed(entry: &Value, route: &Vec<String>) -> bool
-    ensures { result ≡ spec.is_routed (view entry.now) route.now }
-{
-    match entry.get("route") {
-        Some(names) => match names.as_array() {
-            Some(names) => are_names(names.as_slice(), route.as_slice()),
-            None => false,
-        },
-        None => false,
-    }
-}
-
-// Whether a text names a point: by its name, or by its name and `#` and how many times it has come.
-fn names_point(said: &str, point: &String) -> bool
-    ensures { result ≡ names_point_of said.now (string_bytes point.now) }
-{
-    match said.as_bytes().strip_prefix(point.as_bytes()) {
-        Some([]) => true,
-        Some([first, ..]) => *first == b'#',
-        None => false,
-    }
-}
-
-// Whether a text names the point of a place on a route.
-fn names_place(said: Option<&str>, route: &[String], place: u32) -> bool
-    ensures { result ≡ names_place_of (option_copied said.entry) (slice_get route.now place) }
+pub(crate) fn is_route(said: Option<&Value>, route: &[String]) -> bool
+    ensures { result ≡ spec.is_route (seen said.entry) route.now }
 {
     match said {
-        Some(said) => match route.get(place as usize) {
-            Some(point) => names_point(said, point),
+        Some(names) => match names.as_array() {
+            Some(names) => are_names(names.as_slice(), route),
             None => false,
         },
         None => false,
     }
 }
 
-/// Whether the train of an entry starts at a place of its route: at one whose point it names, or else at the first.
-pub(crate) fn is_start(entry: &Value, route: &Vec<String>, place: u32) -> bool
-    ensures { result ≡ spec.is_start (view entry.now) (route.now, place) }
+// Whether a text names this place of a route.
+fn names_place(said: Option<&str>, route: &[String], place: u32) -> bool
+    ensures { result ≡ spec.names_place (option_copied said.entry) route.now place }
 {
-    match text_at(entry, "start") {
-        Some(said) => names_place(Some(said), route.as_slice(), place),
+    match said {
+        Some(said) => is_place(said, route, place as usize),
+        None => false,
+    }
+}
+
+/// Whether a train that says this of its start starts at this place of its route: at the place that it names, or else at the first.
+pub(crate) fn starts_at(said: Option<&str>, route: &[String], place: u32) -> bool
+    ensures { result ≡ spec.starts_at (option_copied said.entry) route.now place }
+{
+    match said {
+        Some(said) => is_place(said, route, place as usize),
         None => place == 0,
     }
 }
 
 // Whether a text is the name of a train.
 fn names_train(said: Option<&str>, trains: &[String], train: u32) -> bool
-    ensures { result ≡ names_train_of (option_copied said.entry) (slice_get trains.now train) }
+    ensures { result ≡ spec.names_train (option_copied said.entry) (slice_get trains.now train) }
 {
     match trains.get(train as usize) {
         Some(train) => is_text(said, train),
@@ -173,12 +177,12 @@ fn names_train(said: Option<&str>, trains: &[String], train: u32) -> bool
     }
 }
 
-/// Whether an entry names the trains and the points of this wait.
-pub(crate) fn is_wait(entry: &Value, wait: &Wait, trains: &[String], first: &TablePlan) -> bool
-    ensures { result ≡ spec.is_wait trains.now first.now.routes.items (view entry.now) wait.now }
+/// Whether an entry names the trains and the places of this wait.
+pub(crate) fn is_wait(entry: &Value, wait: &Wait, trains: &[String], table: &TablePlan) -> bool
+    ensures { result ≡ is_wait_of trains.now table.now.routes.items (view entry.now) wait.now }
 {
-    let leaver = first.route(wait.train as usize);
-    let other = first.route(wait.after as usize);
+    let leaver = table.route(wait.train as usize);
+    let other = table.route(wait.after as usize);
     names_train(text_at(entry, "train"), trains, wait.train)
         && names_place(text_at(entry, "leaves"), leaver, wait.leaves)
         && names_train(text_at(entry, "after"), trains, wait.after)

@@ -78,7 +78,7 @@ fn read_table(alloc: Global, text: &str, table: &Table) -> Result<PlanRead, Allo
     let top = Entry::part(Kind::Top, Some(table));
     check_types(&mut faults, &top);
     let plan = plan_of(alloc, &mut faults, &top)?;
-    if faults.is_empty() && agrees(table, &plan) {
+    if faults.is_empty() && agrees(alloc, table, &plan)? {
         return Ok(PlanRead::Plan(plan));
     }
     Ok(PlanRead::Faults(all_faults(alloc, faults)?))
@@ -104,6 +104,9 @@ fn read_table(alloc: Global, text: &str, table: &Table) -> Result<PlanRead, Allo
 /// - A table is a further one, in force after `after` moves at the earliest. Its `train` lists trains with what differs from
 ///   the first table: `route`, `exit`, `times`. Its `section` and `connection`, if there are any, replace those of the first
 ///   table, which else hold by the names of their points.
+///
+/// A plan that is given has been compared with the text once more, and is what it says in all of this but the links, and
+/// which points there are and in which order.
 pub fn read_plan(alloc: Global, text: &[u8]) -> Result<PlanRead, AllocError>
     ensures { IfOk result (IsPlanRead text.now) }
 {

@@ -1,4 +1,4 @@
-use Rattle.plan_reading.specs.Said.{is_named}
+use Rattle.plan_reading.specs.Agreeing.{is_named}
 use Rattle.plan_reading.proofs.agreement.are_named.Goals as goal
 
 pub returns : goal.returns
