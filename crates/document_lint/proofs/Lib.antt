@@ -1,2 +1,3 @@
 pub mod Extremes
+mod Kept
 mod Rows

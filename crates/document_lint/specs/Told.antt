@@ -47,6 +47,22 @@ HoldsNobody start c = StartsFrom start c.other c.reached ⊎ StartsPast start c.
 abbrev pub IsKeptSection : Doc → ℕ → Table → ℕ → Type 0
 IsKeptSection D t former s = (t < length D.tables) × Contains (table_at D t).sections (section former s)
 
+-- Table t of the document has all sections of the former document's table t.
+abbrev pub KeepsTable : Doc → ℕ → Table → Type 0
+KeepsTable D t former = (s : ℕ) → s < length former.sections → IsKeptSection D t former s
+
+-- Each table of the former document has its sections in the table of the same number.
+abbrev pub KeepsSections : Doc → Doc → Type 0
+KeepsSections D former = (t : ℕ) → t < length former.tables → KeepsTable D t (table_at former t)
+
+-- If the former bytes are a document, the document keeps its sections.
+abbrev pub KeepsFormer : Doc → List ℕ → Type 0
+KeepsFormer D former = (F : Doc) → doc_of former ≡ Ok F → KeepsSections D F
+
+-- If both are documents, no section of the former one is gone.
+abbrev pub LosesNoSection : List ℕ → List ℕ → Type 0
+LosesNoSection bytes former = (D : Doc) → doc_of bytes ≡ Ok D → KeepsFormer D former
+
 -- Under each table before table t all trains have arrived after fewer moves than table t is due after.
 abbrev pub IsNeverDue : Doc → ℕ → Type 0
 IsNeverDue D t = (earlier : ℕ) → earlier < t → remaining (table_at D earlier) D.start < (doc_table D t).after

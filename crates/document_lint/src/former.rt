@@ -1,7 +1,7 @@
 // Sections of a former document that are gone.
-ghost use Rattle.std.specs.Prelude.{◌<◌, ◌≤◌, ◌↔◌, IsTrue, length};
+ghost use Rattle.std.specs.Prelude.{◌<◌, ◌≤◌, ◌⊎◌, ◌↔◌, IsTrue, length};
 ghost use Rattle.rail_model.specs.Table.{trains, last};
-ghost use Rattle.document_lint.specs.Told.{IsKeptSection, SaysOnlyWhere};
+ghost use Rattle.document_lint.specs.Told.{IsKeptSection, IsTold, KeepsSections, KeepsTable, SaysOnlyWhere};
 
 use crate::exact::most;
 use crate::remark::Remarks;
@@ -47,6 +47,7 @@ fn say_train(remarks: &mut Remarks, subject: &Subject, section: u32, train: u32)
 // Adds that a section of the former document is gone.
 fn add_gone(remarks: &mut Remarks, former: &Subject, section: u32)
     requires { section < length former.now.table.now.sections }
+    ensures { IsTold remarks.new }
 {
     let limit = limit_of(former.table, section);
     let written = write!(remarks.words, "gone: limit {limit}");
@@ -70,7 +71,9 @@ fn is_kept(doc: &Doc, former: &Subject, section: u32) -> bool
 // Adds that a section of the former document is gone, if it is.
 fn add_if_gone(remarks: &mut Remarks, doc: &Doc, former: &Subject, section: u32)
     requires { section < length former.now.table.now.sections }
-    ensures { SaysOnlyWhere (IsKeptSection doc.now former.now.number former.now.table.now section → ⊥) remarks.old remarks.new }
+    ensures only { SaysOnlyWhere (IsKeptSection doc.now former.now.number former.now.table.now section → ⊥) remarks.old remarks.new }
+    ensures still { IsTold remarks.old → IsTold remarks.new }
+    ensures kept { IsTold remarks.new ⊎ IsKeptSection doc.now former.now.number former.now.table.now section }
 {
     if is_kept(doc, former, section) {
         return;
@@ -78,12 +81,22 @@ fn add_if_gone(remarks: &mut Remarks, doc: &Doc, former: &Subject, section: u32)
     add_gone(remarks, former, section);
 }
 
+// Adds which sections of a table of the former document are gone.
+fn add_all_gone(remarks: &mut Remarks, doc: &Doc, former: &Subject)
+    ensures still { IsTold remarks.old → IsTold remarks.new }
+    ensures kept { IsTold remarks.new ⊎ KeepsTable doc.now former.now.number former.now.table.now }
+{
+    for section in 0..sections_of(former.table) {
+        add_if_gone(remarks, doc, former, section);
+    }
+}
+
 /// Adds which sections of the former document are in no table of the same number.
-pub(crate) fn add_former(remarks: &mut Remarks, doc: &Doc, former: &Doc) {
+pub(crate) fn add_former(remarks: &mut Remarks, doc: &Doc, former: &Doc)
+    ensures still { IsTold remarks.old → IsTold remarks.new }
+    ensures kept { IsTold remarks.new ⊎ KeepsSections doc.now former.now }
+{
     for table in 0..tables_of(former) {
-        let subject = subject_of(former, table);
-        for section in 0..sections_of(subject.table) {
-            add_if_gone(remarks, doc, &subject, section);
-        }
+        add_all_gone(remarks, doc, &subject_of(former, table));
     }
 }

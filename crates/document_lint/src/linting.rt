@@ -1,6 +1,6 @@
 // All remarks on a document.
 ghost use Rattle.std.specs.Prelude.{◌≡◌, ◌⊎◌, [], IfOk, IfErr};
-ghost use Rattle.document_lint.specs.Told.{AreDocument, IsTold};
+ghost use Rattle.document_lint.specs.Told.{AreDocument, IsTold, KeepsFormer, KeepsSections, LosesNoSection};
 
 use crate::afters::add_afters;
 use crate::former::add_former;
@@ -130,8 +130,9 @@ fn add_changes(
     read: &Result<Doc, DocRefused>,
     former: &Result<Doc, DocRefused>,
 )
-    ensures still { IsTold remarks.old → IfErr read.now (λ refused. IsTold remarks.new) }
+    ensures still { IsTold remarks.old → IsTold remarks.new }
     ensures former { IfErr former.now (λ refused. IsTold remarks.new) }
+    ensures kept { IfOk read.now (λ doc. IfOk former.now (λ former. IsTold remarks.new ⊎ KeepsSections doc former)) }
 {
     match former {
         Ok(former) => if let Ok(doc) = read {
@@ -151,8 +152,9 @@ fn add_document(remarks: &mut Remarks, bytes: &[u8])
 
 // Adds what a document that was read or refused so has lost since a former one.
 fn add_comparison(remarks: &mut Remarks, read: &Result<Doc, DocRefused>, former: &[u8])
-    ensures still { IsTold remarks.old → IfErr read.now (λ refused. IsTold remarks.new) }
+    ensures still { IsTold remarks.old → IsTold remarks.new }
     ensures former { IsTold remarks.new ⊎ AreDocument former.now }
+    ensures kept { IfOk read.now (λ doc. IsTold remarks.new ⊎ KeepsFormer doc former.now) }
 {
     let read_former = document(remarks.alloc(), former);
     add_changes(remarks, read, &read_former);
@@ -162,6 +164,7 @@ fn add_comparison(remarks: &mut Remarks, read: &Result<Doc, DocRefused>, former:
 fn add_both(remarks: &mut Remarks, bytes: &[u8], former: &[u8])
     ensures document { IsTold remarks.new ⊎ AreDocument bytes.now }
     ensures former { IsTold remarks.new ⊎ AreDocument former.now }
+    ensures kept { IsTold remarks.new ⊎ LosesNoSection bytes.now former.now }
 {
     let read = document(remarks.alloc(), bytes);
     add_all(remarks, bytes, &read);
@@ -181,6 +184,7 @@ pub fn lint(alloc: Global, bytes: &[u8]) -> Result<Vec<Remark>, AllocError>
 pub fn lint_after(alloc: Global, bytes: &[u8], former: &[u8]) -> Result<Vec<Remark>, AllocError>
     ensures document { IfOk result (λ remarks. remarks.items ≡ [] → AreDocument bytes.now) }
     ensures former { IfOk result (λ remarks. remarks.items ≡ [] → AreDocument former.now) }
+    ensures kept { IfOk result (λ remarks. remarks.items ≡ [] → LosesNoSection bytes.now former.now) }
 {
     let mut remarks = Remarks::new(alloc);
     add_both(&mut remarks, bytes, former);

@@ -81,7 +81,9 @@ impl Remarks {
     }
 
     /// Adds the remark whose words are written, on a member of the former document.
-    pub(crate) fn add_of_former(&mut self, place: Place) {
+    pub(crate) fn add_of_former(&mut self, place: Place)
+        ensures { IsTold self.new }
+    {
         let written = place.write(&mut self.place);
         self.note(written);
         let written = self.place.push_str(" of the former document");

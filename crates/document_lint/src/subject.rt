@@ -1,6 +1,7 @@
 // A table of a document, and what its trains and points are called.
-ghost use Rattle.std.specs.Prelude.{◌<◌, length};
+ghost use Rattle.std.specs.Prelude.{◌≡◌, ◌<◌, length};
 ghost use Rattle.rail_model.specs.Table.{trains};
+ghost use Rattle.layout_json.specs.Doc.{table_at};
 
 use crate::place::{Object, Place};
 use layout_json::{Doc, layout_of, names_of, table_of};
@@ -18,6 +19,8 @@ pub(crate) struct Subject<'a> {
 /// A table of a document.
 pub(crate) fn subject_of(doc: &Doc, table: u32) -> Subject<'_>
     requires { table < length doc.now.tables }
+    ensures table { result.table.now ≡ table_at doc.now table }
+    ensures number { result.number ≡ table }
 {
     Subject {
         names: names_of(doc),
