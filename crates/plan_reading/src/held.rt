@@ -2,10 +2,10 @@
 ghost use Rattle.std.specs.Prelude.{◌≡◌, bytes_eq, codes, option_copied, option_map, string_bytes};
 ghost use Rattle.toml.specs.Data.{as_table};
 ghost use Rattle.toml.specs.View.{items_view, table_view, view};
-ghost use Rattle.plan_reading.specs.Agreeing.{agree_values, is_name as is_name_of, is_number as is_number_of, number_at as number_of};
+ghost use Rattle.plan_reading.specs.Agreeing.{is_number as is_number_of, number_at as number_of};
 ghost use Rattle.plan_reading.specs.Held as spec;
 
-use crate::matching::agree;
+use crate::matching::{are_names, is_name};
 use crate::placed::{comes, is_place};
 use plan_document::{Holding, SectionPlan};
 use plan_entries::{Entry, Kind};
@@ -78,16 +78,6 @@ fn weight_for(entry: &Value, train: &str) -> i64
     match weight_at(entry, train) {
         Some(weight) => weight,
         None => usual_weight(entry),
-    }
-}
-
-// Whether a value is this name.
-fn is_name(value: &Value, name: &String) -> bool
-    ensures { result ≡ is_name_of (view value.now) name.now }
-{
-    match value.as_str() {
-        Some(said) => said == name.as_str(),
-        None => false,
     }
 }
 
@@ -209,13 +199,6 @@ fn are_implied(entry: &Value, points: &[(String, u32)], names: &[String]) -> boo
     } else {
         names.is_empty()
     }
-}
-
-// Whether these are the names.
-fn are_names(values: &[Value], names: &[String]) -> bool
-    ensures { result ≡ agree_values is_name_of values.now names.now }
-{
-    agree(values, names, is_name)
 }
 
 // Whether these are the points of a section.

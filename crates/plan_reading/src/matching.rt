@@ -119,15 +119,15 @@ pub(crate) fn agree<T, F: Fn(&Value, &T) -> bool + Copy>(
             .all(|(value, this)| says(value, this))
 }
 
-// Whether a value is this name.
-fn is_name(value: &Value, name: &String) -> bool
+/// Whether a value is this name.
+pub(crate) fn is_name(value: &Value, name: &String) -> bool
     ensures { result ≡ spec.is_name (view value.now) name.now }
 {
     is_text(value.as_str(), name)
 }
 
-// Whether these are the names.
-fn are_names(values: &[Value], names: &[String]) -> bool
+/// Whether these are the names.
+pub(crate) fn are_names(values: &[Value], names: &[String]) -> bool
     ensures { result ≡ agree_values spec.is_name values.now names.now }
 {
     agree(values, names, is_name)

@@ -5,6 +5,7 @@ ghost use Rattle.toml.specs.View.{items_view, view};
 ghost use Rattle.plan_reading.specs.Agreeing.{is_name as is_name_of};
 ghost use Rattle.plan_reading.specs.Zoned as spec;
 
+use crate::matching::is_name;
 use toml::Value;
 
 // The numbers of the zones, as they are written.
@@ -31,16 +32,6 @@ pub(crate) fn zone_named(text: &str) -> Option<u32>
         }
     }
     None
-}
-
-// Whether a value is the name of a point.
-fn is_name(value: &Value, point: &String) -> bool
-    ensures { result ≡ is_name_of (view value.now) point.now }
-{
-    match value.as_str() {
-        Some(name) => name == point.as_str(),
-        None => false,
-    }
 }
 
 // Whether one of these values is the name of a point.
