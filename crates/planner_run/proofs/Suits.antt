@@ -1,5 +1,6 @@
 -- What an order comes to, told by what its answer is.
 use Rattle.std.proofs.Common.{ℕ, List, Option}
+use Rattle.std.specs.Prelude.{Result, Ok, Err, IfOk}
 use Rattle.planner_words.specs.declared.orders.Order.{Order}
 use Rattle.planner_words.specs.declared.orders.Order.TheVariants.{Lint}
 use Rattle.planner_run.specs.Answered.{IfText, IsAnswerTo, IsLinted, IsTextFor}
@@ -7,12 +8,17 @@ use Rattle.planner_run.specs.declared.answer.Answer.{Answer}
 use Rattle.planner_run.specs.declared.answer.Answer.TheVariants.{Text, Remarks, Wrong}
 use denote.Ref.{Bor}
 
-pub if_text_answers : (order : Order) (input : List ℕ) (a : Answer) → IfText (IsTextFor order input) a → IsAnswerTo order input a
-if_text_answers order input (Text text) holds = holds
-if_text_answers order input (Remarks lines) holds = absurd holds
-if_text_answers order input (Wrong lines) holds = holds
+pub if_text_answers : (order : Order) (former : Option (Bor (List ℕ))) (input : List ℕ) (a : Answer) → IfText (IsTextFor order former input) a → IsAnswerTo order former input a
+if_text_answers order former input (Text text) holds = holds
+if_text_answers order former input (Remarks lines) holds = absurd holds
+if_text_answers order former input (Wrong lines) holds = holds
 
-pub lint_answers : (before : Option (Bor (List ℕ))) (input : List ℕ) (a : Answer) → IsLinted input a → IsAnswerTo (Lint before) input a
-lint_answers before input (Text text) linted = linted
-lint_answers before input (Remarks lines) linted = tt
-lint_answers before input (Wrong lines) linted = tt
+pub lint_answers : (before former : Option (Bor (List ℕ))) (input : List ℕ) (a : Answer) → IsLinted former input a → IsAnswerTo (Lint before) former input a
+lint_answers before former input (Text text) linted = linted
+lint_answers before former input (Remarks lines) linted = tt
+lint_answers before former input (Wrong lines) linted = tt
+
+-- two facts of a result under one condition are one fact
+pub together : {X E : Type 0} (P : X → Type 0) (A B : Type 0) (result : Result X E) → IfOk result (λ x. P x → A) → IfOk result (λ x. P x → B) → IfOk result (λ x. P x → A × B)
+together P A B (Ok x) a b = λ p. (a p, b p)
+together P A B (Err e) a b = tt

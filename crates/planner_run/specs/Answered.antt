@@ -18,6 +18,7 @@ use Rattle.run_timetable.specs.declared.run.Run.{Run}
 use Rattle.timed_reading.specs.Runs.{IsToldRun}
 use Rattle.train_graph.specs.Marks.{IsGraph}
 use Rattle.layout_picture.specs.Drawn.{IsDrawn}
+use Rattle.document_lint.specs.Told.{LosesNoSection}
 use Rattle.svg_text.specs.Tree.{Picture}
 use Rattle.svg_text.specs.Text.{svg_text}
 use Rattle.planner_words.specs.declared.orders.Order.{Order}
@@ -101,19 +102,28 @@ pub record IsLayoutText (input table_words : List ℕ) (asked : Option (Bor (Lis
   pub is_table : number_of table_words ≡ Some table
   pub is_layout : IsLayoutOf document table asked text
 
--- The input is a document on which there are no remarks: the text has nothing.
-abbrev pub HasNoRemarks : List ℕ → List ℕ → Type 0
-HasNoRemarks input text = (text ≡ []) × ReadsAsDocument input
+-- No section of the former document is gone, if there is a former one.
+abbrev pub LosesNone : Option (Bor (List ℕ)) → List ℕ → Type 0
+LosesNone None input = Unit {0}
+LosesNone (Some former) input = LosesNoSection input former.now
 
--- The text is what an order comes to on an input.
-abbrev pub IsTextFor : Order → List ℕ → List ℕ → Type 0
-IsTextFor OfPlan input text = IsPlanned input text
-IsTextFor (ExplainState table at) input text = ExplainsPlaces input table.now at.now text
-IsTextFor (ExplainLine line) input text = ExplainsWords input line.now text
-IsTextFor (Lint before) input text = HasNoRemarks input text
-IsTextFor (Timetable csv) input text = Unit {0}
-IsTextFor (Graph train) input text = IsGraphText text
-IsTextFor (Layout table at) input text = IsLayoutText input table.now at text
+-- The input is a document, and loses no section of the former one.
+abbrev pub NeedsNoRemark : Option (Bor (List ℕ)) → List ℕ → Type 0
+NeedsNoRemark former input = ReadsAsDocument input × LosesNone former input
+
+-- There are no remarks on the input: the text has nothing.
+abbrev pub HasNoRemarks : Option (Bor (List ℕ)) → List ℕ → List ℕ → Type 0
+HasNoRemarks former input text = (text ≡ []) × NeedsNoRemark former input
+
+-- The text is what an order comes to on an input, with a former one for remarks.
+abbrev pub IsTextFor : Order → Option (Bor (List ℕ)) → List ℕ → List ℕ → Type 0
+IsTextFor OfPlan former input text = IsPlanned input text
+IsTextFor (ExplainState table at) former input text = ExplainsPlaces input table.now at.now text
+IsTextFor (ExplainLine line) former input text = ExplainsWords input line.now text
+IsTextFor (Lint before) former input text = HasNoRemarks former input text
+IsTextFor (Timetable csv) former input text = Unit {0}
+IsTextFor (Graph train) former input text = IsGraphText text
+IsTextFor (Layout table at) former input text = IsLayoutText input table.now at text
 
 -- The order asks for remarks.
 abbrev pub AsksForRemarks : Order → Type 0
@@ -132,16 +142,16 @@ IfText Holds (Remarks lines) = ⊥
 IfText Holds (Wrong lines) = Unit {0}
 
 -- The answer is what an order comes to on an input, with remarks only where it asks for them.
-abbrev pub IsAnswerTo : Order → List ℕ → Answer → Type 0
-IsAnswerTo order input (Text text) = IsTextFor order input text.items
-IsAnswerTo order input (Remarks lines) = AsksForRemarks order
-IsAnswerTo order input (Wrong lines) = Unit {0}
+abbrev pub IsAnswerTo : Order → Option (Bor (List ℕ)) → List ℕ → Answer → Type 0
+IsAnswerTo order former input (Text text) = IsTextFor order former input text.items
+IsAnswerTo order former input (Remarks lines) = AsksForRemarks order
+IsAnswerTo order former input (Wrong lines) = Unit {0}
 
--- The answer is remarks, or an empty text for a document on which there are none.
-abbrev pub IsLinted : List ℕ → Answer → Type 0
-IsLinted input (Text text) = HasNoRemarks input text.items
-IsLinted input (Remarks lines) = Unit {0}
-IsLinted input (Wrong lines) = ⊥
+-- The answer is remarks, or an empty text where there are none.
+abbrev pub IsLinted : Option (Bor (List ℕ)) → List ℕ → Answer → Type 0
+IsLinted former input (Text text) = HasNoRemarks former input text.items
+IsLinted former input (Remarks lines) = Unit {0}
+IsLinted former input (Wrong lines) = ⊥
 
 -- the text that words get that ask for help or for the version
 abbrev pub shown_text : WordsAnswered → Option (List ℕ)

@@ -29,7 +29,7 @@ pub fn answer_to(
     input: &[u8],
     former: Option<&[u8]>,
 ) -> Result<Answer, AllocError>
-    ensures { IfOk result (IsAnswerTo order.now input.now) }
+    ensures { IfOk result (IsAnswerTo order.now former.entry input.now) }
 {
     match order {
         Order::Plan => plan(alloc, input),

@@ -1,10 +1,24 @@
 // Remarks on documents.
-ghost use Rattle.std.specs.Prelude.{IfOk};
-ghost use Rattle.planner_run.specs.Answered.{IsLinted};
+ghost use Rattle.std.specs.Prelude.{◌≡◌, [], IfOk};
+ghost use Rattle.planner_run.specs.Answered.{IsLinted, NeedsNoRemark};
 
 use crate::Answer;
 use document_lint::{Remark, lint, lint_after};
 use std::alloc::{AllocError, Global};
+
+// The remarks on a document, compared with a former one, if there is one.
+fn found_in(
+    alloc: Global,
+    document: &[u8],
+    former: Option<&[u8]>,
+) -> Result<Vec<Remark>, AllocError>
+    ensures { IfOk result (λ remarks. remarks.items ≡ [] → NeedsNoRemark former.entry document.now) }
+{
+    match former {
+        Some(former) => lint_after(alloc, document, former),
+        None => lint(alloc, document),
+    }
+}
 
 /// What a document says without effect or likely by mistake; with a former one, which of its sections are gone.
 pub(crate) fn remarks(
@@ -12,12 +26,9 @@ pub(crate) fn remarks(
     document: &[u8],
     former: Option<&[u8]>,
 ) -> Result<Answer, AllocError>
-    ensures { IfOk result (IsLinted document.now) }
+    ensures { IfOk result (IsLinted former.entry document.now) }
 {
-    let found = match former {
-        Some(former) => lint_after(alloc, document, former)?,
-        None => lint(alloc, document)?,
-    };
+    let found = found_in(alloc, document, former)?;
     if found.is_empty() {
         return Ok(Answer::Text(Vec::new(alloc)));
     }

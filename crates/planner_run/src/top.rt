@@ -88,7 +88,7 @@ pub fn serve<S: Source, K: Sink, E: Sink>(
 ) -> Status
     // What is written is what the order comes to on all that the source had left.
     ensures done { result ≡ Status.Done → IfSome (S.left source.old) (λ all.
-        (text : List ℕ) × IsTextFor order.now all text × Adds (K.taken out.old) (K.taken out.new) text) }
+        (text : List ℕ) × IsTextFor order.now former.entry all text × Adds (K.taken out.old) (K.taken out.new) text) }
     ensures quiet { result ≡ Status.Done → E.taken err.new ≡ E.taken err.old }
     // Where the input has faults, nothing is written to `out`, except remarks that were asked for.
     ensures faulty { result ≡ Status.Faulty → AsksForRemarks order.now ⊎ (K.taken out.new ≡ K.taken out.old) }
@@ -113,7 +113,7 @@ fn respond<K: Sink, E: Sink>(
     out: &mut K,
     err: &mut E,
 ) -> Status
-    ensures done { result ≡ Status.Done → (text : List ℕ) × IsTextFor order.now input.now text × Adds (K.taken out.old) (K.taken out.new) text }
+    ensures done { result ≡ Status.Done → (text : List ℕ) × IsTextFor order.now former.entry input.now text × Adds (K.taken out.old) (K.taken out.new) text }
     ensures quiet { result ≡ Status.Done → E.taken err.new ≡ E.taken err.old }
     ensures faulty { result ≡ Status.Faulty → AsksForRemarks order.now ⊎ (K.taken out.new ≡ K.taken out.old) }
 {
