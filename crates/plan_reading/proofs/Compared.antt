@@ -1,5 +1,5 @@
 -- Values beside what stands at their places, and the items that they stand for.
-use Rattle.std.proofs.Common.{◌≡◌, List, [], ◌∷◌, Bool, true, false, ◌&&◌, ◌==◌, length, ap, ◌∙◌, sym, refl, subst, eq-eqb}
+use Rattle.std.proofs.Common.{◌≡◌, ℕ, List, [], ◌∷◌, Bool, true, false, ◌&&◌, ◌==◌, length, ap, ◌∙◌, sym, refl, subst, eq-eqb}
 use Rattle.std.proofs.Math.Dec.{eqb-suc-zero, eqb-zero-suc, eqb-suc-suc}
 use Rattle.toml.specs.Data.{Data, Items}
 use Rattle.toml.specs.View.{view, items_view}
@@ -27,3 +27,10 @@ agreed t vs items xs seen holds = subst (λ i. agree_all t i xs ≡ true) seen (
 -- where there are as many, it is enough that each is what stands beside it
 pub counted : {X : Type 0} (t : Data → X → Bool) (vs : List Value) (xs : List X) (r : Bool) → length vs ≡ length xs → r ≡ agree_beside t vs xs → r ≡ agree_values t vs xs
 counted t vs xs r same is = is ∙ sym (ap (λ b. b && agree_beside t vs xs) (eq-eqb (length vs) (length xs) same))
+
+-- where two numbers are the same, it is enough that the rest is right
+pub as_many : (m n : ℕ) (all r : Bool) → m ≡ n → r ≡ all → r ≡ ((m == n) && all)
+as_many m n all r same is = is ∙ sym (ap (λ b. b && all) (eq-eqb m n same))
+
+pub both_as_many : (m k n : ℕ) (all r : Bool) → m ≡ n → k ≡ n → r ≡ all → r ≡ (((m == n) && (k == n)) && all)
+both_as_many m k n all r same also is = is ∙ sym (ap (λ b. (b && (k == n)) && all) (eq-eqb m n same) ∙ ap (λ b. (true && b) && all) (eq-eqb k n also))

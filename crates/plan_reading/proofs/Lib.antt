@@ -1,6 +1,5 @@
 mod Compared
 mod Digits
-mod Entries
 mod HeldRows
 mod Named
 mod Numbered

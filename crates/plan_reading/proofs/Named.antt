@@ -1,15 +1,15 @@
--- Entries among values: how many there are, the one at an index, and the first of a name.
-use Rattle.std.proofs.Common.{◌≡◌, ◌<◌, ◌≤◌, ℕ, List, [], ◌∷◌, String, Global, Some, None, get_or, length, refl, inl, inr, ap, ◌∙◌, suc}
+-- Entries and names among values: how many there are, the one at an index, and the first of a name.
+use Rattle.std.proofs.Common.{◌≡◌, ◌<◌, ◌≤◌, ℕ, List, [], ◌∷◌, ◌||◌, String, Global, Some, None, get_or, length, refl, inl, inr, ap, ◌∙◌, suc}
 use Rattle.std.specs.Prelude.{Option, option_map, slice_get, IfSome, MatchOption}
 use Rattle.std.specs.Borrow.{Bor}
-use Rattle.std.specs.List.{find, HoldsAt}
+use Rattle.std.specs.List.{find, list_any, HoldsAt}
 use Rattle.std.proofs.lemmas.Bool.{cases_Bool}
 use Rattle.std.proofs.lemmas.Option.{slice_get_read}
 use Rattle.toml.specs.Data.{get_item}
 use Rattle.toml.specs.View.{view, items_view}
 use Rattle.toml.specs.declared.value.Value.{Value}
 use Rattle.toml.proofs.Views.{get_item_within, get_item_past}
-use Rattle.plan_reading.specs.Agreeing.{is_named, seen}
+use Rattle.plan_reading.specs.Agreeing.{has_name, is_name, is_named, seen}
 use Rattle.plan_reading.specs.Said.{count_of, first_named}
 
 pub item_is : (vs : List Value) (i : ℕ) (r : Option (Bor Value)) → IfSome r (λ x. x.now ≡ get_or vs i x.now)
@@ -28,3 +28,7 @@ read_is xs i read x within is at = let there : slice_get xs i ≡ Some read = sl
 pub first_is : (name : String Global) (vs : List Value) → option_map view (find (λ v. is_named (view v) name) vs) ≡ first_named (items_view vs) name
 first_is name [] = refl
 first_is name (v ∷ vs) = elim (cases_Bool (is_named (view v) name)) [ inl is ↦ rw is refl | inr is ↦ rw is (first_is name vs) ]
+
+pub any_is : (vs : List Value) (name : String Global) → list_any (λ v. is_name (view v) name) vs ≡ has_name (items_view vs) name
+any_is [] name = refl
+any_is (v ∷ vs) name = ap (λ rest. is_name (view v) name || rest) (any_is vs name)

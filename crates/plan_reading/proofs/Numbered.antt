@@ -1,12 +1,9 @@
--- The numbers of zones as texts, the first zone that passes a test, and the names in a list of values.
-use Rattle.std.proofs.Common.{◌≡◌, ℕ, ◌+◌, ◌-◌, ◌<◌, suc, List, [], ◌∷◌, map, get_or, Bool, ◌||◌, codes, cond, Some, None, String, Global, decimal, find, refl, ap, ◌∙◌, arith}
+-- The numbers of zones as texts, and the first zone that passes a test.
+use Rattle.std.proofs.Common.{◌≡◌, ℕ, ◌+◌, ◌-◌, ◌<◌, suc, List, [], ◌∷◌, map, get_or, Bool, codes, cond, Some, None, decimal, find, refl, ap, ◌∙◌, arith}
 use Rattle.std.proofs.lemmas.List.FromFn.{get_or-map-range_with_len}
 use Rattle.std.specs.Fmt.{digits}
-use Rattle.std.specs.List.{list_any, range_with_len}
-use Rattle.toml.specs.View.{view, items_view}
-use Rattle.toml.specs.declared.value.Value.{Value}
-use Rattle.plan_reading.specs.Agreeing.{is_name}
-use Rattle.plan_reading.specs.Zoned.{first_zone, has_name}
+use Rattle.std.specs.List.{range_with_len}
+use Rattle.plan_reading.specs.Zoned.{first_zone}
 
 -- the numbers from 0 to 15, as they are written
 abbrev numbers : List (List ℕ)
@@ -29,8 +26,3 @@ first_turn test zone within =
 pub first_end : (test : ℕ → Bool) → first_zone 16 test ≡ None
 unfolding first_zone
 first_end test = refl
-
--- whether one of these values is a name, and whether what they stand for has it
-pub any_name : (vs : List Value) (point : String Global) → list_any (λ v. is_name (view v) point) vs ≡ has_name (items_view vs) point
-any_name [] point = refl
-any_name (v ∷ vs) point = ap (λ rest. is_name (view v) point || rest) (any_name vs point)

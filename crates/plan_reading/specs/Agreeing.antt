@@ -1,5 +1,5 @@
 -- Whether what a text says is what stands at its places in a plan.
-use Rattle.std.specs.Prelude.{◌≡◌, ℕ, ℤ, pos, List, [], ◌∷◌, length, zip, ◌==◌, ◌&&◌, not, Bool, true, false, if◌then◌else◌, codes, String, string_bytes, bytes_eq, Option, Some, None, option_and_then, option_map, unwrap_or}
+use Rattle.std.specs.Prelude.{◌≡◌, ℕ, ℤ, pos, List, [], ◌∷◌, length, zip, ◌==◌, ◌&&◌, ◌||◌, not, Bool, true, false, if◌then◌else◌, codes, String, string_bytes, bytes_eq, Option, Some, None, option_and_then, option_map, unwrap_or}
 use Rattle.std.specs.List.{list_all}
 use Rattle.std.specs.Borrow.{Bor}
 use Rattle.std.specs.Ordering.{int_eq}
@@ -59,6 +59,11 @@ is_number (Some said) n = int_eq said (pos n)
 -- whether a value is this name
 abbrev pub is_name : Data → String Global → Bool
 is_name d name = is_text (as_str d) name
+
+-- whether one of these items is this name
+abbrev pub has_name : Items → String Global → Bool
+has_name no_items name = false
+has_name (item d ds) name = is_name d name || has_name ds name
 
 -- whether there is a list, and its items are these names
 abbrev pub are_names : Option Items → List (String Global) → Bool

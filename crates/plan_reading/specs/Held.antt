@@ -1,12 +1,12 @@
 -- What an entry of a text says of a section, and whether a section of a plan has it so.
-use Rattle.std.specs.Prelude.{◌==◌, ◌&&◌, ◌||◌, if◌then◌else◌, codes, ℕ, ℤ, pos, List, [], length, zip, Bool, true, false, bytes_eq, String, string_bytes, Vec, Option, Some, None, option_and_then, unwrap_or}
+use Rattle.std.specs.Prelude.{◌==◌, ◌&&◌, ◌||◌, if◌then◌else◌, codes, ℕ, ℤ, pos, List, [], length, zip, Bool, true, bytes_eq, String, string_bytes, Vec, Option, Some, None, option_and_then, unwrap_or}
 use Rattle.std.specs.List.{list_all}
 use Rattle.std.specs.declared.alloc.Global.{Global}
-use Rattle.toml.specs.Data.{Data, Items, no_items, item, get}
+use Rattle.toml.specs.Data.{Data, Items, get}
 use Rattle.plan_entries.specs.Found.{has_places, names_in, number_in, place_in}
 use Rattle.plan_document.specs.declared.plan.Holding.{Holding}
 use Rattle.plan_document.specs.declared.plan.SectionPlan.{SectionPlan}
-use Rattle.plan_reading.specs.Agreeing.{agree_all, is_name, is_number, number_at}
+use Rattle.plan_reading.specs.Agreeing.{agree_all, has_name, is_name, is_number, number_at}
 use Rattle.plan_reading.specs.Places.{comes, is_place}
 
 -- the names that an entry has at a key, if it has a list of names there
@@ -29,15 +29,10 @@ usual_weight entry = unwrap_or (number_at (codes "weight") entry) (unwrap_or (we
 abbrev pub weight_for : Data → List ℕ → ℤ
 weight_for entry train = unwrap_or (weight_at entry train) (usual_weight entry)
 
--- whether a name is one of these items
-abbrev pub is_listed : Items → String Global → Bool
-is_listed no_items name = false
-is_listed (item d ds) name = is_name d name || is_listed ds name
-
 -- whether a train is one of those that the section is only for, if it is only for some
 abbrev pub is_meant : Option Items → String Global → Bool
 is_meant None train = true
-is_meant (Some only) train = is_listed only train
+is_meant (Some only) train = has_name only train
 
 -- whether a route comes to a place, if one is said
 abbrev pub comes_there : Option (List ℕ) → List (String Global) → Bool

@@ -1,14 +1,9 @@
 -- Which zones a text puts points into.
-use Rattle.std.specs.Prelude.{ℕ, ◌-◌, List, find, bytes_eq, ◌==◌, ◌||◌, Bool, false, String, unwrap_or, Option, Some, None, option_and_then, decimal}
+use Rattle.std.specs.Prelude.{ℕ, ◌-◌, List, find, bytes_eq, ◌==◌, Bool, false, String, unwrap_or, Option, Some, None, option_and_then, decimal}
 use Rattle.std.specs.List.{list_all, range_with_len}
 use Rattle.std.specs.declared.alloc.Global.{Global}
-use Rattle.toml.specs.Data.{Data, Items, no_items, item, get, as_array}
-use Rattle.plan_reading.specs.Agreeing.{is_name}
-
--- whether one of these items is the name of a point
-abbrev pub has_name : Items → String Global → Bool
-has_name no_items point = false
-has_name (item d ds) point = is_name d point || has_name ds point
+use Rattle.toml.specs.Data.{Data, Items, get, as_array}
+use Rattle.plan_reading.specs.Agreeing.{has_name}
 
 -- whether there is a list, and it has the name of a point
 abbrev pub lists : Option Items → String Global → Bool

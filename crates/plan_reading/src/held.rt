@@ -5,7 +5,7 @@ ghost use Rattle.toml.specs.View.{items_view, table_view, view};
 ghost use Rattle.plan_reading.specs.Agreeing.{is_number as is_number_of, number_at as number_of};
 ghost use Rattle.plan_reading.specs.Held as spec;
 
-use crate::matching::{are_names, is_name};
+use crate::matching::{are_names, has_name, number_at};
 use crate::placed::{comes, is_place};
 use plan_document::{Holding, SectionPlan};
 use plan_entries::{Entry, Kind};
@@ -23,14 +23,6 @@ fn entry_of(value: &Value) -> Entry<'_>
         key: "",
         name: "",
     }
-}
-
-// The number at a key of an entry, if it has one.
-#[tactic(auto, using(crate::proofs::Entries::value_at_keys))]
-fn number_at(entry: &Value, key: &str) -> Option<i64>
-    ensures { result ≡ number_of key.now (view entry.now) }
-{
-    entry_of(entry).number(key)
 }
 
 // The names of the list at a key of an entry, if it has one.
@@ -81,19 +73,12 @@ fn weight_for(entry: &Value, train: &str) -> i64
     }
 }
 
-// Whether a name is one of these values.
-fn is_listed(values: &[Value], name: &String) -> bool
-    ensures { result ≡ spec.is_listed (items_view values.now) name.now }
-{
-    values.iter().any(|value| is_name(value, name))
-}
-
 // Whether a train is one of those that a section is only for, if it is only for some.
 fn is_meant(entry: &Value, train: &String) -> bool
     ensures { result ≡ spec.is_meant (spec.names_at (codes "only") (view entry.now)) train.now }
 {
     match names_at(entry, "only") {
-        Some(only) => is_listed(only, train),
+        Some(only) => has_name(only, train),
         None => true,
     }
 }

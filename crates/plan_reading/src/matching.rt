@@ -19,8 +19,8 @@ pub(crate) fn text_at<'t>(entry: &'t Value, key: &str) -> Option<&'t str>
     }
 }
 
-// The number at a key of an entry, if it has one.
-fn number_at(entry: &Value, key: &str) -> Option<i64>
+/// The number at a key of an entry, if it has one.
+pub(crate) fn number_at(entry: &Value, key: &str) -> Option<i64>
     ensures { result ≡ spec.number_at key.now (view entry.now) }
 {
     match entry.get(key) {
@@ -124,6 +124,13 @@ pub(crate) fn is_name(value: &Value, name: &String) -> bool
     ensures { result ≡ spec.is_name (view value.now) name.now }
 {
     is_text(value.as_str(), name)
+}
+
+/// Whether one of these values is this name.
+pub(crate) fn has_name(values: &[Value], name: &String) -> bool
+    ensures { result ≡ spec.has_name (items_view values.now) name.now }
+{
+    values.iter().any(|value| is_name(value, name))
 }
 
 /// Whether these are the names.

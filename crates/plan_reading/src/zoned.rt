@@ -1,11 +1,9 @@
 // Whether points are in the zones that a text puts them into.
 ghost use Rattle.std.specs.Prelude.{◌≡◌, ◌<◌, decimal, option_map};
-ghost use Rattle.std.specs.List.{list_any};
 ghost use Rattle.toml.specs.View.{items_view, view};
-ghost use Rattle.plan_reading.specs.Agreeing.{is_name as is_name_of};
 ghost use Rattle.plan_reading.specs.Zoned as spec;
 
-use crate::matching::is_name;
+use crate::matching::has_name;
 use toml::Value;
 
 // The numbers of the zones, as they are written.
@@ -32,13 +30,6 @@ pub(crate) fn zone_named(text: &str) -> Option<u32>
         }
     }
     None
-}
-
-// Whether one of these values is the name of a point.
-fn has_name(values: &[Value], point: &String) -> bool
-    ensures { result ≡ list_any (λ v. is_name_of (view v) point.now) values.now }
-{
-    values.iter().any(|value| is_name(value, point))
 }
 
 // The list of a zone.

@@ -1,7 +1,7 @@
 use Rattle.std.proofs.Common.{arith, bytes_eq, length, rules, string_bytes, tests}
 use Rattle.std.proofs.lemmas.Iterator.{YieldsList-from_slice, YieldsList-from_zip}
 use Rattle.std.proofs.lemmas.Iterator.Search.{all_from_yields_List}
-use Rattle.plan_reading.proofs.Entries.{as_many}
+use Rattle.plan_reading.proofs.Compared.{as_many}
 use Rattle.plan_reading.proofs.held.are_all.Goals as goal
 
 pub returns-then-points-names : goal.returns-then-points-names

@@ -3,7 +3,7 @@ use Rattle.std.proofs.lemmas.Iterator.{YieldsList-from_slice, YieldsList-from_zi
 use Rattle.std.proofs.lemmas.Iterator.Search.{all_from_yields_List}
 use Rattle.toml.specs.View.{view}
 use Rattle.plan_reading.specs.Held.{is_holding}
-use Rattle.plan_reading.proofs.Entries.{both_as_many}
+use Rattle.plan_reading.proofs.Compared.{both_as_many}
 use Rattle.plan_reading.proofs.held.are_holdings.Goals as goal
 
 pub returns-then-holdings-trains : goal.returns-then-holdings-trains
