@@ -73,6 +73,14 @@ fn count_of(text: &str) -> Option<usize> {
     }
 }
 
+/// Whether what a name has after a `#`, if it has one, is a count.
+pub(crate) fn is_place_name(name: &str) -> bool {
+    match name.split_once("#") {
+        Some((_, count)) => count_of(count).is_some(),
+        None => true,
+    }
+}
+
 // The place at which a point comes for this time, counted from 1.
 fn counted_place(route: &[String], point: &str, count: &str) -> Spot {
     match count_of(count) {

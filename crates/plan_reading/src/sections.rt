@@ -1,7 +1,9 @@
 // The sections of a table.
 use crate::names::{check_names, find, is_known, text_of};
 use crate::ranges::Range;
-use crate::routes::{Scope, Spot, check_comes, find_place, place_if_there, point_of};
+use crate::routes::{
+    Scope, Spot, check_comes, find_place, is_place_name, place_if_there, point_of,
+};
 use crate::trains::{push_name, push_names};
 use plan_document::{Holding, SectionPlan, share_at};
 use plan_entries::{Entries, Entry, Faults, Part};
@@ -128,9 +130,9 @@ fn check_own_end<'x>(
     place: &'x str,
     scope: &Scope,
 ) {
-    let is_due = scope.table == 0 || !is_known(scope.points, point_of(place));
+    let may_be_elsewhere = is_known(scope.points, point_of(place)) && is_place_name(place);
     if let Some(train) = find(faults, &at.of(train), "train", scope.trains)
-        && is_due
+        && (scope.table == 0 || !may_be_elsewhere)
     {
         check_comes(faults, &at.of(place), scope, train);
     }

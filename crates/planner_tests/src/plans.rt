@@ -185,6 +185,7 @@ const CHANGES: &str =
 9: [[sections]] => line 9: no key "sections"; the keys are lines, zones, train, section, connection, table
 11: limit = 129 => line 11: section "corridor": a limit is 0 to 128, and this is 129
 13: / [[table]] / [[table.train]] / name = "T1" / exit = true => line 14: table 1: "after" is missing
+13: / [[table]] / after = 4 / [[table.section]] / limit = 1 / points = ["M"] / from = { T0 = "M#02", T1 = "M#2" } => line 19: table 1, section 0: "M#02" is not on the route of train "T0" in table 1
 13: / [[connection]] => line 14: connection 0: "train" is missing / line 14: connection 0: "leaves" is missing / line 14: connection 0: "after" is missing / line 14: connection 0: "reached" is missing
 11: => line 9: section "corridor": "limit" is missing
 6: => line 5: train 1: "name" is missing
