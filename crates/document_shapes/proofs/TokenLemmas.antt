@@ -101,13 +101,13 @@ module _ {X : Type 0} (R : Data → X → Type 0) (depth : ℕ) (all : List Toke
       (h.goes json.no_items no_items [] rest (items_end (value depth) h.turns before rest h.enough ended) refl tt)
 
 module _ (depth inner : ℕ) (tokens mid : List Token) where
-  opens-list : Opens Token.begin_array depth tokens inner mid → value depth tokens ≡ parse_map json.array (items (value inner) (length mid) mid)
+  pub opens-list : Opens Token.begin_array depth tokens inner mid → value depth tokens ≡ parse_map json.array (items (value inner) (length mid) mid)
   opens-list h =
       let some : 0 < depth = omega (arith, h.0) in
       let same : depth - 1 ≡ inner = omega (arith, h.0) in
       ap (value depth) h.1 ∙ value-begin_array depth mid some ∙ ap (λ k. parse_map json.array (items (value k) (length mid) mid)) same
 
-  opens-object : Opens Token.begin_object depth tokens inner mid → value depth tokens ≡ parse_map json.object (members (value inner) (length mid) mid)
+  pub opens-object : Opens Token.begin_object depth tokens inner mid → value depth tokens ≡ parse_map json.object (members (value inner) (length mid) mid)
   opens-object h =
       let some : 0 < depth = omega (arith, h.0) in
       let same : depth - 1 ≡ inner = omega (arith, h.0) in

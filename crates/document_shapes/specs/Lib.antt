@@ -11,6 +11,8 @@ pub mod Written
 pub mod InRange
 pub mod Added
 pub mod Taken
+pub mod Passed
+pub mod Cut
 pub mod SectionFound
 pub mod TableFound
 pub mod TableRead

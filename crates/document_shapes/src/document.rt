@@ -1,8 +1,9 @@
 // The members of a document.
-ghost use Rattle.std.specs.Prelude.{◌≡◌, ◌⊎◌, IfOk, IfErr, MatchResult, map, string_bytes, Some, None, Ok, Err};
+ghost use Rattle.std.specs.Prelude.{◌≡◌, ◌⊎◌, IfOk, IfErr, IsSomeAnd, MatchResult, map, string_bytes, Some, None, Ok, Err};
 ghost use Rattle.std.specs.List.{list_all};
 ghost use Rattle.serde_json.specs.View.{view};
 ghost use Rattle.rail_model.specs.Turns.{AnswersAs, in_turn};
+ghost use Rattle.document_shapes.specs.Cut.{IsCut, document_levels};
 ghost use Rattle.document_shapes.specs.Reading.{reading};
 ghost use Rattle.document_shapes.specs.Shape.{list_of, pair, text};
 ghost use Rattle.document_shapes.specs.Shape as shape;
@@ -13,13 +14,16 @@ ghost use Rattle.document_shapes.specs.Seen.{seen_document, names_seen};
 
 use crate::from_value::whole;
 use crate::members::needed;
+use crate::refused::Unread;
+use crate::shallow::read_shallow;
 use crate::table::read_tables;
 use crate::token_document::read_tokens;
 use crate::{Member, ShapeRefused, TableMembers};
 use serde_json::Value;
 use std::alloc::Global;
 
-const LATEST_VERSION: u32 = 3;
+/// The latest version of documents; the first is 1.
+pub(crate) const LATEST_VERSION: u32 = 3;
 
 /// A document's members: points with their zones, links by the names of their points.
 #[derive(Drop)]
@@ -33,19 +37,16 @@ pub struct DocMembers {
     pub tables: Vec<TableMembers>,
 }
 
-// The value that the bytes are.
+// The value that the bytes are, as far as a document's levels go.
 fn read_value(alloc: Global, bytes: &[u8]) -> Result<Value, ShapeRefused>
-    ensures ok { IfOk result (λ v. reading bytes.now ≡ Some (view v)) }
+    ensures ok { IfOk result (λ v. IsSomeAnd (reading bytes.now) (λ d. IsCut document_levels d v)) }
     ensures not_json { result ≡ Err ShapeRefused.NotJson → reading bytes.now ≡ None }
     ensures errors { IfErr result (λ e. (e ≡ ShapeRefused.Memory) ⊎ (e ≡ ShapeRefused.NotJson)) }
 {
-    match Value::from_slice(alloc, bytes) {
+    match read_shallow(alloc, bytes) {
         Ok(value) => Ok(value),
-        Err(error) => if error.is_memory() {
-            Err(ShapeRefused::Memory)
-        } else {
-            Err(ShapeRefused::NotJson)
-        },
+        Err(Unread::NotJson) => Err(ShapeRefused::NotJson),
+        Err(Unread::Memory) => Err(ShapeRefused::Memory),
     }
 }
 

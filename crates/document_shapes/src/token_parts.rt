@@ -6,6 +6,7 @@ ghost use Rattle.document_shapes.specs.Taken.{TakesItems};
 
 use crate::from_members::{FromMembers, object};
 use crate::from_tokens::{FromTokens, Tokens, list_begins, read_into};
+use crate::passing::pass_value;
 use rail_model::{Changes, Connection, Node, Section, TrainTimes};
 
 // Whole numbers, at most four.
@@ -124,7 +125,7 @@ impl FromMembers for FoundSection {
         match name {
             "limit" => read_into(&mut self.limit, tokens, depth),
             "changes" => read_into(&mut self.changes, tokens, depth),
-            _ => None,
+            _ => pass_value(&mut tokens.reader, depth),
         }
     }
 }
