@@ -60,7 +60,18 @@ const MEMBERS_OF_ONE_POINT: &str =
 "tables":[{"missions":[["A"]],"sections":[{"limit":3,"changes":[[-2147483649]]}]}] => 102 Shape table=0 member=sections
 "tables":[{"missions":[["A"]],"sections":[{"limit":3}]}] => 102 Shape table=0 member=sections
 "tables":[{"certificate":[[3]]}] => 102 Shape table=0 member=missions
-"tables":[7] => 102 Shape member=tables"#;
+"tables":[7] => 102 Shape member=tables
+"start":[[[[[[[[[7]]]]]]]]] => 102 Shape member=start
+"start":[],"more":{"a":{"b":{"c":{"d":{"e":{"f":{"g":{"h":-1e-5}}}}}}}} => 111 StartLength count=0
+"start":[],"more":[[[[[[[[1e999]]]]]]]] => 101 NotJson
+"start":[],"more":[[[[[[[[1,]]]]]]]] => 101 NotJson"#;
+
+// Lists that nest 126 levels deep: with the document around them as deep as a text may nest.
+const OPEN: &str =
+    "[[[[[[[[[[[[[[[[[[[[[[[[[[[[[[[[[[[[[[[[[[[[[[[[[[[[[[[[[[[[[[[[[[[[[[[[[[[[[[[[[[[[[[[[[[[[[[[[[[[[[[[[[[[[[[[[[[[[[[[[[[[[[[";
+
+const CLOSE: &str =
+    "]]]]]]]]]]]]]]]]]]]]]]]]]]]]]]]]]]]]]]]]]]]]]]]]]]]]]]]]]]]]]]]]]]]]]]]]]]]]]]]]]]]]]]]]]]]]]]]]]]]]]]]]]]]]]]]]]]]]]]]]]]]]]]";
 
 // Certificates of the passing loop, whose table ends with them.
 const NODES: &str = "\
@@ -186,6 +197,19 @@ fn members_of_one_point_are_refused(rt: HostRuntime) -> Result<(), Fail> {
         ..frame
     };
     each_is_refused(&rt, rt.alloc(), more, MEMBERS_OF_ONE_POINT)
+}
+
+#[test]
+fn deeper_lists_are_refused(rt: HostRuntime) -> Result<(), Fail> {
+    let (alloc, head) = (rt.alloc(), head_of("first-path")?);
+    let deepest = [head, r#","version":9,"more":"#, OPEN, CLOSE, "}"];
+    assert!(rt; is_refused(&rt, alloc, "check", &deepest, "103 Version value=9")?);
+    let deeper = [head, r#","version":9,"more":"#, OPEN, "[]", CLOSE, "}"];
+    assert!(rt; is_refused(&rt, alloc, "check", &deeper, "101 NotJson")?);
+    let accepted = joined(alloc, &[head, r#","more":"#, OPEN, CLOSE, "}"])?;
+    let played = call(&rt, alloc, "check", accepted)?;
+    assert!(rt; played.written.as_slice() == b"accepted tables=1 nodes=3\n");
+    Ok(())
 }
 
 #[test]
