@@ -1,5 +1,5 @@
 -- How circular waits are found: each from its least train on, pair by pair.
-use Rattle.std.specs.Prelude.{◌≡◌, ◌≢◌, ℕ, ◌+◌, ◌%◌, ◌<◌, ◌==◌, nat_lt, List, [], ◌∷◌, ◌++◌, length, map, filter, Bool, not, ◌&&◌, Some}
+use Rattle.std.specs.Prelude.{◌≡◌, ◌≢◌, ℕ, ◌+◌, ◌%◌, ◌<◌, ◌≤◌, ◌==◌, nat_lt, All, List, [], ◌∷◌, ◌++◌, length, map, filter, Bool, not, ◌&&◌, Some}
 use Rattle.std.specs.List.{list_any}
 use Rattle.rail_model.specs.Table.{Mission, last, point}
 use Rattle.rail_model.specs.Checks.{below, same_point}
@@ -35,6 +35,10 @@ standing_at M q = filter (stands_at M q) (pairs M)
 -- the pairs at each point below n
 abbrev pub standing : List Mission → ℕ → List (List Pair)
 standing M n = map (standing_at M) (below n)
+
+-- No train of the pairs is later than this one.
+abbrev pub AreUpTo : ℕ → List Pair → Type 0
+AreUpTo i ws = All (λ w. w.0 ≤ i) ws
 
 -- Every point is below n.
 abbrev pub ArePointsBelow : List Mission → ℕ → Type 0

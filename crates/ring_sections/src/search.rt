@@ -1,6 +1,5 @@
 // The search for circular waits: each from its least train on, pair by pair, in the order in which they are listed.
-ghost use Rattle.std.specs.Prelude.{◌≡◌, ◌<◌, ◌≤◌, ◌-◌, ◌++◌, ◌∷◌, [], nat_lt, All, IfOk, length};
-ghost use Rattle.std.specs.List.{list_any};
+ghost use Rattle.std.specs.Prelude.{◌≡◌, ◌<◌, ◌≤◌, ◌-◌, ◌++◌, ◌∷◌, [], All, IfOk, length};
 ghost use Rattle.rail_model.specs.Turns.{AnswersAs};
 ghost use Rattle.ring_sections.specs.Ring.{pair_at, IsRing};
 ghost use Rattle.ring_sections.specs.Search.{IsTrainPlace, ArePointsBelow, standing as standing_at_all, own_ring, rings_from};
@@ -90,13 +89,6 @@ fn extend(
     Ok(())
 }
 
-// Whether one of the pairs is of a later train.
-fn has_later(pairs: &[(u32, u32)], train: u32) -> bool
-    ensures { result ≡ list_any (λ v. nat_lt train v.0) pairs.now }
-{
-    pairs.iter().any(|pair| train < pair.0)
-}
-
 // Adds the circular waits that begin with a pair: none where no later train is ever at the point that it wants.
 fn add_from(
     alloc: Global,
@@ -119,7 +111,7 @@ fn add_from(
     let Some(wanted) = next_point_of(missions, first) else {
         return Ok(());
     };
-    if !has_later(standing.at(wanted), first.0) {
+    if standing.latest(wanted) <= first.0 {
         return Ok(());
     }
     let levels = levels_of(alloc, missions, steps, standing.len(), first, most)?;

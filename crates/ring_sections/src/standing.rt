@@ -3,7 +3,7 @@ ghost use Rattle.std.specs.Prelude.{◌≡◌, ℕ, ◌<◌, ◌≤◌, ◌++◌
 ghost use Rattle.rail_model.specs.Table.{IsMission};
 ghost use Rattle.rail_model.specs.Checks.{same_point};
 ghost use Rattle.ring_sections.specs.Ring.{point_at, train_pairs, pairs as all_pairs};
-ghost use Rattle.ring_sections.specs.Search.{IsTrainPlace, ArePointsBelow, stands_at as stands_at_point, standing as standing_at_all};
+ghost use Rattle.ring_sections.specs.Search.{IsTrainPlace, AreUpTo, ArePointsBelow, stands_at as stands_at_point, standing as standing_at_all};
 
 use crate::placed::{next_point_of, point_of};
 use crate::train_set::MOST_TRAINS;
@@ -16,6 +16,8 @@ use std::marker::Model;
 #[derive(Drop)]
 struct Standers {
     pairs: Vec<(u32, u32)>,
+    // No train of the pairs is later.
+    latest: u32,
     // For each pair the least of the last `most - 1` trains that make its step; 0 where there are fewer.
     lasts: Vec<u32>,
 }
@@ -23,10 +25,13 @@ struct Standers {
 impl Model for Standers {
     ghost use Rattle.std.specs.Prelude.{List};
     ghost use Rattle.ring_sections.specs.Ring.{Pair};
+    ghost use Rattle.ring_sections.specs.Search.{AreUpTo};
 
     ghost Value = { List Pair };
 
     ghost view = { λ s. s.pairs.items };
+
+    ghost invariant = { λ s. AreUpTo s.latest s.pairs.items };
 }
 
 /// For each point the pairs there, in order.
@@ -58,6 +63,14 @@ impl Standing {
         ensures { result.now ≡ slice_index_or self.now point [] }
     {
         &self.points[point as usize].pairs
+    }
+
+    // A train, none later than which is ever at the point.
+    pub(crate) fn latest(&self, point: u32) -> u32
+        requires { point < length self.now }
+        ensures { AreUpTo result (slice_index_or self.now point []) }
+    {
+        self.points[point as usize].latest
     }
 
     // Whether enough trains above the first make the step of the pair at an index, so that some train is left for it whichever
@@ -134,6 +147,22 @@ fn last_of_many(missions: &Missions, pairs: &[(u32, u32)], to: Option<u32>, many
     0
 }
 
+// A train, none later than which has one of the pairs.
+fn latest_of(pairs: &[(u32, u32)]) -> u32
+    ensures { AreUpTo result pairs.now }
+{
+    let mut latest = 0;
+    for &pair in pairs {
+        latest = latest.max(pair.0);
+    }
+    latest
+}
+
+// Whether all pairs are of one train.
+fn are_of_one(pairs: &[(u32, u32)]) -> bool {
+    pairs.iter().all(|pair| pair.0 == pairs[0].0)
+}
+
 // For each pair the least of the last `many` trains that make its step; 0 where there are fewer.
 fn lasts_of(
     alloc: Global,
@@ -143,6 +172,9 @@ fn lasts_of(
 ) -> Result<Vec<u32>, AllocError>
     requires { All (IsTrainPlace missions.now) pairs.now }
 {
+    if many > 1 && are_of_one(pairs) {
+        return vec![in alloc; 0; pairs.len()];
+    }
     let mut lasts = Vec::new(alloc);
     for &pair in pairs {
         lasts.push(last_of_many(missions, pairs, next_point_of(missions, pair), many))?;
@@ -169,8 +201,10 @@ fn standers_at(
         }
     }
     let lasts = lasts_of(alloc, missions, &standers, most.saturating_sub(1))?;
+    let latest = latest_of(&standers);
     Ok(Standers {
         pairs: standers,
+        latest,
         lasts,
     })
 }
