@@ -38,41 +38,9 @@ unchanged : {X A : Type 0} (f : X → Option A) (g : X → X) → ((x : X) → f
 unchanged f g same None = refl
 unchanged f g same (Some x) = same x
 
--- ---- values that hold no others
+-- ---- what is seen of the first level
 
 module _ (k : ℕ) where
-  number-cut : (d : Data) → as_number (cut (suc k) d) ≡ as_number d
-  number-cut null = refl
-  number-cut (boolean b) = refl
-  number-cut (number n) = refl
-  number-cut (string s) = refl
-  number-cut (array ds) = refl
-  number-cut (object ms) = refl
-
-  bool-cut : (d : Data) → as_bool (cut (suc k) d) ≡ as_bool d
-  bool-cut null = refl
-  bool-cut (boolean b) = refl
-  bool-cut (number n) = refl
-  bool-cut (string s) = refl
-  bool-cut (array ds) = refl
-  bool-cut (object ms) = refl
-
-  text-cut : (d : Data) → as_str (cut (suc k) d) ≡ as_str d
-  text-cut null = refl
-  text-cut (boolean b) = refl
-  text-cut (number n) = refl
-  text-cut (string s) = refl
-  text-cut (array ds) = refl
-  text-cut (object ms) = refl
-
-  array-cut : (d : Data) → as_array (cut (suc k) d) ≡ option_map (cut_items k) (as_array d)
-  array-cut null = refl
-  array-cut (boolean b) = refl
-  array-cut (number n) = refl
-  array-cut (string s) = refl
-  array-cut (array ds) = refl
-  array-cut (object ms) = refl
-
   member-cut : (name : List ℕ) (ms : Members) → get_member name (cut_members k ms) ≡ option_map (cut k) (get_member name ms)
   member-cut name no_members = refl
   member-cut name (member l d ms) = found (slice_cmp nat_cmp name l) (get_member name (cut_members k ms)) (get_member name ms) (member-cut name ms)
@@ -82,25 +50,33 @@ module _ (k : ℕ) where
       found Equal a b e = refl
       found Greater a b e = e
 
-  get-cut : (name : List ℕ) (d : Data) → get name (cut (suc k) d) ≡ option_map (cut k) (get name d)
-  get-cut name null = refl
-  get-cut name (boolean b) = refl
-  get-cut name (number n) = refl
-  get-cut name (string s) = refl
-  get-cut name (array ds) = refl
-  get-cut name (object ms) = member-cut name ms
+  -- What the value itself is is seen as before, and each value in it is cut.
+  record IsSeen (d : Data) : Type 0 where
+    number : as_number (cut (suc k) d) ≡ as_number d
+    truth : as_bool (cut (suc k) d) ≡ as_bool d
+    text : as_str (cut (suc k) d) ≡ as_str d
+    items : as_array (cut (suc k) d) ≡ option_map (cut_items k) (as_array d)
+    named : (name : List ℕ) → get name (cut (suc k) d) ≡ option_map (cut k) (get name d)
+
+  seen : (d : Data) → IsSeen d
+  seen null = record { number = refl; truth = refl; text = refl; items = refl; named = λ name. refl }
+  seen (boolean b) = record { number = refl; truth = refl; text = refl; items = refl; named = λ name. refl }
+  seen (number n) = record { number = refl; truth = refl; text = refl; items = refl; named = λ name. refl }
+  seen (string s) = record { number = refl; truth = refl; text = refl; items = refl; named = λ name. refl }
+  seen (array ds) = record { number = refl; truth = refl; text = refl; items = refl; named = λ name. refl }
+  seen (object ms) = record { number = refl; truth = refl; text = refl; items = refl; named = λ name. member-cut name ms }
 
   sees-whole : Sees (suc k) whole
-  sees-whole d = rw (number-cut d) refl
+  sees-whole d = let same = (seen d).number in rw same refl
 
   sees-change : Sees (suc k) change
-  sees-change d = rw (number-cut d) refl
+  sees-change d = let same = (seen d).number in rw same refl
 
   sees-truth : Sees (suc k) truth
-  sees-truth d = bool-cut d
+  sees-truth d = (seen d).truth
 
   sees-text : Sees (suc k) text
-  sees-text d = text-cut d
+  sees-text d = (seen d).text
 
   -- ---- values that are read down to so many levels
 
@@ -135,10 +111,10 @@ module _ {A : Type 0} (k : ℕ) (s : Shape A) (sees : Sees k s) where
   each-cut (item d ds) = ap₂ (λ o r. option_and_then (λ x. option_map (λ xs. x ∷ xs) r) o) (sees d) (each-cut ds)
 
   sees-list : Sees (suc k) (list_of s)
-  sees-list d = ap (option_and_then (each s)) (array-cut k d) ∙ unchanged (each s) (cut_items k) each-cut (as_array d)
+  sees-list d = ap (option_and_then (each s)) (seen k d).items ∙ unchanged (each s) (cut_items k) each-cut (as_array d)
 
   sees-member : (name : List ℕ) → Sees (suc k) (at name s)
-  sees-member name d = ap (option_and_then s) (get-cut k name d) ∙ unchanged s (cut k) sees (get name d)
+  sees-member name d = ap (option_and_then s) ((seen k d).named name) ∙ unchanged s (cut k) sees (get name d)
 
   need-cut : (t : Option ℕ) (m : Member) (d : Data) → need t m s (cut (suc k) d) ≡ need t m s d
   need-cut t m d = ap (λ o. ok_or o (refused.Shape t m)) (sees-member (name_of m) d)
@@ -148,7 +124,7 @@ module _ {A : Type 0} (k : ℕ) (s : Shape A) (sees : Sees k s) where
   shaped-cut e (Some d) = ap (λ r. ok_or (option_map Some r) e) (sees d)
 
   may-cut : (t : ℕ) (m : Member) (d : Data) → may t m s (cut (suc k) d) ≡ may t m s d
-  may-cut t m d = ap (shaped (refused.Shape (Some t) m) s) (get-cut k (name_of m) d) ∙ shaped-cut (refused.Shape (Some t) m) (get (name_of m) d)
+  may-cut t m d = ap (shaped (refused.Shape (Some t) m) s) ((seen k d).named (name_of m)) ∙ shaped-cut (refused.Shape (Some t) m) (get (name_of m) d)
 
 module _ {A B : Type 0} (k : ℕ) (a : Shape A) (b : Shape B) (first : Sees k a) (second : Sees k b) where
   two-cut : (ds : Items) → two a b (cut_items k ds) ≡ two a b ds
@@ -158,7 +134,7 @@ module _ {A B : Type 0} (k : ℕ) (a : Shape A) (b : Shape B) (first : Sees k a)
   two-cut (item x (item y (item z ds))) = refl
 
   sees-pair : Sees (suc k) (pair a b)
-  sees-pair d = ap (option_and_then (two a b)) (array-cut k d) ∙ unchanged (two a b) (cut_items k) two-cut (as_array d)
+  sees-pair d = ap (option_and_then (two a b)) (seen k d).items ∙ unchanged (two a b) (cut_items k) two-cut (as_array d)
 
 -- ---- the parts of tables
 
@@ -222,14 +198,14 @@ module _ (version : ℕ) where
 
   listed-cut : (o : Option Data) → from (option_and_then (list_of shape.object) (option_map (cut 7) o)) ≡ from (option_and_then (list_of shape.object) o)
   listed-cut None = refl
-  listed-cut (Some d) = ap (λ a. from (option_and_then (each shape.object) a)) (array-cut 6 d) ∙ items-cut (as_array d)
+  listed-cut (Some d) = ap (λ a. from (option_and_then (each shape.object) a)) (seen 6 d).items ∙ items-cut (as_array d)
     where
       items-cut : (a : Option Items) → from (option_and_then (each shape.object) (option_map (cut_items 6) a)) ≡ from (option_and_then (each shape.object) a)
       items-cut None = refl
       items-cut (Some ds) = ap from (objects-cut 5 ds) ∙ from-cut (each shape.object ds)
 
   tables-cut : (d : Data) → from (at (name_of names.Tables) (list_of shape.object) (cut 8 d)) ≡ from (at (name_of names.Tables) (list_of shape.object) d)
-  tables-cut d = ap (λ o. from (option_and_then (list_of shape.object) o)) (get-cut 7 (name_of names.Tables) d) ∙ listed-cut (get (name_of names.Tables) d)
+  tables-cut d = ap (λ o. from (option_and_then (list_of shape.object) o)) ((seen 7 d).named (name_of names.Tables)) ∙ listed-cut (get (name_of names.Tables) d)
 
 -- the members of an object, whose tables are read so
 abbrev by_tables : Members → (ℕ → Result (List TableMembers) ShapeRefused) → Result DocMembers ShapeRefused
