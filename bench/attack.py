@@ -233,6 +233,7 @@ def shapes():
     """The greatest inputs, of every shape, in a second each."""
     first = dict(examples())["first-path"]
     open_end = first.rstrip()[:-1]
+    deep = b"[" * 126 + b"]" * 126
     one = b'{"version":1,"points":[["A",0],["B",0]],"links":[["A","B"]],"zones":1,"trains":["T"],"start":[0],"tables":[{"missions":[["A","B"]],"certificate":['
     missions = [[f"{'AB'[k % 2]}{i}" for k in range(128)] for i in range(32)]
     sections = [{"limit": 32, "changes": [[(1, -1)[k % 2] if (i + s) % 3 else 0 for k in range(128)] for i in range(32)]} for s in range(64)]
@@ -267,8 +268,15 @@ def shapes():
         "one line of a journal": filled(first + b"journal\n", b"1", b""),
         "a node too many": one + b",".join([b"[3]"] * 1_000_001) + b"]}]}",
         "lists in 200 lists": b"[" * 200 + b"]" * 200,
+        "lists in 125 lists of a member": open_end + b',"more":' + deep + b"}",
+        "the same with version 9": open_end + b',"version":9,"more":' + deep + b"}",
+        "a list more in them": open_end + b',"more":[' + deep + b"]}",
+        "many such lists": filled(open_end + b',"more":[', deep[1:-1] + b",", b"0]}"),
+        "fractions in a member": filled(open_end + b',"more":[', b"1.5,", b"0]}"),
+        "fractions with version 9": filled(b'{"version":9,"more":[', b"1.5,", b"0]}"),
     }
     lines = {
+        "the same with version 9": "103 Version value=9", "a list more in them": "101 NotJson", "fractions with version 9": "103 Version value=9",
         "brackets": "101 NotJson", "lists in 200 lists": "101 NotJson", "arrived nodes": "42 Over table=0 used=1",
         "a node too many": "43 TooMany table=0 count=1000001", "splits on one path": "51 Split table=0 index=1",
         "trees that are missing": "41 Short table=0 missing=1000001", "a byte too many": f"104 TooLong limit={MOST}",
