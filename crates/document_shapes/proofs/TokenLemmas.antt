@@ -100,6 +100,22 @@ module _ {X : Type 0} (R : Data → X → Type 0) (depth : ℕ) (all : List Toke
       subst (λ zs. TakesItems R depth all zs rest) (append-nil xs)
       (h.goes json.no_items no_items [] rest (items_end (value depth) h.turns before rest h.enough ended) refl tt)
 
+module _ {X : Type 0} (R : Data → X → Type 0) (depth : ℕ) where
+  -- These values come first, one after another, and then the end of their list.
+  abbrev pub Follow : List Token → List X → List Token → Type 0
+  Follow tokens [] rest = after_end_array tokens ≡ Some rest
+  Follow tokens (x ∷ xs) rest = (mid : List Token) × Takes R depth tokens x mid × Follow mid xs rest
+
+  followed : (all : List Token) (done xs : List X) (tokens rest : List Token) → ItemsTo R depth all done tokens → Follow tokens xs rest → TakesItems R depth all (done ++ xs) rest
+  followed all done [] tokens rest h ended = subst (λ ys. TakesItems R depth all ys rest) (sym (append-nil done)) (items_done R depth all done tokens rest h ended)
+  followed all done (x ∷ xs) tokens rest h next =
+      let taken = next.1 in
+      let more = item_taken R depth all done (done ++ x ∷ []) tokens next.0 x h (takes-begins depth tokens next.0 taken.0 taken.2) taken refl in
+      subst (λ ys. TakesItems R depth all ys rest) (append_assoc done (x ∷ []) xs) (followed all (done ++ x ∷ []) xs next.0 rest more next.2)
+
+  pub follow-items : (tokens rest : List Token) (xs : List X) → Follow tokens xs rest → TakesItems R depth tokens xs rest
+  follow-items tokens rest xs h = followed tokens [] xs tokens rest (items_start R depth tokens) h
+
 module _ (depth inner : ℕ) (tokens mid : List Token) where
   pub opens-list : Opens Token.begin_array depth tokens inner mid → value depth tokens ≡ parse_map json.array (items (value inner) (length mid) mid)
   opens-list h =
@@ -130,6 +146,10 @@ module _ (depth inner : ℕ) (tokens mid : List Token) where
       → TakesItems (λ d n. whole d ≡ Some n) inner mid ns rest → Takes (λ d y. option_and_then f (list_of whole d) ≡ Some y) depth tokens x rest
   takes-numbers f ns x rest is begins h =
       takes-list (λ d n. whole d ≡ Some n) (λ d y. option_and_then f (list_of whole d) ≡ Some y) ns x rest (λ ds z. ap (option_and_then f) (each_number ds ns z) ∙ is) begins h
+
+  pub takes-followed : {A : Type 0} (f : List ℕ → Option A) (ns : List ℕ) (x : A) (rest : List Token) → f ns ≡ Some x → Opens Token.begin_array depth tokens inner mid
+      → Follow (λ d n. whole d ≡ Some n) inner mid ns rest → Takes (λ d y. option_and_then f (list_of whole d) ≡ Some y) depth tokens x rest
+  takes-followed f ns x rest is begins h = takes-numbers f ns x rest is begins (follow-items (λ d n. whole d ≡ Some n) inner mid rest ns h)
 
   -- an object is what its members are
   pub takes-object : {X : Type 0} (F : Members → X → Type 0) (x : X) (rest : List Token) → Opens Token.begin_object depth tokens inner mid → TakesMembers F inner mid x rest

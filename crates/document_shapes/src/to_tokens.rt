@@ -161,11 +161,11 @@ fn write_list<T: ToTokens>(text: &mut TokenText, items: &[T])
     ensures tokens { AddsTokens (tokens_of (list_data T.ToTokens.stands items.now)) text.old text.new }
     ensures in_range { All T.ToTokens.in_range items.now }
 {
-    text.token(Token::BeginArray);
+    text.begin_array();
     for item in items {
         item.to_tokens(text);
     }
-    text.token(Token::EndArray);
+    text.end_array();
 }
 
 impl<A: ToTokens, B: ToTokens> ToTokens for (A, B) {
@@ -174,9 +174,9 @@ impl<A: ToTokens, B: ToTokens> ToTokens for (A, B) {
     ghost in_range = { λ p. A.ToTokens.in_range p.0 × B.ToTokens.in_range p.1 };
 
     fn to_tokens(&self, text: &mut TokenText) {
-        text.token(Token::BeginArray);
+        text.begin_array();
         self.0.to_tokens(text);
         self.1.to_tokens(text);
-        text.token(Token::EndArray);
+        text.end_array();
     }
 }

@@ -1,59 +1,22 @@
 // Nodes, connections, times and sections, read of the tokens of a text.
-ghost use Rattle.std.specs.Prelude.{◌≡◌, ◌≤◌, IfSome, Some, length, take};
+ghost use Rattle.std.specs.Prelude.{◌≡◌, OnSome, Some};
+ghost use Rattle.json.specs.Json.{after_end_array};
 ghost use Rattle.document_shapes.specs.Parts as part;
 ghost use Rattle.document_shapes.specs.Shape as shape;
-ghost use Rattle.document_shapes.specs.Taken.{TakesItems};
 
 use crate::from_members::{FromMembers, object};
 use crate::from_tokens::{FromTokens, Tokens, list_begins, read_into};
 use crate::passing::pass_value;
 use rail_model::{Changes, Connection, Node, Section, TrainTimes};
 
-// Whole numbers, at most four.
-#[derive(Drop)]
-struct FewNumbers {
-    numbers: [u32; 4],
-    count: usize,
-}
-
-impl FewNumbers {
-    fn as_slice(&self) -> &[u32]
-        requires { self.now.count ≤ 4 }
-        ensures { result.now ≡ take self.now.count self.now.numbers }
-    {
-        &self.numbers[..self.count]
-    }
-}
-
-// The whole numbers of a list up to its end, where there are at most four.
-fn few_numbers(tokens: &mut Tokens<'_>, depth: usize) -> Option<FewNumbers>
-    ensures numbers { IfSome result (λ f. TakesItems (λ d n. shape.whole d ≡ Some n) depth tokens.old.reader (take f.count f.numbers) tokens.new.reader) }
-    ensures few { IfSome result (λ f. f.count ≤ 4) }
+// Passes over the end of a list, where it is next.
+fn list_ends(tokens: &mut Tokens<'_>) -> Option<()>
+    ensures { OnSome result (after_end_array tokens.old.reader ≡ Some tokens.new.reader) }
 {
-    let mut numbers = [0; 4];
-    let mut count = 0;
-    'items: while !tokens.reader.take_end_array() {
-        if count == 4 {
-            return None;
-        }
-        let number = u32::from_tokens(tokens, depth)?;
-        numbers[count] = number;
-        count += 1;
-    }
-    Some(FewNumbers { numbers, count })
-}
-
-// The node that the numbers stand for.
-fn node_of(numbers: &[u32]) -> Option<Node>
-    ensures { result ≡ part.node_of numbers.now }
-{
-    match *numbers {
-        [0, train, place] => Some(Node::Split { train, place }),
-        [1, first, second] => Some(Node::Clash { first, second }),
-        [2, section] => Some(Node::Overfull { section }),
-        [3] => Some(Node::Arrived),
-        [4, train] => Some(Node::Move { train }),
-        _ => None,
+    if tokens.reader.take_end_array() {
+        Some(())
+    } else {
+        None
     }
 }
 
@@ -62,18 +25,35 @@ impl FromTokens for Node {
 
     fn from_tokens(tokens: &mut Tokens<'_>, depth: usize) -> Option<Node> {
         let inner = list_begins(tokens, depth)?;
-        let few = few_numbers(tokens, inner)?;
-        node_of(few.as_slice())
-    }
-}
-
-// The connection that the numbers stand for.
-fn connection_of(numbers: &[u32]) -> Option<Connection>
-    ensures { result ≡ part.connection_of numbers.now }
-{
-    match *numbers {
-        [train, place, other, reached] => Some(Connection::new(train, place, other, reached)),
-        _ => None,
+        match u32::from_tokens(tokens, inner)? {
+            0 => {
+                let train = u32::from_tokens(tokens, inner)?;
+                let place = u32::from_tokens(tokens, inner)?;
+                list_ends(tokens)?;
+                Some(Node::Split { train, place })
+            }
+            1 => {
+                let first = u32::from_tokens(tokens, inner)?;
+                let second = u32::from_tokens(tokens, inner)?;
+                list_ends(tokens)?;
+                Some(Node::Clash { first, second })
+            }
+            2 => {
+                let section = u32::from_tokens(tokens, inner)?;
+                list_ends(tokens)?;
+                Some(Node::Overfull { section })
+            }
+            3 => {
+                list_ends(tokens)?;
+                Some(Node::Arrived)
+            }
+            4 => {
+                let train = u32::from_tokens(tokens, inner)?;
+                list_ends(tokens)?;
+                Some(Node::Move { train })
+            }
+            _ => None,
+        }
     }
 }
 
@@ -82,8 +62,12 @@ impl FromTokens for Connection {
 
     fn from_tokens(tokens: &mut Tokens<'_>, depth: usize) -> Option<Connection> {
         let inner = list_begins(tokens, depth)?;
-        let few = few_numbers(tokens, inner)?;
-        connection_of(few.as_slice())
+        let train = u32::from_tokens(tokens, inner)?;
+        let place = u32::from_tokens(tokens, inner)?;
+        let other = u32::from_tokens(tokens, inner)?;
+        let reached = u32::from_tokens(tokens, inner)?;
+        list_ends(tokens)?;
+        Some(Connection::new(train, place, other, reached))
     }
 }
 

@@ -3,6 +3,7 @@ ghost use Rattle.std.specs.Prelude.{◌≡◌, [], ◌∷◌, ◌++◌, false, I
 ghost use Rattle.std.specs.Result.{IsOk};
 ghost use Rattle.json.specs.Print.{print, IsPrintable};
 ghost use Rattle.json.specs.Reads.{token_of};
+ghost use Rattle.json.specs.Token.{begin_array, end_array};
 ghost use Rattle.document_shapes.specs.Added.{AddsTokens};
 
 use json::{Token, Writer};
@@ -43,6 +44,22 @@ impl TokenText {
         ensures { AddsTokens (token_of token.entry ∷ []) self.old self.new }
     {
         let written = self.writer.token(token);
+        self.note(written);
+    }
+
+    /// Begins a list.
+    pub(crate) fn begin_array(&mut self)
+        ensures { AddsTokens (begin_array ∷ []) self.old self.new }
+    {
+        let written = self.writer.begin_array();
+        self.note(written);
+    }
+
+    /// Ends a list.
+    pub(crate) fn end_array(&mut self)
+        ensures { AddsTokens (end_array ∷ []) self.old self.new }
+    {
+        let written = self.writer.end_array();
         self.note(written);
     }
 

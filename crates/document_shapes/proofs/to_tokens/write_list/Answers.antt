@@ -8,7 +8,7 @@ loop-item-preserved g c =
 
 pub returns-clause-tokens : goal.returns-clause-tokens
 returns-clause-tokens g c =
-    write_end g.T.ToTokens.stands g.T.ToTokens.in_range c.args.items.now _ _ _ _ c.loop-item-test.false c.token-2.ensures c.loop-item.invariant
+    write_end g.T.ToTokens.stands g.T.ToTokens.in_range c.args.items.now _ _ _ _ c.loop-item-test.false c.end_array.ensures c.loop-item.invariant
 
 pub returns-clause-in_range : goal.returns-clause-in_range
 returns-clause-in_range g c = subst (All g.T.ToTokens.in_range) (take_all _ c.args.items.now c.loop-item-test.false) c.loop-item.invariant.in_range
