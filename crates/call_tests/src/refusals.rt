@@ -208,7 +208,7 @@ fn deeper_lists_are_refused(rt: HostRuntime) -> Result<(), Fail> {
     assert!(rt; is_refused(&rt, alloc, "check", &deeper, "101 NotJson")?);
     let accepted = joined(alloc, &[head, r#","more":"#, OPEN, CLOSE, "}"])?;
     let played = call(&rt, alloc, "check", accepted)?;
-    assert!(rt; played.written.as_slice() == b"accepted tables=1 nodes=3\n");
+    assert!(rt; played.written.as_slice() == b"accepted tables=1 nodes=3\n".as_slice());
     Ok(())
 }
 
