@@ -16,7 +16,7 @@ use std::marker::Model;
 #[derive(Drop)]
 struct Standers {
     pairs: Vec<(u32, u32)>,
-    // No train of the pairs is later.
+    // No pair is of a train after this one.
     latest: u32,
     // For each pair the least of the last `most - 1` trains that make its step; 0 where there are fewer.
     lasts: Vec<u32>,
@@ -65,7 +65,7 @@ impl Standing {
         &self.points[point as usize].pairs
     }
 
-    // A train, none later than which is ever at the point.
+    // No train after this one is ever at the point.
     pub(crate) fn latest(&self, point: u32) -> u32
         requires { point < length self.now }
         ensures { AreUpTo result (slice_index_or self.now point []) }
@@ -147,7 +147,7 @@ fn last_of_many(missions: &Missions, pairs: &[(u32, u32)], to: Option<u32>, many
     0
 }
 
-// A train, none later than which has one of the pairs.
+// No train after this one has one of the pairs.
 fn latest_of(pairs: &[(u32, u32)]) -> u32
     ensures { AreUpTo result pairs.now }
 {
