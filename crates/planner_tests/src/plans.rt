@@ -23,34 +23,6 @@ reached = "M"
 line 13: connection 0: "M" comes more than once on the route of train "T0": write #1, #2 .. behind it
 ====
 plan
-[[train]]
-name = "T0"
-route = ["A", "M", "N", "B"]
-
-[[train]]
-name = "T1"
-route = ["C", "N", "M", "D"]
-
-[[section]]
-name = "corridor"
-limit = 1
-points = ["M", "N"]
-
-[[connection]]
-train = "T1"
-leaves = "C"
-after = "T0"
-reached = "N"
-
-[[table]]
-after = 4
-[[table.train]]
-name = "T1"
-route = ["C", "N", "M", "A"]
-----
-{"links":[["A","M"],["M","N"],["N","B"],["C","N"],["M","D"]],"points":[["A",0],["M",0],["N",0],["B",0],["C",0],["D",0]],"start":[0,0],"tables":[{"after":0,"certificate":[],"connections":[[1,0,0,2]],"exits":[false,false],"missions":[["A","M","N","B"],["C","N","M","D"]],"sections":[{"changes":[[0,1,0,-1],[0,1,0,-1]],"limit":1}],"times":[[1,1,1],[1,1,1]]},{"after":4,"certificate":[],"connections":[[1,0,0,2]],"exits":[false,false],"missions":[["A","M","N","B"],["C","N","M","A"]],"sections":[{"changes":[[0,1,0,-1],[0,1,0,-1]],"limit":1}],"times":[[1,1,1],[1,1,1]]}],"trains":["T0","T1"],"version":3,"zones":1}
-====
-plan
 # a loop that is run twice, zones, times by link, weights and a stretch
 lines = [["A", "B", "C", "D", "A"]]
 
@@ -158,10 +130,11 @@ limit = 1
 points = ["M", "N"]
 "##;
 
-// The corridor with some of its lines changed, by their numbers, and the mistakes that are told. `/` ends a line, `;` is between two changes,
-// and line 13 is after the last.
+// The corridor with some of its lines changed, by their numbers, and what is answered: a document, or the mistakes that are told. `/` ends a
+// line, `;` is between two changes, and line 13 is after the last.
 const CHANGES: &str =
-    r##"7: exits = true / route = ["C", "N", "M", "D"] => line 7: train "T1": no key "exits"; the keys are name, route, start, exit, times
+    r##"13: / [[connection]] / train = "T1" / leaves = "C" / after = "T0" / reached = "N" / / [[table]] / after = 4 / [[table.train]] / name = "T1" / route = ["C", "N", "M", "A"] => {"links":[["A","M"],["M","N"],["N","B"],["C","N"],["M","D"]],"points":[["A",0],["M",0],["N",0],["B",0],["C",0],["D",0]],"start":[0,0],"tables":[{"after":0,"certificate":[],"connections":[[1,0,0,2]],"exits":[false,false],"missions":[["A","M","N","B"],["C","N","M","D"]],"sections":[{"changes":[[0,1,0,-1],[0,1,0,-1]],"limit":1}],"times":[[1,1,1],[1,1,1]]},{"after":4,"certificate":[],"connections":[[1,0,0,2]],"exits":[false,false],"missions":[["A","M","N","B"],["C","N","M","A"]],"sections":[{"changes":[[0,1,0,-1],[0,1,0,-1]],"limit":1}],"times":[[1,1,1],[1,1,1]]}],"trains":["T0","T1"],"version":3,"zones":1}
+7: exits = true / route = ["C", "N", "M", "D"] => line 7: train "T1": no key "exits"; the keys are name, route, start, exit, times
 3: start = "M" / route = ["A", "M", "N", "B"]; 7: start = "N" / route = ["C", "N", "M", "D"] => line 13: section "corridor": at the start 2 of 1 are taken, T0 1, T1 1
 7: start = "Q7" / route = ["C", "N", "M", "D"] => line 7: train "T1": no point "Q7"; the points are A, M, N, B, C, D
 7: times = { default = 2, "C Nn" = 3 } / route = ["C", "N", "M", "D"] => line 7: train "T1": no point "Nn"; did you mean "N"?
@@ -258,7 +231,7 @@ fn plans_are_answered_as_their_rows_say(rt: HostRuntime) -> Result<(), Fail> {
 }
 
 #[test]
-fn mistakes_are_told_with_their_lines(rt: HostRuntime) -> Result<(), Fail> {
+fn changes_of_the_corridor_are_answered(rt: HostRuntime) -> Result<(), Fail> {
     for row in CHANGES.lines() {
         play_changed(&rt, rt.alloc(), row)?;
     }
