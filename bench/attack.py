@@ -478,7 +478,8 @@ def tools():
     if not shutil.which("valgrind"):
         return
     watched = ["valgrind", "-q", "--error-exitcode=99"]
-    for name, text in examples():
+    drawn = [(f"seed {seed}", ats(f"gen --seed {seed} --trains 4", b"").out) for seed in range(5)]
+    for name, text in [*examples(), *drawn]:
         for command in COMMANDS:
             judge = legal(text) if "workers" in command else same(ats(command, text))
             yield Attack(f"{command} on {name} under valgrind", command, text, judge, PATIENCE, lambda words, text: ats(words, text, watched))
