@@ -1,4 +1,4 @@
-// Values of a text that are passed over.
+// Values of a text that are skipped.
 ghost use Rattle.std.specs.Prelude.{◌≡◌, length, Some, None, MatchOption};
 ghost use Rattle.serde_json.specs.Data.{no_members};
 ghost use Rattle.document_shapes.specs.Passed.{after_value, after_items, after_members};
@@ -6,7 +6,7 @@ ghost use Rattle.document_shapes.specs.Passed.{after_value, after_items, after_m
 use crate::number_text::number_in;
 use json::{Reader, Token};
 
-/// Passes over the next value, where `serde_json` reads it and it nests at most so deep.
+/// Skips the next value, where `serde_json` reads it and it nests at most so deep.
 #[cycle(pass)]
 #[inline(always)]
 pub(crate) fn pass_value(reader: &mut Reader<'_>, depth: usize) -> Option<()>
@@ -21,7 +21,7 @@ pub(crate) fn pass_value(reader: &mut Reader<'_>, depth: usize) -> Option<()>
     }
 }
 
-// Passes over the items of a list and its end. Only this function and the next are on the stack at each level, so that a
+// Skips the items of a list and its end. Only this function and the next are on the stack at each level, so that a
 // level takes little of it.
 #[cycle(pass)]
 #[inline(never)]
@@ -35,7 +35,7 @@ fn pass_items(reader: &mut Reader<'_>, depth: usize) -> Option<()>
     Some(())
 }
 
-// Passes over the members of an object and its end.
+// Skips the members of an object and its end.
 #[cycle(pass)]
 #[inline(never)]
 fn pass_members(reader: &mut Reader<'_>, depth: usize) -> Option<()>

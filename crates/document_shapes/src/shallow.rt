@@ -18,7 +18,7 @@ use std::alloc::Global;
 // How many levels of a value a document has.
 const DOCUMENT_LEVELS: usize = 8;
 
-// The next value down to so many levels, where it nests at most so deep. What is below them is passed over, since a reader
+// The next value down to so many levels, where it nests at most so deep. What is below them is skipped, since a reader
 // that calls itself with a value for each level takes much stack.
 #[cycle(read)]
 #[inline(always)]

@@ -9,7 +9,7 @@ use crate::from_tokens::{FromTokens, Tokens, list_begins, read_into};
 use crate::passing::pass_value;
 use rail_model::{Changes, Connection, Node, Section, TrainTimes};
 
-// Passes over the end of a list, where it is next.
+// Skips the end of a list, where it is next.
 fn list_ends(tokens: &mut Tokens<'_>) -> Option<()>
     ensures { OnSome result (after_end_array tokens.old.reader ≡ Some tokens.new.reader) }
 {
