@@ -1,5 +1,5 @@
 -- Rows that stand one after another in one list of cells.
-use Rattle.std.proofs.Common.{◌≡◌, ℕ, ◌+◌, ◌-◌, ◌*◌, ◌%◌, ◌<◌, ◌≤◌, List, [], length, get_or, take, drop, sym, ◌∙◌, ap, subst, arith}
+use Rattle.std.proofs.Common.{◌≡◌, ℕ, ◌+◌, ◌-◌, ◌*◌, ◌/◌, ◌<◌, ◌≤◌, ℤ, pos, refl, List, [], length, get_or, take, drop, sym, ◌∙◌, ap, subst, arith}
 use Rattle.std.proofs.Math.Seq.{take-length}
 use Rattle.std.proofs.lemmas.List.{length-drop, length-take-le, get_or-drop, get_or-take}
 use Rattle.std.proofs.lemmas.Nat.{div-mul-add, mod-mul-add, mul-le}
@@ -7,9 +7,10 @@ use Rattle.std.proofs.lemmas.List.FromFn.{get_or-map-range_with_len, length-map-
 use Rattle.std.specs.List.{slice_range}
 use Rattle.rail_model.specs.Table.{Table, last, share}
 use Rattle.state_boxes.specs.declared.extremes.Extremes.{Extremes}
-use Rattle.state_boxes.specs.Cells.{rows_of, AreSingle}
+use Rattle.state_boxes.specs.Cells.{cells_of, rows_of, AreSingle}
 use Rattle.state_boxes.specs.Each.{IsEach}
 use Rattle.state_boxes.specs.Extremes.{nothing, joined, IsExtremes, IsRow, IsLevel, IsJoinedRow}
+use Rattle.state_boxes.proofs.Halved.{list_many, cell_is}
 use Rattle.state_boxes.proofs.Joins.{row_join}
 
 -- the cells of a row end before those of the rows after it
@@ -52,21 +53,24 @@ row_of k rows size cells all rows_is many lt =
     record { there = there; ends = omega (arith, row_end k rows size there, many) }
 
 -- the rows of single places
-pub single_rows : (T : Table) (i rows : ℕ) (cells : List Extremes) → AreSingle T i cells → length cells ≡ rows * length T.sections
-    → IsEach (λ lo row. IsRow T i lo 0 row) rows [] (rows_of rows (length T.sections) cells)
-single_rows T i rows cells single many = (
-  rows_many rows (length T.sections) cells,
-  λ k lt. (
-    row_many rows (length T.sections) cells k lt many,
-    λ s s_in.
-        let n = length T.sections in
-        let ends = row_end k rows n lt in
-        let here = single.1 (k * n + s) (omega (arith, ends, many, s_in)) in
-        subst (IsExtremes (share T i s) k 0) (sym (row_cell rows n cells k s lt s_in))
-        (subst (λ (t : ℕ). IsExtremes (share T i t) k 0 (get_or cells (k * n + s) nothing)) (mod-mul-add k n s s_in)
-        (subst (λ (place : ℕ). IsExtremes (share T i ((k * n + s) % n)) place 0 (get_or cells (k * n + s) nothing)) (div-mul-add k n s s_in) here)),
-  ),
-)
+pub single_rows : (T : Table) (i rows : ℕ) (shares : List ℤ) → AreSingle T i shares → length shares ≡ rows * length T.sections
+    → IsEach (λ lo row. IsRow T i lo 0 row) rows [] (rows_of rows (length T.sections) (cells_of shares shares))
+single_rows T i rows shares single many =
+    let n = length T.sections in
+    let cells = cells_of shares shares in
+    let all : length cells ≡ rows * n = sym (list_many shares shares cells refl refl) ∙ many in (
+      rows_many rows n cells,
+      λ k lt. (
+        row_many rows n cells k lt all,
+        λ s s_in.
+            let ends = row_end k rows n lt in
+            let before : k * n + s < length shares = omega (arith, ends, many, s_in) in
+            let cell = row_cell rows n cells k s lt s_in ∙ sym (cell_is shares shares cells refl refl (k * n + s) (omega (arith, list_many shares shares cells refl refl, before))) in
+            let here : get_or shares (k * n + s) (pos 0) ≡ share T i s k =
+            single.1 (k * n + s) before ∙ ap (λ (t : ℕ). share T i t ((k * n + s) / n)) (mod-mul-add k n s s_in) ∙ ap (share T i s) (div-mul-add k n s s_in) in
+            subst (IsExtremes (share T i s) k 0) (sym cell) (record { least_is = here; greatest_is = here }),
+      ),
+    )
 
 -- each row is joined of two where the cells are joined of those that stand that many rows later
 module _ (rows size width : ℕ) (cells both : List Extremes) (fits : width ≤ rows) (many : length cells ≡ rows * size)
@@ -114,45 +118,44 @@ pub level_many : (T : Table) (i rows size width : ℕ) (cells : List Extremes) �
     → rows ≡ last T i + 2 - width
 level_many T i rows size width cells level = sym (rows_many rows size cells) ∙ level.each_row.0
 
--- the first rows of a level, as many as its width, are some of its rows
-pub width_within : (T : Table) (i rows size width : ℕ) (ys cells : List Extremes) → ys ≡ cells → length cells ≡ rows * size
-    → IsLevel T i (record { width = width; rows = rows_of rows size cells }) → 2 * width ≤ last T i + 1 → width * size ≤ length ys
-width_within T i rows size width ys cells same many level fits =
-    let few : width * size ≤ rows * size = mul-le width size rows size (omega (arith, level_many T i rows size width cells level, fits)) (omega arith) in
-    subst (λ (zs : List Extremes). width * size ≤ length zs) (sym same) (omega (arith, few, many))
-
--- the part from one cell on, as it is cut from a slice
-pub cut_from : (at : ℕ) (cells : List Extremes) → take (length cells - at) (drop at cells) ≡ drop at cells
+-- the part from one cell on
+cut_from : (at : ℕ) (cells : List Extremes) → take (length cells - at) (drop at cells) ≡ drop at cells
 cut_from at cells = subst (λ (n : ℕ). take n (drop at cells) ≡ drop at cells) (length-drop at cells) (take-length (drop at cells))
 
-pub cut_many : (rows size width : ℕ) (xs ys cells : List Extremes) → width ≤ rows → length cells ≡ rows * size → xs ≡ cells → ys ≡ cells
-    → length (take (length ys - width * size) (drop (width * size) ys)) ≡ length (take ((rows - width) * size) xs)
-cut_many rows size width xs ys cells fits many first second =
-    let few : (rows - width) * size ≤ rows * size = mul-le (rows - width) size rows size (omega arith) (omega arith) in
-    let front : length (take ((rows - width) * size) cells) ≡ (rows - width) * size = length-take-le ((rows - width) * size) cells (omega (arith, few, many)) in
-    let parts : (rows - width + width) * size ≡ (rows - width) * size + width * size = omega arith in
-    let whole : (rows - width + width) * size ≡ rows * size = ap (λ (n : ℕ). n * size) (omega (arith, fits)) in
-    let back : length (drop (width * size) cells) ≡ (rows - width) * size = length-drop (width * size) cells ∙ omega (arith, many, parts, whole) in
-    ap (λ (zs : List Extremes). length (take (length zs - width * size) (drop (width * size) zs))) second
-    ∙ ap (λ (zs : List Extremes). length zs) (cut_from (width * size) cells) ∙ back ∙ sym front
-    ∙ ap (λ (zs : List Extremes). length (take ((rows - width) * size) zs)) (sym first)
+-- the part before a cell
+front_is : (at : ℕ) (cells : List Extremes) → slice_range cells 0 at ≡ take at cells
+front_is at cells = ap (λ (n : ℕ). take n cells) (omega arith)
 
-pub level_next : (T : Table) (i rows size width : ℕ) (xs ys cells both : List Extremes) → xs ≡ cells → ys ≡ cells → length cells ≡ rows * size
+-- the rows that are joined for the next level: all but the last ones, and all but the first ones
+module _ (rows size width : ℕ) (cells : List Extremes) (fits : width ≤ rows) (many : length cells ≡ rows * size) where
+  pub back_is : slice_range cells (width * size) (rows * size) ≡ drop (width * size) cells
+  back_is = subst (λ (n : ℕ). take (n - width * size) (drop (width * size) cells) ≡ drop (width * size) cells) many (cut_from (width * size) cells)
+
+  pub cut_many : length (slice_range cells (width * size) (rows * size)) ≡ length (slice_range cells 0 ((rows - width) * size))
+  cut_many =
+      let few : (rows - width) * size ≤ rows * size = mul-le (rows - width) size rows size (omega arith) (omega arith) in
+      let front : length (take ((rows - width) * size) cells) ≡ (rows - width) * size = length-take-le ((rows - width) * size) cells (omega (arith, few, many)) in
+      let parts : (rows - width + width) * size ≡ (rows - width) * size + width * size = omega arith in
+      let whole : (rows - width + width) * size ≡ rows * size = ap (λ (n : ℕ). n * size) (omega (arith, fits)) in
+      let back : length (drop (width * size) cells) ≡ (rows - width) * size = length-drop (width * size) cells ∙ omega (arith, many, parts, whole) in
+      ap (λ (zs : List Extremes). length zs) back_is ∙ back ∙ sym (ap (λ (zs : List Extremes). length zs) (front_is ((rows - width) * size) cells) ∙ front)
+
+pub level_next : (T : Table) (i rows size width : ℕ) (first second cells both : List Extremes) → length cells ≡ rows * size
     → IsLevel T i (record { width = width; rows = rows_of rows size cells }) → 2 * width ≤ last T i + 1
-    → IsJoinedRow (take ((rows - width) * size) xs) (take (length ys - width * size) (drop (width * size) ys)) both
+    → first ≡ slice_range cells 0 ((rows - width) * size) → second ≡ slice_range cells (width * size) (rows * size) → IsJoinedRow first second both
     → IsLevel T i (record { width = 2 * width; rows = rows_of (rows - width) size both })
-level_next T i rows size width xs ys cells both first second many level fits join =
+level_next T i rows size width first second cells both many level fits first_is second_is join =
     let rows_is = level_many T i rows size width cells level in
     let some = level.some_places in
-    let cut : take (length ys - width * size) (drop (width * size) ys) ≡ drop (width * size) cells =
-    ap (λ (zs : List Extremes). take (length zs - width * size) (drop (width * size) zs)) second ∙ cut_from (width * size) cells in
-    let joined_first = subst (λ (zs : List Extremes). IsJoinedRow (take ((rows - width) * size) zs) (take (length ys - width * size) (drop (width * size) ys)) both) first join in
-    let joined_both = subst (λ (zs : List Extremes). IsJoinedRow (take ((rows - width) * size) cells) zs both) cut joined_first in
+    let within : width ≤ rows = omega (arith, rows_is, fits) in
+    let joined_first = subst (λ (zs : List Extremes). IsJoinedRow zs second both) (first_is ∙ front_is ((rows - width) * size) cells) join in
+    let joined_both = subst (λ (zs : List Extremes). IsJoinedRow (take ((rows - width) * size) cells) zs both)
+    (second_is ∙ back_is rows size width cells within many) joined_first in
     let before = subst (λ (n : ℕ). IsEach (λ lo row. IsRow T i lo (width - 1) row) n [] (rows_of rows size cells)) (sym rows_is) level.each_row in
     let count : rows - width ≡ last T i + 2 - 2 * width = omega (arith, rows_is) in
     record {
       some_places = omega (arith, some);
       fits = fits;
       each_row = subst (λ (n : ℕ). IsEach (λ lo row. IsRow T i lo (2 * width - 1) row) n [] (rows_of (rows - width) size both)) count
-          (next_rows rows size width cells both (omega (arith, rows_is, fits)) many joined_both T i some before);
+          (next_rows rows size width cells both within many joined_both T i some before);
     }

@@ -1,7 +1,8 @@
 -- A list that grows by the item that its next place asks for.
-use Rattle.std.proofs.Common.{◌≡◌, ℕ, ◌+◌, ◌<◌, List, [], ◌∷◌, ◌++◌, length, get_or, sym, subst, arith, inl, inr, length-append}
+use Rattle.std.proofs.Common.{◌≡◌, ℕ, ◌+◌, ◌<◌, List, [], ◌∷◌, ◌++◌, length, get_or, sym, ◌∙◌, subst, arith, inl, inr, length-append}
 use Rattle.std.proofs.lemmas.Bool.{cases_eq}
-use Rattle.std.proofs.lemmas.List.{get_or_append_left, get_or-append-add}
+use Rattle.std.specs.Prelude.{slice_set}
+use Rattle.std.proofs.lemmas.List.{get_or_append_left, get_or-append-add, get_or-set_same, get_or-set_other, length-set}
 use Rattle.state_boxes.specs.Each.{IsEach}
 
 pub at_last : {A : Type 0} (items : List A) (item none : A) (n : ℕ) → n ≡ length items → get_or (items ++ item ∷ []) n none ≡ item
@@ -24,3 +25,19 @@ each_push P n none items item before here = (
         subst (P k) (sym (at_early items item none k (omega (arith, before.0)))) (before.1 k early)
   ],
 )
+
+-- of this many items the first ones, up to a place, fit their places
+pub record IsUpTo {A : Type 0} (P : ℕ → A → Type 0) (done n : ℕ) (none : A) (items : List A) : Type 0 where
+  pub many : length items ≡ n
+  pub each : (k : ℕ) → k < done → P k (get_or items k none)
+
+pub up_to_next : {A : Type 0} (P : ℕ → A → Type 0) (done n : ℕ) (none : A) (items : List A) (item : A)
+    → IsUpTo P done n none items → done < n → P done item → IsUpTo P (done + 1) n none (slice_set items done item)
+up_to_next P done n none items item before lt here = record {
+  many = length-set items done item ∙ before.many;
+  each = λ k l. elim (cases_eq k done) [
+    | inl same ↦ subst (λ (j : ℕ). P j (get_or (slice_set items done item) j none)) (sym same)
+        (subst (P done) (sym (get_or-set_same items done item none (omega (arith, before.many, lt)))) here)
+    | inr other ↦ subst (P k) (sym (get_or-set_other items done k item none other)) (before.each k (omega arith))
+  ];
+}

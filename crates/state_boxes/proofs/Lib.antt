@@ -14,5 +14,7 @@ pub mod Stepped
 pub mod Summed
 pub mod Tight
 pub mod Growing
+pub mod Halved
 pub mod Shared
+pub mod Shifted
 mod Rows

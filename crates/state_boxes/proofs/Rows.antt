@@ -1,13 +1,17 @@
--- Worked rows: what is listed of the trains' shares, the rises of a table's steps, and which reasons tell that a train has no move.
-use Rattle.std.proofs.Common.{◌≡◌, ℕ, zero, suc, ◌<◌, ◌≤◌, List, [], ◌∷◌, pos, true, false, slice_index_or, refl, lit<, lit≤, arith}
+-- Worked rows: rows of shares and how sums move with them, what is listed of the trains' shares, the rises of a table's steps, and which reasons tell that a train has no move.
+use Rattle.std.proofs.Common.{◌≡◌, ℕ, zero, suc, ◌<◌, ◌≤◌, ◌%◌, ◌/◌, List, [], ◌∷◌, pos, ◌≤ℤ◌, true, false, slice_index_or, refl, lit<, lit≤, arith}
+use Rattle.std.specs.Int.{int_min, int_max}
 use Rattle.std.proofs.lemmas.Int.{ints}
-use Rattle.rail_model.specs.Table.{Table}
+use Rattle.rail_model.specs.Table.{Table, share}
 use Rattle.rail_model.specs.Certificate.{Range}
+use Rattle.state_boxes.specs.declared.extremes.Extremes.{Extremes}
 use Rattle.state_boxes.specs.declared.moves.Reason.TheVariants.{Unknown, AtEnd, Blocked, Full}
 use Rattle.state_boxes.specs.declared.rises.Rise.{Rise}
-use Rattle.state_boxes.specs.Extremes.{IsQuiet, AreListed, AreShared, AreMembers}
+use Rattle.state_boxes.specs.Bounds.{bound_at, AreFew, AreSmall, IsSide, AreHalves}
+use Rattle.state_boxes.specs.Cells.{cells_of, joined_row, rows_of, AreSingle}
+use Rattle.state_boxes.specs.Extremes.{nothing, IsQuiet, AreListed, AreShared, AreMembers}
 use Rattle.state_boxes.specs.Reasons.{TellsStanding}
-use Rattle.state_boxes.specs.Sums.{rises_at, AreSteps, AreRises, IsRise, is_tight, AreAllMembers}
+use Rattle.state_boxes.specs.Sums.{sums_of, moved, rises_at, AreSteps, AreRises, IsRise, is_tight, AreAllMembers}
 
 -- section 0 counts both trains: T0 as 1 at its first two places and as 3 at its last, T1 as 1 at its last;
 -- section 1 counts only T1, as 1 and then as 2
@@ -25,6 +29,90 @@ rise_0 = record { section = 0; place = 1; share = pos 3; by = pos 2 }
 -- T1 rises from its place 0 in both sections, by 1
 abbrev rises_1 : List Rise
 rises_1 = record { section = 0; place = 0; share = pos 1; by = pos 1 } ∷ record { section = 1; place = 0; share = pos 2; by = pos 1 } ∷ []
+
+-- two cells, of 0 to 1 and of 1 alone, and two others, of 1 to 2 and of 0 to 1
+abbrev front : List Extremes
+front = cells_of (pos 0 ∷ pos 1 ∷ []) (pos 1 ∷ pos 1 ∷ [])
+
+abbrev back : List Extremes
+back = cells_of (pos 1 ∷ pos 0 ∷ []) (pos 2 ∷ pos 1 ∷ [])
+
+cells : front ≡ record { least = pos 0; greatest = pos 1 } ∷ record { least = pos 1; greatest = pos 1 } ∷ []
+cells = refl
+
+-- together they are of 0 to 2 and of 0 to 1
+together : joined_row front back ≡ cells_of (pos 0 ∷ pos 0 ∷ []) (pos 2 ∷ pos 1 ∷ [])
+together = refl
+
+lesser : bound_at int_min (pos 0 ∷ pos 1 ∷ []) (pos 1 ∷ pos 0 ∷ []) 1 ≡ pos 0
+lesser = refl
+
+greater : bound_at int_max (pos 1 ∷ pos 1 ∷ []) (pos 2 ∷ pos 1 ∷ []) 0 ≡ pos 2
+greater = refl
+
+greatest_shares : IsSide (λ cell. cell.greatest) front (pos 1 ∷ pos 1 ∷ [])
+greatest_shares = (refl, at)
+  where
+    at : (k : ℕ) → k < 2 → slice_index_or (pos 1 ∷ pos 1 ∷ []) k (pos 0) ≡ (slice_index_or front k nothing).greatest
+    at zero lt = refl
+    at (suc zero) lt = refl
+    at (suc (suc k)) lt = absurd (omega (arith, lt))
+
+-- the greater ones of the greatest shares of both are those of the row together; the lesser ones aren't its least shares
+halves : AreHalves int_max (λ cell. cell.greatest) (joined_row front back) (pos 1 ∷ pos 1 ∷ []) (pos 2 ∷ pos 1 ∷ [])
+halves = record { first_many = refl; second_many = refl; each = at }
+  where
+    at : (k : ℕ) → k < 2 → bound_at int_max (pos 1 ∷ pos 1 ∷ []) (pos 2 ∷ pos 1 ∷ []) k ≡ (slice_index_or (joined_row front back) k nothing).greatest
+    at zero lt = refl
+    at (suc zero) lt = refl
+    at (suc (suc k)) lt = absurd (omega (arith, lt))
+
+not_halves : AreHalves int_min (λ cell. cell.least) (joined_row front back) (pos 1 ∷ pos 1 ∷ []) (pos 2 ∷ pos 1 ∷ []) → ⊥
+not_halves are = let one : pos 1 ≡ pos 0 = are.each 0 (lit< tt) in cc
+
+few : AreFew int_max 2 (pos 1 ∷ pos 1 ∷ []) (pos 2 ∷ pos 1 ∷ [])
+few = record { first_many = refl; second_many = refl; low = low; high = high }
+  where
+    low : (k : ℕ) → k < 2 → pos 0 ≤ℤ bound_at int_max (pos 1 ∷ pos 1 ∷ []) (pos 2 ∷ pos 1 ∷ []) k
+    low zero lt = grind (arith, ints)
+    low (suc zero) lt = grind (arith, ints)
+    low (suc (suc k)) lt = absurd (omega (arith, lt))
+
+    high : (k : ℕ) → k < 2 → bound_at int_max (pos 1 ∷ pos 1 ∷ []) (pos 2 ∷ pos 1 ∷ []) k ≤ℤ pos 4
+    high zero lt = grind (arith, ints)
+    high (suc zero) lt = grind (arith, ints)
+    high (suc (suc k)) lt = absurd (omega (arith, lt))
+
+not_few : AreFew int_max 1 (pos 5 ∷ []) (pos 0 ∷ []) → ⊥
+not_few are = let most : pos 5 ≤ℤ pos 4 = are.high 0 (lit< tt) in grind (arith, ints)
+
+not_small : AreSmall (pos 129 ∷ []) → ⊥
+not_small small = let most : pos 129 ≤ℤ pos 128 = (small 0 (lit< tt)).1 in grind (arith, ints)
+
+-- two rows of two cells each stand one after the other
+rows : rows_of 2 2 (cells_of (pos 0 ∷ pos 1 ∷ pos 1 ∷ pos 0 ∷ []) (pos 1 ∷ pos 1 ∷ pos 2 ∷ pos 1 ∷ [])) ≡ front ∷ back ∷ []
+rows = refl
+
+-- T0's shares, place by place: of section 0 it has 1, 1 and 3, of section 1 none
+single : AreSingle two 0 (pos 1 ∷ pos 0 ∷ pos 1 ∷ pos 0 ∷ pos 3 ∷ pos 0 ∷ [])
+single = (refl, at)
+  where
+    at : (k : ℕ) → k < 6 → slice_index_or (pos 1 ∷ pos 0 ∷ pos 1 ∷ pos 0 ∷ pos 3 ∷ pos 0 ∷ []) k (pos 0) ≡ share two 0 (k % 2) (k / 2)
+    at zero lt = refl
+    at (suc zero) lt = refl
+    at (suc (suc zero)) lt = refl
+    at (suc (suc (suc zero))) lt = refl
+    at (suc (suc (suc (suc zero)))) lt = refl
+    at (suc (suc (suc (suc (suc zero))))) lt = refl
+    at (suc (suc (suc (suc (suc (suc k)))))) lt = absurd (omega (arith, lt))
+
+-- where a train's share goes from at most 1 to 1 alone, the sum of the least shares goes up by 1
+sum_moves : moved (record { least = pos 2; greatest = pos 5 }) (record { least = pos 0; greatest = pos 1 }) (record { least = pos 1; greatest = pos 1 })
+    ≡ record { least = pos 3; greatest = pos 5 }
+sum_moves = refl
+
+sums : sums_of (pos 2 ∷ []) (pos 5 ∷ []) ≡ record { least = pos 2; greatest = pos 5 } ∷ []
+sums = refl
 
 -- 1, 3, 5 and so on
 abbrev IsOdd : ℕ → Type 0

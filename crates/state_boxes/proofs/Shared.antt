@@ -3,7 +3,7 @@ use Rattle.std.proofs.Common.{◌≡◌, ℕ, ◌+◌, ◌<◌, ◌≤◌, ℤ, 
 use Rattle.std.specs.Prelude.{slice_set, int_lt, not, ◌<ℤ◌}
 use Rattle.std.specs.Bool.{passes}
 use Rattle.std.specs.Int.Signed.{lt_z_no}
-use Rattle.std.proofs.lemmas.Bool.{cases_eq, cases_lt}
+use Rattle.std.proofs.lemmas.Bool.{cases_eq}
 use Rattle.std.proofs.lemmas.Int.{ints}
 use Rattle.rail_model.specs.Sums.{greatest}
 use Rattle.rail_model.specs.Table.{Table, trains, last, share, IsTable}
@@ -11,11 +11,10 @@ use Rattle.rail_model.specs.Certificate.{Range, IsBox}
 use Rattle.rail_model.proofs.Agree.{Decides-int_lt}
 use Rattle.rail_model.proofs.Sums.{not_below_least, least_le, le_greatest}
 use Rattle.state_boxes.specs.declared.sums.Sum.{Sum}
-use Rattle.state_boxes.specs.Each.{IsEach}
-use Rattle.state_boxes.specs.Extremes.{nothing, IsExtremes, IsQuiet, AreListed, AreShared}
-use Rattle.state_boxes.specs.Sums.{no_sum, IsSum}
+use Rattle.state_boxes.specs.Extremes.{nothing, IsExtremes, IsQuiet, AreListed}
+use Rattle.state_boxes.specs.Sums.{IsSum}
 use Rattle.state_boxes.proofs.Joins.{not_above_greatest}
-use Rattle.state_boxes.proofs.Summed.{IsMoving, moving_next, sum_moved}
+use Rattle.state_boxes.proofs.Summed.{sum_moved}
 
 not_above : {a : ℤ} → (pos 0 <ℤ a → ⊥) → a ≤ℤ pos 0
 not_above {a} most =
@@ -52,18 +51,6 @@ quiet_sum T B i s r sum boxed i_in some ends quiet is =
     (quiet_extremes T i s _ _ quiet (omega (arith, some_old, ends_old))) (quiet_extremes T i s _ _ quiet (omega (arith, some, ends)))
     (omega (arith, ints)) (omega (arith, ints))
 
--- quiet sections are done at once
-pub moving_on : (T : Table) (B : List Range) (i : ℕ) (r : Range) (done next : ℕ) (sums : List Sum) → IsBox T B → i < trains T → r.lo ≤ r.hi → r.hi ≤ last T i →
-    done ≤ next → ((s : ℕ) → done ≤ s → s < next → IsQuiet T i s) → IsMoving T B (slice_set B i r) done sums → IsMoving T B (slice_set B i r) next sums
-moving_on T B i r done next sums boxed i_in some ends le quiet before = record {
-  many = before.many;
-  moved = λ s l k. elim (cases_lt s done) [
-    | inl early ↦ before.moved s early k
-    | inr late ↦ quiet_sum T B i s r _ boxed i_in some ends (quiet s late l) (before.kept s late k)
-  ];
-  kept = λ s l k. before.kept s (omega (arith, le, l)) k;
-}
-
 -- one number more
 pub listed_more : (P : ℕ → Type 0) (from to : ℕ) (xs : List ℕ) → AreListed P from to xs → AreListed P from (to + 1) (xs ++ to ∷ [])
 listed_more P from to [] h = (h.0, omega arith, h.1, (omega arith, λ k l m. absurd (omega (arith, l, m))))
@@ -79,28 +66,3 @@ listed_still P from to [] here h = (
   ],
 )
 listed_still P from to (x ∷ later) here h = (h.0, omega (arith, h.1), h.2, listed_still P (x + 1) to later here h.3)
-
--- the sums while they are changed, over the sections that are still listed
-pub record IsNarrowing (T : Table) (B : List Range) (i : ℕ) (r : Range) (later : List ℕ) (sums : List Sum) : Type 0 where
-  pub done : ℕ
-  pub listed : AreShared T i done (length T.sections) later
-  pub moving : IsMoving T B (slice_set B i r) done sums
-
-module _ (T : Table) (B : List Range) (i : ℕ) (r : Range) (boxed : IsBox T B) (i_in : i < trains T) (some : r.lo ≤ r.hi) (ends : r.hi ≤ last T i) where
-  -- at the next listed section all before it are done
-  pub section_next : (x : ℕ) (later : List ℕ) (sums : List Sum) → IsNarrowing T B i r (x ∷ later) sums →
-      (x < length T.sections) × IsMoving T B (slice_set B i r) x sums × AreShared T i (x + 1) (length T.sections) later
-  section_next x later sums h = (h.listed.1, moving_on T B i r h.done x sums boxed i_in some ends h.listed.0 h.listed.2 h.moving, h.listed.3)
-
-  -- after it one more is
-  pub narrowing_next : (x : ℕ) (later : List ℕ) (sums : List Sum) (sum : Sum) → IsNarrowing T B i r (x ∷ later) sums →
-      IsSum T (slice_set B i r) x sum → IsNarrowing T B i r later (slice_set sums x sum)
-  narrowing_next x later sums sum h here =
-      let next = section_next x later sums h in
-      record { done = x + 1; listed = next.2; moving = moving_next T B (slice_set B i r) x sums sum next.1 next.0 here }
-
-  -- after the last one all are
-  pub narrowed : (sums : List Sum) → IsNarrowing T B i r [] sums → IsEach (IsSum T (slice_set B i r)) (length T.sections) no_sum sums
-  narrowed sums h =
-      let all = moving_on T B i r h.done (length T.sections) sums boxed i_in some ends h.listed.0 h.listed.1 h.moving in
-      (all.many, λ s l. all.moved s l l)

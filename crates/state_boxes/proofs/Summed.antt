@@ -1,9 +1,7 @@
 -- The sums of a section, while the span of one train changes.
-use Rattle.std.proofs.Common.{◌≡◌, ℕ, zero, suc, ◌+◌, ◌-◌, ◌*◌, ◌<◌, ◌≤◌, ℤ, pos, ◌+ℤ◌, ◌-ℤ◌, ◌≤ℤ◌, List, length, get_or, refl, sym, ◌∙◌, ap, subst, arith, inl, inr}
+use Rattle.std.proofs.Common.{◌≡◌, ℕ, zero, suc, ◌-◌, ◌*◌, ◌<◌, ◌≤◌, ℤ, pos, ◌+ℤ◌, ◌-ℤ◌, ◌≤ℤ◌, List, length, refl, sym, ◌∙◌, ap, subst, arith}
 use Rattle.std.specs.Prelude.{slice_set}
-use Rattle.std.proofs.lemmas.Bool.{cases_eq}
 use Rattle.std.proofs.lemmas.Int.{ints}
-use Rattle.std.proofs.lemmas.List.{get_or-set_same, get_or-set_other, length-set}
 use Rattle.rail_model.specs.Sums.{total_below, least, greatest}
 use Rattle.rail_model.specs.Table.{Table, trains, last, share, IsTable}
 use Rattle.rail_model.specs.Certificate.{Range, range, IsBox, least_share, greatest_share}
@@ -11,19 +9,9 @@ use Rattle.rail_model.proofs.Boxes.{half_same, half_other}
 use Rattle.rail_model.proofs.Sums.{total_step, not_below_least, least_le, le_greatest}
 use Rattle.state_boxes.specs.declared.extremes.Extremes.{Extremes}
 use Rattle.state_boxes.specs.declared.sums.Sum.{Sum}
-use Rattle.state_boxes.specs.Extremes.{nothing, joined, IsExtremes, IsRow, TrainShares, IsTrainShares, reach}
-use Rattle.state_boxes.specs.Sums.{no_sum, IsSum, IsFew, IsSmallSum}
-use Rattle.state_boxes.proofs.Joins.{extremes_join, not_above_greatest}
-
--- the extremes of a span from those of its front and its back
-pub span_joined : (T : Table) (i s lo hi : ℕ) (S : TrainShares) (d e : Extremes) → lo ≤ hi → hi ≤ last T i → IsTrainShares T i S →
-    IsExtremes (share T i s) lo (reach S (hi - lo)) d → IsExtremes (share T i s) (hi - reach S (hi - lo)) (reach S (hi - lo)) e →
-    IsExtremes (share T i s) lo (hi - lo) (joined d e)
-span_joined T i s lo hi S d e some ends shares front back =
-    let picked = shares.picks.1 (hi - lo) (omega arith) in
-    extremes_join (share T i s) lo (hi - lo) (hi - reach S (hi - lo)) (reach S (hi - lo)) (reach S (hi - lo)) d e
-    (omega (arith, picked.within, picked.covers)) (omega (arith, picked.within, picked.covers)) (omega (arith, picked.within, picked.covers)) (omega (arith, picked.within, picked.covers))
-    front back
+use Rattle.state_boxes.specs.Extremes.{IsExtremes}
+use Rattle.state_boxes.specs.Sums.{IsSum, IsFew, IsSmallSum}
+use Rattle.state_boxes.proofs.Joins.{not_above_greatest}
 
 total_low : (f : ℕ → ℤ) (n : ℕ) → ((i : ℕ) → i < n → (pos 0 ≤ℤ f i) × (f i ≤ℤ pos 4)) → (pos 0 ≤ℤ total_below f n) × (total_below f n ≤ℤ pos (4 * n))
 total_low f zero h = (omega (arith, ints), omega (arith, ints))
@@ -75,16 +63,6 @@ pub some_span : (T : Table) (B : List Range) (i : ℕ) (r : Range) → IsBox T B
 some_span T B i r boxed lt same =
     subst (λ (q : Range). (q.lo ≤ q.hi) × (q.hi ≤ last T i)) (sym same) (boxed.some_place i lt, boxed.in_range i lt)
 
--- the extremes of a section from the two rows of a span
-pub row_spanned : (T : Table) (i s lo hi : ℕ) (S : TrainShares) (front back : List Extremes) (d e j : Extremes) → lo ≤ hi → hi ≤ last T i → IsTrainShares T i S →
-    s < length T.sections → IsRow T i lo (reach S (hi - lo)) front → IsRow T i (hi - reach S (hi - lo)) (reach S (hi - lo)) back →
-    d ≡ get_or front s nothing → e ≡ get_or back s nothing → j ≡ joined d e → IsExtremes (share T i s) lo (hi - lo) j
-row_spanned T i s lo hi S front back d e j some ends shares s_in one two at_d at_e same =
-    subst (IsExtremes (share T i s) lo (hi - lo)) (sym same)
-    (span_joined T i s lo hi S d e some ends shares
-    (subst (IsExtremes (share T i s) lo (reach S (hi - lo))) (sym at_d) (one.1 s s_in))
-    (subst (IsExtremes (share T i s) (hi - reach S (hi - lo)) (reach S (hi - lo))) (sym at_e) (two.1 s s_in)))
-
 -- one train's extremes change
 pub sum_moved : (T : Table) (B : List Range) (i s : ℕ) (r : Range) (sum moved : Sum) (d e : Extremes) → i < trains T → length B ≡ trains T → IsSum T B s sum →
     IsExtremes (share T i s) (range B i).lo ((range B i).hi - (range B i).lo) d → IsExtremes (share T i s) r.lo (r.hi - r.lo) e →
@@ -106,21 +84,3 @@ sum_moved T B i s r sum moved d e lt size is old new same_least same_greatest =
       least_is = same_least ∙ ap (λ z. z +ℤ (e.least -ℤ d.least)) is.least_is ∙ sym least_step;
       greatest_is = same_greatest ∙ ap (λ z. z +ℤ (e.greatest -ℤ d.greatest)) is.greatest_is ∙ sym greatest_step;
     }
-
--- the sums while they are changed, section by section
-pub record IsMoving (T : Table) (B C : List Range) (done : ℕ) (sums : List Sum) : Type 0 where
-  pub many : length sums ≡ length T.sections
-  pub moved : (s : ℕ) → s < done → s < length T.sections → IsSum T C s (get_or sums s no_sum)
-  pub kept : (s : ℕ) → done ≤ s → s < length T.sections → IsSum T B s (get_or sums s no_sum)
-
-pub moving_next : (T : Table) (B C : List Range) (done : ℕ) (sums : List Sum) (sum : Sum) → IsMoving T B C done sums → done < length T.sections →
-    IsSum T C done sum → IsMoving T B C (done + 1) (slice_set sums done sum)
-moving_next T B C done sums sum before lt here = record {
-  many = length-set sums done sum ∙ before.many;
-  moved = λ s l r. elim (cases_eq s done) [
-    | inl same ↦ subst (λ (k : ℕ). IsSum T C k (get_or (slice_set sums done sum) k no_sum)) (sym same)
-        (subst (IsSum T C done) (sym (get_or-set_same sums done sum no_sum (omega (arith, before.many)))) here)
-    | inr other ↦ subst (IsSum T C s) (sym (get_or-set_other sums done s sum no_sum other)) (before.moved s (omega arith) r)
-  ];
-  kept = λ s l r. subst (IsSum T B s) (sym (get_or-set_other sums done s sum no_sum (λ e. omega (arith, e)))) (before.kept s (omega arith) r);
-}

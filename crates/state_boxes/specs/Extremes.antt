@@ -1,5 +1,5 @@
 -- The rows of shares that the check looks up: by section, by span of places, by train.
-use Rattle.std.specs.Prelude.{◌≡◌, ℕ, ◌+◌, ◌-◌, ◌*◌, ◌<◌, ◌≤◌, ℤ, pos, List, [], ◌∷◌, length, slice_index, slice_index_or}
+use Rattle.std.specs.Prelude.{◌≡◌, ℕ, ◌+◌, ◌-◌, ◌*◌, ◌<◌, ◌≤◌, ℤ, pos, List, [], ◌∷◌, length, slice_index_or}
 use Rattle.std.specs.Int.{int_min, int_max}
 use Rattle.rail_model.specs.Sums.{least, greatest}
 use Rattle.rail_model.specs.Table.{Table, IsTable, trains, last, share}
@@ -102,7 +102,3 @@ pub record IsTrainShares (T : Table) (i : ℕ) (S : TrainShares) : Type 0 where
 -- The shares of all trains.
 abbrev pub IsShares : Table → List TrainShares → Type 0
 IsShares T shares = IsEach (λ i S. IsTrainShares T i S) (trains T) no_shares shares
-
--- how many places more than one each of the two rows has, from which a span's row is joined
-abbrev pub reach : TrainShares → ℕ → ℕ
-reach S more = (level_at S.levels (slice_index S.picks more)).width - 1

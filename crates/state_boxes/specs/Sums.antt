@@ -1,5 +1,6 @@
 -- What the trains' shares of a section sum to in a box, and where a train's step adds to a section.
-use Rattle.std.specs.Prelude.{◌≡◌, ◌<◌, ◌+◌, ℕ, zero, suc, nat_le, ℤ, pos, ◌≤ℤ◌, ◌<ℤ◌, int_lt, Bool, ◌&&◌, if◌then◌else◌, List, [], ◌∷◌, ◌++◌, length}
+use Rattle.std.specs.Prelude.{◌≡◌, ◌<◌, ◌+◌, ℕ, zero, suc, nat_le, ℤ, pos, ◌+ℤ◌, ◌-ℤ◌, ◌≤ℤ◌, ◌<ℤ◌, int_lt, Bool, ◌&&◌, if◌then◌else◌, List, [], ◌∷◌, ◌++◌, length}
+use Rattle.std.specs.Simd.Lanes.{zip2}
 use Rattle.rail_model.specs.Sums.{total_below}
 use Rattle.rail_model.specs.Table.{Table, trains, last, limit, change, share}
 use Rattle.rail_model.specs.Certificate.{Range, range, IsBox, greatest_share, least_count, most_with}
@@ -13,6 +14,14 @@ use Rattle.state_boxes.specs.Ways.{AreWays}
 
 abbrev pub no_sum : Sum
 no_sum = record { least = pos 0; greatest = pos 0 }
+
+-- the sums with these least and these greatest ones
+abbrev pub sums_of : List ℤ → List ℤ → List Sum
+sums_of least greatest = zip2 (λ l g. record { least = l; greatest = g }) least greatest
+
+-- a section's sums after the extremes of one train have changed
+abbrev pub moved : Sum → Extremes → Extremes → Sum
+moved sum old new = record { least = sum.least +ℤ (new.least -ℤ old.least); greatest = sum.greatest +ℤ (new.greatest -ℤ old.greatest) }
 
 -- the sum of the greatest shares
 abbrev pub greatest_count : Table → List Range → ℕ → ℤ

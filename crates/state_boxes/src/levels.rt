@@ -2,10 +2,11 @@
 ghost use Rattle.std.specs.Prelude.{◌≡◌, ℕ, ◌+◌, ◌-◌, ◌*◌, ◌<◌, ◌≤◌, [], pos, ◌<ℤ◌, length, IfOk, OnOk, IsTrue, ◌↔◌, slice_index, slice_index_or};
 ghost use Rattle.rail_model.specs.Sums.{greatest};
 ghost use Rattle.rail_model.specs.Table.{IsTable, trains, last, share};
-ghost use Rattle.state_boxes.specs.Extremes.{IsExtremes, IsRow, IsLevel, IsLevels, IsPick, AreShared, IsTrainShares, IsShares, level_at, no_shares, reach};
+ghost use Rattle.state_boxes.specs.Extremes.{IsExtremes, IsRow, IsLevel, IsLevels, IsPick, AreShared, IsTrainShares, IsShares, level_at, no_shares};
 
-use crate::extremes::{Extremes, joined_cells, single_cells};
+use crate::extremes::{Extremes, single_shares};
 use crate::ranges::Span;
+use crate::share_rows::{Cells, Row, SpanRow};
 use rail_model::{Table, last_of, sections_of, trains_of};
 use std::alloc::{AllocError, Global};
 use std::marker::Model;
@@ -16,7 +17,7 @@ pub struct Level {
     width: u32,
     rows: u32,
     sections: u32,
-    cells: Vec<Extremes>,
+    cells: Cells,
 }
 
 impl Model for Level {
@@ -26,9 +27,9 @@ impl Model for Level {
 
     ghost Value = { LevelValue };
 
-    ghost view = { λ l. record { width = l.width; rows = rows_of l.rows l.sections l.cells.items } };
+    ghost view = { λ l. record { width = l.width; rows = rows_of l.rows l.sections l.cells } };
 
-    ghost invariant = { λ l. length l.cells.items ≡ l.rows * l.sections };
+    ghost invariant = { λ l. length l.cells ≡ l.rows * l.sections };
 }
 
 impl Level {
@@ -38,13 +39,13 @@ impl Level {
         self.width
     }
 
-    fn row(&self, place: u32) -> &[Extremes]
+    fn row(&self, place: u32) -> Row<'_>
         requires { place < length self.now.rows }
-        ensures { result.now ≡ slice_index_or self.now.rows place [] }
+        ensures { result ≡ slice_index_or self.now.rows place [] }
     {
         let sections = self.sections as usize;
         let start = place as usize * sections;
-        &self.cells[start..start + sections]
+        self.cells.row(start, start + sections)
     }
 }
 
@@ -54,7 +55,8 @@ fn first_level(alloc: Global, table: &Table, train: u32) -> Result<Level, AllocE
     ensures level { IfOk result (IsLevel table.now train) }
     ensures width { IfOk result (λ level. level.width ≡ 1) }
 {
-    let cells = single_cells(alloc, table, train)?;
+    let shares = single_shares(alloc, table, train)?;
+    let cells = Cells::single(alloc, shares)?;
     Ok(Level {
         width: 1,
         rows: last_of(table, train) + 1,
@@ -74,9 +76,12 @@ fn next_level(alloc: Global, table: &Table, train: u32, level: &Level) -> Result
 {
     let sections = level.sections as usize;
     let rows = level.rows - level.width;
-    let first = &level.cells[..rows as usize * sections];
-    let second = &level.cells[level.width as usize * sections..];
-    let cells = joined_cells(alloc, first, second)?;
+    let first = level.cells.row(0, rows as usize * sections);
+    let second = level.cells.row(
+        level.width as usize * sections,
+        level.rows as usize * sections,
+    );
+    let cells = Cells::joined(alloc, &first, &second)?;
     Ok(Level {
         width: 2 * level.width,
         rows,
@@ -134,7 +139,7 @@ fn all_extremes(table: &Table, levels: &[Level], train: u32, section: u32) -> Ex
     let level = widest(levels);
     let front = level.row(0);
     let back = level.row(last_of(table, train) + 1 - level.width());
-    front[section as usize].joined(back[section as usize])
+    front.at(section).joined(back.at(section))
 }
 
 // Whether a train has a share of a section at some place.
@@ -259,39 +264,29 @@ impl TrainShares {
         requires section { section < length table.now.sections }
         ensures { IsExtremes (share table.now train section) span.lo (span.hi - span.lo) result }
     {
-        let front = self.front(table, train, span);
-        let back = self.back(table, train, span);
-        front[section as usize].joined(back[section as usize])
+        self.row(table, train, span).at(section)
     }
 
     /// The row of one place.
-    pub(crate) fn single(&self, table: &Table, train: u32, place: u32) -> &[Extremes]
+    pub(crate) fn single(&self, table: &Table, train: u32, place: u32) -> Row<'_>
         requires shares { IsTrainShares table.now train self.now }
         requires place { place ≤ last table.now train }
-        ensures { IsRow table.now train place 0 result.now }
+        ensures { IsRow table.now train place 0 result }
     {
         self.levels[0].row(place)
     }
 
-    /// The row of the first places of a span.
-    pub fn front(&self, table: &Table, train: u32, span: Span) -> &[Extremes]
+    /// The row of a span.
+    pub(crate) fn row(&self, table: &Table, train: u32, span: Span) -> SpanRow<'_>
         requires shares { IsTrainShares table.now train self.now }
         requires some { span.lo ≤ span.hi }
         requires in_range { span.hi ≤ last table.now train }
-        ensures { IsRow table.now train span.lo (reach self.now (span.hi - span.lo)) result.now }
-    {
-        self.level(span).row(span.lo())
-    }
-
-    /// The row of the last places of a span, as many as in front.
-    pub fn back(&self, table: &Table, train: u32, span: Span) -> &[Extremes]
-        requires shares { IsTrainShares table.now train self.now }
-        requires some { span.lo ≤ span.hi }
-        requires in_range { span.hi ≤ last table.now train }
-        ensures { IsRow table.now train (span.hi - reach self.now (span.hi - span.lo)) (reach self.now (span.hi - span.lo)) result.now }
+        ensures { IsRow table.now train span.lo (span.hi - span.lo) result }
     {
         let level = self.level(span);
-        level.row(span.hi() - (level.width() - 1))
+        let front = level.row(span.lo());
+        let back = level.row(span.hi() - (level.width() - 1));
+        SpanRow::new(front, back)
     }
 }
 

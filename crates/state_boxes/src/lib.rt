@@ -1,6 +1,7 @@
 //! Ranges of places, one a train: where trains may meet in them, and the least and greatest that they fill of a section.
 #![tactic(auto)]
 
+mod bounds;
 mod extremes;
 mod firsts;
 mod levels;
@@ -10,6 +11,7 @@ mod moves;
 mod places;
 mod ranges;
 mod rises;
+mod share_rows;
 mod shares;
 mod sums;
 mod ways;

@@ -6,7 +6,8 @@ ghost use Rattle.rail_model.specs.Certificate.{range, most_with, MayBeFull};
 ghost use Rattle.state_boxes.specs.Extremes.{IsRow, IsShares, IsTrainShares};
 ghost use Rattle.state_boxes.specs.Sums.{AreSums, AreRises, AreSteps, IsRise, rises_at as rises_at_place, is_tight as is_tight_of};
 
-use crate::{Extremes, RangeSums, Shares, TrainShares};
+use crate::share_rows::Row;
+use crate::{RangeSums, Shares, TrainShares};
 use rail_model::{Table, last_of, limit_of, sections_of, trains_of};
 use std::alloc::{AllocError, Global};
 use std::marker::Model;
@@ -79,12 +80,12 @@ impl Rises {
 }
 
 // A train's share of a section, by the row of its place.
-fn share_in(table: &Table, train: u32, section: u32, place: u32, row: &[Extremes]) -> i32
+fn share_in(table: &Table, train: u32, section: u32, place: u32, row: &Row<'_>) -> i32
     requires section { section < length table.now.sections }
     requires row { IsRow table.now train place 0 row.now }
     ensures { result ≡ share table.now train section place }
 {
-    i32::from(row[section as usize].least)
+    i32::from(row.at(section).least)
 }
 
 // By how much a train's step from a place raises its share of a section, by the rows of both places.
@@ -93,16 +94,16 @@ fn change_between(
     train: u32,
     section: u32,
     place: u32,
-    here: &[Extremes],
-    next: &[Extremes],
+    here: &Row<'_>,
+    next: &Row<'_>,
 ) -> i32
     requires section { section < length table.now.sections }
     requires here { IsRow table.now train place 0 here.now }
     requires next { IsRow table.now train (place + 1) 0 next.now }
     ensures { result ≡ change table.now train section (place + 1) }
 {
-    let before = i32::from(here[section as usize].least);
-    let after = i32::from(next[section as usize].least);
+    let before = i32::from(here.at(section).least);
+    let after = i32::from(next.at(section).least);
     after - before
 }
 
@@ -112,8 +113,8 @@ fn add_rise(
     train: u32,
     section: u32,
     place: u32,
-    here: &[Extremes],
-    next: &[Extremes],
+    here: &Row<'_>,
+    next: &Row<'_>,
     rises: &mut Vec<Rise>,
 ) -> Result<(), AllocError>
     requires formed { IsTable table.now }
@@ -156,7 +157,7 @@ fn place_rises(
     let next = shares.single(table, train, place + 1);
     let mut items = Vec::new(alloc);
     for section in 0..sections_of(table) {
-        add_rise(table, train, section, place, here, next, &mut items)?;
+        add_rise(table, train, section, place, &here, &next, &mut items)?;
     }
     Ok(PlaceRises { items })
 }

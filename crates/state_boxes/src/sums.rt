@@ -7,7 +7,8 @@ ghost use Rattle.state_boxes.specs.Each.{IsEach};
 ghost use Rattle.state_boxes.specs.Extremes.{IsShares};
 ghost use Rattle.state_boxes.specs.Sums.{no_sum, IsSum, IsFew, IsSmallSum, AreSums};
 
-use crate::extremes::Extremes;
+use crate::bounds::{Greatest, Least, move_sums};
+use crate::share_rows::SpanRow;
 use crate::shares::extremes_in;
 use crate::{Ranges, Shares, Span, full_box};
 use rail_model::{Table, limit_of, sections_of, trains_of};
@@ -21,11 +22,61 @@ pub struct Sum {
     pub greatest: i32,
 }
 
+/// The sums of each section, the least ones in one list and the greatest in another.
+#[derive(Drop)]
+pub(crate) struct Sums {
+    least: Vec<i16>,
+    greatest: Vec<i16>,
+}
+
+impl Model for Sums {
+    ghost use Rattle.std.specs.Prelude.{◌≡◌, List, length};
+    ghost use Rattle.state_boxes.specs.declared.sums.Sum.{Sum as SumValue};
+    ghost use Rattle.state_boxes.specs.Sums.{sums_of};
+
+    ghost Value = { List SumValue };
+
+    ghost view = { λ s. sums_of s.least.items s.greatest.items };
+
+    ghost invariant = { λ s. length s.greatest.items ≡ length s.least.items };
+}
+
+impl Sums {
+    ghost use Rattle.std.specs.Prelude.{◌≡◌, ℕ, ◌<◌, length, slice_index_or};
+    ghost use Rattle.state_boxes.specs.Each.{IsEach};
+    ghost use Rattle.state_boxes.specs.Extremes.{nothing};
+    ghost use Rattle.state_boxes.specs.Sums.{no_sum, moved, IsFew, IsSmallSum};
+
+    fn at(&self, section: u32) -> Sum
+        requires { section < length self.now }
+        ensures { result ≡ slice_index_or self.now section no_sum }
+    {
+        Sum {
+            least: i32::from(self.least[section as usize]),
+            greatest: i32::from(self.greatest[section as usize]),
+        }
+    }
+
+    // Moves the sums from one row of a train to another.
+    fn shift(&mut self, old: &SpanRow<'_>, new: &SpanRow<'_>)
+        requires old { length old.now ≡ length self.old }
+        requires new { length new.now ≡ length self.old }
+        requires old_few { (s : ℕ) → s < length self.old → IsFew (slice_index_or old.now s nothing) }
+        requires new_few { (s : ℕ) → s < length self.old → IsFew (slice_index_or new.now s nothing) }
+        requires small { (s : ℕ) → s < length self.old → IsSmallSum (slice_index_or self.old s no_sum) }
+        ensures { IsEach (λ s sum. sum ≡ moved (slice_index_or self.old s no_sum) (slice_index_or old.now s nothing) (slice_index_or new.now s nothing))
+            (length self.old) no_sum self.new }
+    {
+        move_sums::<Least>(&mut self.least, old.least(), new.least());
+        move_sums::<Greatest>(&mut self.greatest, old.greatest(), new.greatest());
+    }
+}
+
 /// A box, and the sums of each section in it.
 #[derive(Drop)]
 pub struct RangeSums {
     ranges: Ranges,
-    sums: Vec<Sum>,
+    sums: Sums,
 }
 
 impl Model for RangeSums {
@@ -33,7 +84,7 @@ impl Model for RangeSums {
 
     ghost Value = { Summed };
 
-    ghost view = { λ s. record { ranges = s.ranges; sums = s.sums.items } };
+    ghost view = { λ s. record { ranges = s.ranges; sums = s.sums } };
 }
 
 // The sums of a section in a box.
@@ -50,51 +101,6 @@ fn sum_of(table: &Table, ranges: &Ranges, section: u32) -> Sum
         greatest += i32::from(extremes.greatest);
     }
     Sum { least, greatest }
-}
-
-// A section's sums after the extremes of one train have changed.
-fn moved(sum: Sum, old: Extremes, new: Extremes) -> Sum
-    requires sum { IsSmallSum sum }
-    requires old { IsFew old }
-    requires new { IsFew new }
-    ensures least { result.least ≡ sum.least +ℤ (new.least -ℤ old.least) }
-    ensures greatest { result.greatest ≡ sum.greatest +ℤ (new.greatest -ℤ old.greatest) }
-{
-    let least = sum.least + i32::from(new.least - old.least);
-    let greatest = sum.greatest + i32::from(new.greatest - old.greatest);
-    Sum { least, greatest }
-}
-
-// The sums after the span of one train has changed.
-fn move_sums(
-    table: &Table,
-    shares: &Shares,
-    ranges: &Ranges,
-    train: u32,
-    span: Span,
-    sums: &mut [Sum],
-)
-    requires shares { IsShares table.now shares.now }
-    requires boxed { IsBox table.now ranges.now }
-    requires train { train < trains table.now }
-    requires some { span.lo ≤ span.hi }
-    requires in_range { span.hi ≤ last table.now train }
-    requires sums { IsEach (IsSum table.now ranges.now) (length table.now.sections) no_sum sums.old }
-    ensures { IsEach (IsSum table.now (slice_set ranges.now train span)) (length table.now.sections) no_sum sums.new }
-{
-    let rows = shares.train(train);
-    let old = ranges.span(train);
-    let old_first = rows.front(table, train, old);
-    let old_last = rows.back(table, train, old);
-    let first = rows.front(table, train, span);
-    let last = rows.back(table, train, span);
-    let sections = rows.sections();
-    for &section in sections {
-        let at = section as usize;
-        let before = old_first[at].joined(old_last[at]);
-        let after = first[at].joined(last[at]);
-        sums[section as usize] = moved(sums[section as usize], before, after);
-    }
 }
 
 impl RangeSums {
@@ -136,7 +142,7 @@ impl RangeSums {
         requires { section < length self.now.sums }
         ensures { result ≡ slice_index_or self.now.sums section no_sum }
     {
-        self.sums[section as usize]
+        self.sums.at(section)
     }
 
     /// Changes the span of one train.
@@ -149,21 +155,28 @@ impl RangeSums {
         ensures ranges { self.new.ranges ≡ slice_set self.old.ranges train span }
         ensures sums { AreSums table.now self.new }
     {
-        move_sums(table, shares, &self.ranges, train, span, &mut self.sums);
+        let rows = shares.train(train);
+        let old = rows.row(table, train, self.ranges.span(train));
+        let new = rows.row(table, train, span);
+        self.sums.shift(&old, &new);
         self.ranges.set(train, span);
     }
 }
 
 // The sums of each section in a box.
-fn all_sums(alloc: Global, table: &Table, ranges: &Ranges) -> Result<Vec<Sum>, AllocError>
+fn all_sums(alloc: Global, table: &Table, ranges: &Ranges) -> Result<Sums, AllocError>
     requires { IsBox table.now ranges.now }
-    ensures { IfOk result (λ sums. IsEach (IsSum table.now ranges.now) (length table.now.sections) no_sum sums.items) }
+    ensures { IfOk result (λ sums. IsEach (IsSum table.now ranges.now) (length table.now.sections) no_sum sums) }
 {
-    let mut sums = Vec::new(alloc);
-    for section in 0..sections_of(table) {
-        sums.push(sum_of(table, ranges, section))?;
+    let sections = sections_of(table);
+    let mut least = Vec::with_capacity(alloc, sections as usize)?;
+    let mut greatest = Vec::with_capacity(alloc, sections as usize)?;
+    for section in 0..sections {
+        let sum = sum_of(table, ranges, section);
+        least.push_reserved(sum.least as i16);
+        greatest.push_reserved(sum.greatest as i16);
     }
-    Ok(sums)
+    Ok(Sums { least, greatest })
 }
 
 /// Whether a section is over its limit at all positions.

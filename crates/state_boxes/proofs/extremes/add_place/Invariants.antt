@@ -4,7 +4,7 @@ use Rattle.state_boxes.proofs.extremes.add_place.Given as goal
 
 abbrev pub invariant-loop-section : goal.invariant-loop-section
 invariant-loop-section l = record {
-  single : AreSingle l.table l.train l.cells.items;
-  many : length l.cells.items ≡ l.place * length l.table.sections + l.section;
-  room : vec_capacity l.cells ≡ vec_capacity l.fn.cells;
+  single : AreSingle l.table l.train l.shares.items;
+  many : length l.shares.items ≡ l.place * length l.table.sections + l.section;
+  room : vec_capacity l.shares ≡ vec_capacity l.fn.shares;
 }

@@ -1,6 +1,6 @@
 use Rattle.std.proofs.Common.{◌≡◌, ◌+◌, ◌-◌, ◌*◌, ◌<◌, ◌∙◌, [], get_or, length, ap, sym, subst, arith}
 use Rattle.rail_model.specs.Table.{last, share}
-use Rattle.state_boxes.specs.Extremes.{Level, IsExtremes, IsRow, IsLevel}
+use Rattle.state_boxes.specs.Extremes.{Level, joined, IsExtremes, IsRow, IsLevel}
 use Rattle.state_boxes.proofs.Joins.{extremes_join}
 use Rattle.state_boxes.proofs.levels.all_extremes.Goals as goal
 
@@ -24,7 +24,7 @@ returns c =
     let there : c.last_of.result + 1 - c.width.result ≡ end + 1 - w = omega (arith, last_is, width_is) in
     let second = subst (IsRow T i (end + 1 - w) (w - 1)) (sym (c.row-back.ensures ∙ ap (λ k. get_or level.rows k []) there))
     (is_level.each_row.1 (end + 1 - w) (omega (arith, some, fits))) in
-    subst (IsExtremes f 0 end) (sym c.joined.ensures)
+    subst (IsExtremes f 0 end) (sym (c.joined.ensures ∙ (λ j. joined (c.at.ensures j) (c.at-2.ensures j))))
     (extremes_join f 0 end (end + 1 - w) (w - 1) (w - 1) _ _ (omega (arith, some, fits)) (omega arith) (omega (arith, some, wide)) (omega (arith, some, fits))
     (first.1 s c.requires.section)
     (second.1 s c.requires.section))
