@@ -22,5 +22,6 @@ pub mod NumberLemmas
 pub mod TokenLemmas
 pub mod FoundLemmas
 pub mod FoundParts
-pub mod PassLemmas
+pub mod SkipLemmas
+mod SkipRows
 pub mod CutLemmas

@@ -11,7 +11,7 @@ pub mod Written
 pub mod InRange
 pub mod Added
 pub mod Taken
-pub mod Passed
+pub mod Skipped
 pub mod Cut
 pub mod SectionFound
 pub mod TableFound

@@ -3,14 +3,14 @@ ghost use Rattle.std.specs.Prelude.{◌≡◌, length, None, Err, IfOk, IsSomeAn
 ghost use Rattle.serde_json.specs.Data.{no_members};
 ghost use Rattle.serde_json.specs.Read.{read};
 ghost use Rattle.document_shapes.specs.Cut.{IsCut, HasCut, document_levels};
-ghost use Rattle.document_shapes.specs.Passed.{after_value, after_items, after_members};
+ghost use Rattle.document_shapes.specs.Skipped.{after_value, after_items, after_members};
 ghost use Rattle.document_shapes.specs.Reading.{reading};
 ghost use Rattle.document_shapes.specs.Taken.{Takes, TakesItems, TakesMembers};
 
 use crate::from_tokens::{MAX_DEPTH, Tokens};
 use crate::number_text::number_in;
-use crate::passing::pass_value;
 use crate::refused::Unread;
+use crate::skipping::skip_value;
 use json::{Reader, Scratch, Token};
 use serde_json::{Map, Value};
 use std::alloc::Global;
@@ -27,7 +27,7 @@ fn value(tokens: &mut Tokens<'_>, depth: usize, levels: usize) -> Result<Value, 
     ensures not_json { result ≡ Err Unread.NotJson → after_value depth tokens.old.reader ≡ None }
 {
     let Some(below) = levels.checked_sub(1) else {
-        return match pass_value(&mut tokens.reader, depth) {
+        return match skip_value(&mut tokens.reader, depth) {
             Some(()) => Ok(Value::Null),
             None => Err(Unread::NotJson),
         };

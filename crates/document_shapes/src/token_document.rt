@@ -10,7 +10,7 @@ ghost use Rattle.document_shapes.specs.TableRead as of_version;
 use crate::document::LATEST_VERSION;
 use crate::from_members::{FromMembers, object};
 use crate::from_tokens::{FromTokens, MAX_DEPTH, Tokens, read_into};
-use crate::passing::pass_value;
+use crate::skipping::skip_value;
 use crate::{DocMembers, TableMembers};
 use json::{Reader, Scratch};
 use std::alloc::Global;
@@ -45,7 +45,7 @@ impl FromMembers for FoundDocument {
             "trains" => read_into(&mut self.trains, tokens, depth),
             "start" => read_into(&mut self.start, tokens, depth),
             "tables" => read_into(&mut self.tables, tokens, depth),
-            _ => pass_value(&mut tokens.reader, depth),
+            _ => skip_value(&mut tokens.reader, depth),
         }
     }
 }

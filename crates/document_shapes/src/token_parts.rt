@@ -6,7 +6,7 @@ ghost use Rattle.document_shapes.specs.Shape as shape;
 
 use crate::from_members::{FromMembers, object};
 use crate::from_tokens::{FromTokens, Tokens, list_begins, read_into};
-use crate::passing::pass_value;
+use crate::skipping::skip_value;
 use rail_model::{Changes, Connection, Node, Section, TrainTimes};
 
 // Skips the end of a list, where it is next.
@@ -109,7 +109,7 @@ impl FromMembers for FoundSection {
         match name {
             "limit" => read_into(&mut self.limit, tokens, depth),
             "changes" => read_into(&mut self.changes, tokens, depth),
-            _ => pass_value(&mut tokens.reader, depth),
+            _ => skip_value(&mut tokens.reader, depth),
         }
     }
 }

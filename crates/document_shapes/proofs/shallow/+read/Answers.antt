@@ -10,12 +10,12 @@ use Rattle.serde_json.specs.View.{view, number_view, members_view}
 use Rattle.serde_json.specs.declared.value.Value.{String, Number, Bool, Null, Array, Object, the_lemmas}
 use Rattle.serde_json.proofs.Views.{members_view-insert_entry}
 use Rattle.document_shapes.specs.Cut.{cut, IsCut, HasCut}
-use Rattle.document_shapes.specs.Passed.{rest_after, after_value}
+use Rattle.document_shapes.specs.Skipped.{rest_after, after_value}
 use Rattle.document_shapes.specs.Taken.{Takes, Opens, FindsAt}
 use Rattle.document_shapes.proofs.CutLemmas.{put-cut, list-cut, object-cut}
 use Rattle.document_shapes.proofs.FoundLemmas.{takes-found}
 use Rattle.document_shapes.proofs.TokenLemmas.{item_taken, items_done, members_start, member_taken, members_done, takes-token, takes-list, takes-object, takes-shorter}
-use Rattle.document_shapes.proofs.PassLemmas.{number-after, takes-passed, passed-list, passed-object, item-passed, item-refused, members-start, member-passed, member-refused, key-refused}
+use Rattle.document_shapes.proofs.SkipLemmas.{number-after, takes-skipped, skipped-list, skipped-object, item-skipped, item-refused, members-start, member-skipped, member-refused, key-refused}
 use Rattle.document_shapes.proofs.shallow.+read.Goals as goal
 
 pub items-returns-in_err-item-clause-not_json : goal.items-returns-in_err-item-clause-not_json
@@ -40,7 +40,7 @@ items-items-preserved t c =
     let going : (after_end_array l.tokens.reader ≡ None) × (c.take_end_array.new.self ≡ l.tokens.reader) = grind arith in
     let taken : Takes (IsCut c.args.levels) c.args.depth l.tokens.reader c.in_ok-item.item rest = subst (λ r. Takes (IsCut c.args.levels) c.args.depth r c.in_ok-item.item rest) going.1 c.in_ok-item.ensures.ok in (
       item_taken (IsCut c.args.levels) c.args.depth c.args.tokens.now.reader l.found.items c.push.new.self.items l.tokens.reader rest c.in_ok-item.item l.invariant.0 going.0 taken c.in_ok-push.ensures.items,
-      item-passed c.args.depth c.args.tokens.now.reader l.tokens.reader l.invariant.1 rest going.0 (takes-passed c.args.depth l.tokens.reader rest (IsCut c.args.levels) c.in_ok-item.item taken),
+      item-skipped c.args.depth c.args.tokens.now.reader l.tokens.reader l.invariant.1 rest going.0 (takes-skipped c.args.depth l.tokens.reader rest (IsCut c.args.levels) c.in_ok-item.item taken),
     )
 
 pub items-returns-clause-ok : goal.items-returns-clause-ok
@@ -96,7 +96,7 @@ members-members-preserved t c =
       λ ms f. inserted ∙ rw (copied, taken.4, f) (sym (put-cut c.args.levels k taken.1 ms)),
     ) in (
       member_taken (HasCut c.args.levels) c.args.depth c.args.tokens.now.reader l.found c.insert.new.self l.tokens.reader mid rest k l.invariant.0 named found,
-      member-passed c.args.depth c.args.tokens.now.reader l.tokens.reader l.invariant.1 k mid rest named (takes-passed c.args.depth mid rest (IsCut c.args.levels) v taken),
+      member-skipped c.args.depth c.args.tokens.now.reader l.tokens.reader l.invariant.1 k mid rest named (takes-skipped c.args.depth mid rest (IsCut c.args.levels) v taken),
     )
 
 pub members-returns-clause-ok : goal.members-returns-clause-ok
@@ -113,13 +113,13 @@ pub value-returns-in_err-items-in-Some-checked_sub-clause-not_json : goal.value-
 value-returns-in_err-items-in-Some-checked_sub-clause-not_json t c h =
     let inner = c.in-Some-checked_sub.inner in
     let opens : Opens Token.begin_array c.args.depth c.args.tokens.now.reader inner c.next.new.self = search rules in
-    passed-list c.args.depth inner c.args.tokens.now.reader c.next.new.self opens ∙ c.in_err-items-in-Some-checked_sub.ensures.not_json (grind arith)
+    skipped-list c.args.depth inner c.args.tokens.now.reader c.next.new.self opens ∙ c.in_err-items-in-Some-checked_sub.ensures.not_json (grind arith)
 
 pub value-returns-in_err-members-in-Some-checked_sub-2-clause-not_json : goal.value-returns-in_err-members-in-Some-checked_sub-2-clause-not_json
 value-returns-in_err-members-in-Some-checked_sub-2-clause-not_json t c h =
     let inner = c.in-Some-checked_sub-2.inner in
     let opens : Opens Token.begin_object c.args.depth c.args.tokens.now.reader inner c.next.new.self = search rules in
-    passed-object c.args.depth inner c.args.tokens.now.reader c.next.new.self opens ∙ c.in_err-members-in-Some-checked_sub-2.ensures.not_json (grind arith)
+    skipped-object c.args.depth inner c.args.tokens.now.reader c.next.new.self opens ∙ c.in_err-members-in-Some-checked_sub-2.ensures.not_json (grind arith)
 
 pub value-returns-in-Null-clause-ok : goal.value-returns-in-Null-clause-ok
 value-returns-in-Null-clause-ok t c =

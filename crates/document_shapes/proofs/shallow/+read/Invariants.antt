@@ -1,6 +1,6 @@
 use Rattle.std.proofs.Common.{length, ◌+◌, ◌*◌}
 use Rattle.document_shapes.specs.Cut.{IsCut, HasCut}
-use Rattle.document_shapes.proofs.PassLemmas.{PassedTo, MembersPassedTo}
+use Rattle.document_shapes.proofs.SkipLemmas.{SkippedTo, MembersSkippedTo}
 use Rattle.document_shapes.proofs.TokenLemmas.{ItemsTo, MembersTo}
 use Rattle.document_shapes.proofs.shallow.+read.Given as goal
 
@@ -16,7 +16,7 @@ decreases-value l = 2 * l.depth
 abbrev pub invariant-items-items : goal.invariant-items-items
 invariant-items-items l =
     ItemsTo (IsCut l.levels) l.depth l.initial.tokens.reader l.found.items l.tokens.reader
-    × PassedTo l.depth l.initial.tokens.reader l.tokens.reader
+    × SkippedTo l.depth l.initial.tokens.reader l.tokens.reader
 
 abbrev pub decreases-items-items : goal.decreases-items-items
 decreases-items-items l = length l.tokens.reader
@@ -24,7 +24,7 @@ decreases-items-items l = length l.tokens.reader
 abbrev pub invariant-members-members : goal.invariant-members-members
 invariant-members-members l =
     MembersTo (HasCut l.levels) l.depth l.initial.tokens.reader l.found l.tokens.reader
-    × MembersPassedTo l.depth l.initial.tokens.reader l.tokens.reader
+    × MembersSkippedTo l.depth l.initial.tokens.reader l.tokens.reader
 
 abbrev pub decreases-members-members : goal.decreases-members-members
 decreases-members-members l = length l.tokens.reader

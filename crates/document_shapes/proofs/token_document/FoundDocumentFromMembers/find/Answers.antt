@@ -52,7 +52,7 @@ returns-in-tables c =
 
 pub returns-in_default : goal.returns-in_default
 returns-in_default c =
-    found-nothing DocumentFinds c.args.name.now c.args.self.now c.args.depth c.args.tokens.now.reader c.pass_value.new.reader c.pass_value.result c.pass_value.ensures
+    found-nothing DocumentFinds c.args.name.now c.args.self.now c.args.depth c.args.tokens.now.reader c.skip_value.new.reader c.skip_value.result c.skip_value.ensures
     (λ d ms f. record {
       version = rw (stays d ms (codes "version") c.args.name.now c.in_default.not-version) f.version;
       points = rw (stays d ms (codes "points") c.args.name.now c.in_default.not-points) f.points;

@@ -19,7 +19,7 @@ returns-in-changes c =
 
 pub returns-in_default : goal.returns-in_default
 returns-in_default c =
-    found-nothing SectionFinds c.args.name.now c.args.self.now c.args.depth c.args.tokens.now.reader c.pass_value.new.reader c.pass_value.result c.pass_value.ensures
+    found-nothing SectionFinds c.args.name.now c.args.self.now c.args.depth c.args.tokens.now.reader c.skip_value.new.reader c.skip_value.result c.skip_value.ensures
     (λ d ms f. record {
       limit = rw (stays d ms (codes "limit") c.args.name.now c.in_default.not-limit) f.limit;
       changes = rw (stays d ms (codes "changes") c.args.name.now c.in_default.not-changes) f.changes;

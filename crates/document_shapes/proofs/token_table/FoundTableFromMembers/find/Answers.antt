@@ -51,7 +51,7 @@ returns-in-after c =
 
 pub returns-in_default : goal.returns-in_default
 returns-in_default c =
-    found-nothing TableFinds c.args.name.now c.args.self.now c.args.depth c.args.tokens.now.reader c.pass_value.new.reader c.pass_value.result c.pass_value.ensures
+    found-nothing TableFinds c.args.name.now c.args.self.now c.args.depth c.args.tokens.now.reader c.skip_value.new.reader c.skip_value.result c.skip_value.ensures
     (λ d ms f. record {
       missions = rw (stays d ms (codes "missions") c.args.name.now c.in_default.not-missions) f.missions;
       exits = rw (stays d ms (codes "exits") c.args.name.now c.in_default.not-exits) f.exits;

@@ -1,4 +1,4 @@
--- Values that are passed over, a turn at a time.
+-- Values that are skipped, a turn at a time.
 use Rattle.std.proofs.Common.{◌≡◌, ℕ, zero, suc, ◌-◌, ◌<◌, ◌≤◌, List, [], ◌∷◌, length, Option, Some, None, option_map, refl, sym, ap, subst, ◌∙◌, arith}
 use Rattle.std.specs.Prelude.{MatchOption, IsSomeAnd, option_and_then}
 use Rattle.std.specs.Option.{option_and}
@@ -9,7 +9,7 @@ use Rattle.json.specs.Lex.{tokens}
 use Rattle.json.proofs.Grammar.{left, items_more, items_fail, items_end, members_more, members_fail, members_no_key, members_end, read_key-shorter, value_is, skip_value-shorter}
 use Rattle.serde_json.specs.Data.{Data, number, array, object, item, Members, no_members, put}
 use Rattle.serde_json.specs.Read.{number_of, of_json, of_items, of_members, read}
-use Rattle.document_shapes.specs.Passed.{rest_after, after_value, after_items, after_members}
+use Rattle.document_shapes.specs.Skipped.{rest_after, after_value, after_items, after_members}
 use Rattle.document_shapes.specs.Taken.{Takes, Opens}
 use Rattle.document_shapes.proofs.TokenLemmas.{opens-list, opens-object}
 
@@ -68,31 +68,31 @@ module _ (depth : ℕ) (tokens rest : List Token) where
   pub after_value-shorter : after_value depth tokens ≡ Some rest → length rest < length tokens
   after_value-shorter h = skip_value-shorter depth tokens rest (ap left (was_read h).2)
 
-  -- what was passed over is some value
-  pub passed-takes : {X : Type 0} (R : Data → X → Type 0) (x : X) → ((d : Data) → R d x) → after_value depth tokens ≡ Some rest → Takes R depth tokens x rest
-  passed-takes R x any h = let read = was_read h in (read.0, read.1, read.2, read.3, any read.1)
+  -- what was skipped is some value
+  pub skipped-takes : {X : Type 0} (R : Data → X → Type 0) (x : X) → ((d : Data) → R d x) → after_value depth tokens ≡ Some rest → Takes R depth tokens x rest
+  skipped-takes R x any h = let read = was_read h in (read.0, read.1, read.2, read.3, any read.1)
 
-  -- what was read was passed over
-  pub takes-passed : {X : Type 0} (R : Data → X → Type 0) (x : X) → Takes R depth tokens x rest → after_value depth tokens ≡ Some rest
-  takes-passed R x h = ap (rest_after of_json) h.2 ∙ ap (option_map (λ _. rest)) h.3
+  -- what was read was skipped
+  pub takes-skipped : {X : Type 0} (R : Data → X → Type 0) (x : X) → Takes R depth tokens x rest → after_value depth tokens ≡ Some rest
+  takes-skipped R x h = ap (rest_after of_json) h.2 ∙ ap (option_map (λ _. rest)) h.3
 
--- a number is passed over where it is in range
+-- a number is skipped where it is in range
 pub number-after : (depth : ℕ) (s : List ℕ) (rest : List Token) → after_value depth (Token.number s ∷ rest) ≡ option_map (λ _. rest) (number_of s)
 number-after depth s rest = ap (rest_after of_json) (value_is depth (Token.number s ∷ rest)) ∙ same_rest rest number (number_of s)
 
-pub number-passed : {N M B : Type 0} (see : N → M) (b : B) (o : Option N) (rest : List Token) (after : Option (List Token)) → after ≡ option_map (λ _. rest) (option_map see o)
+pub number-skipped : {N M B : Type 0} (see : N → M) (b : B) (o : Option N) (rest : List Token) (after : Option (List Token)) → after ≡ option_map (λ _. rest) (option_map see o)
     → MatchOption (option_and o (Some b)) (after ≡ None) (λ _. after ≡ Some rest)
-number-passed see b None rest after h = h
-number-passed see b (Some n) rest after h = h
+number-skipped see b None rest after h = h
+number-skipped see b (Some n) rest after h = h
 
 -- ---- lists
 
 module _ (depth inner : ℕ) (tokens mid : List Token) where
-  pub passed-list : Opens Token.begin_array depth tokens inner mid → after_value depth tokens ≡ after_items inner (length mid) mid
-  passed-list h = ap (rest_after of_json) (opens-list depth inner tokens mid h) ∙ in_list (items (value inner) (length mid) mid)
+  pub skipped-list : Opens Token.begin_array depth tokens inner mid → after_value depth tokens ≡ after_items inner (length mid) mid
+  skipped-list h = ap (rest_after of_json) (opens-list depth inner tokens mid h) ∙ in_list (items (value inner) (length mid) mid)
 
-  pub passed-object : Opens Token.begin_object depth tokens inner mid → after_value depth tokens ≡ after_members inner no_members (length mid) mid
-  passed-object h = ap (rest_after of_json) (opens-object depth inner tokens mid h) ∙ in_object (members (value inner) (length mid) mid)
+  pub skipped-object : Opens Token.begin_object depth tokens inner mid → after_value depth tokens ≡ after_members inner no_members (length mid) mid
+  skipped-object h = ap (rest_after of_json) (opens-object depth inner tokens mid h) ∙ in_object (members (value inner) (length mid) mid)
 
 module _ (depth : ℕ) (before : List Token) where
   value_refused : (n : ℕ) (o : Option (Json × List Token)) → value depth before ≡ o → rest_after of_json o ≡ None → after_end_array before ≡ None → after_items depth n before ≡ None
@@ -112,27 +112,27 @@ module _ (depth : ℕ) (before : List Token) where
       ∙ without_member p.0 k found (was_none p.1 (of_json p.0) refused) _
 
 module _ (depth : ℕ) (all : List Token) where
-  -- The items so far were passed over, and what follows the list is what follows the items that are left.
-  pub record PassedTo (rest : List Token) : Type 0 where
+  -- The items so far were skipped, and what follows the list is what follows the items that are left.
+  pub record SkippedTo (rest : List Token) : Type 0 where
     pub turns : ℕ
     pub enough : length rest ≤ turns
     pub within : length rest ≤ length all
     pub same : after_items depth (length all) all ≡ after_items depth turns rest
 
-  pub passed-start : PassedTo all
-  passed-start = record {
+  pub skipped-start : SkippedTo all
+  skipped-start = record {
     turns = length all;
     enough = omega arith;
     within = omega arith;
     same = refl;
   }
 
-  module _ (before : List Token) (h : PassedTo before) where
-    pub item-passed : (rest : List Token) → after_end_array before ≡ None → after_value depth before ≡ Some rest → PassedTo rest
-    item-passed rest going passed =
-        let less = after_value-shorter depth before rest passed in
+  module _ (before : List Token) (h : SkippedTo before) where
+    pub item-skipped : (rest : List Token) → after_end_array before ≡ None → after_value depth before ≡ Some rest → SkippedTo rest
+    item-skipped rest going skipped =
+        let less = after_value-shorter depth before rest skipped in
         let some : 0 < h.turns = omega (arith, less, h.enough) in
-        let read = was_read depth before rest passed in
+        let read = was_read depth before rest skipped in
         record {
           turns = h.turns - 1;
           enough = omega (arith, less, h.enough);
@@ -143,21 +143,21 @@ module _ (depth : ℕ) (all : List Token) where
     pub item-refused : after_end_array before ≡ None → after_value depth before ≡ None → after_items depth (length all) all ≡ None
     item-refused going refused = h.same ∙ value_refused depth before h.turns (value depth before) refl refused going
 
-    pub items-passed : (rest : List Token) → after_end_array before ≡ Some rest → after_items depth (length all) all ≡ Some rest
-    items-passed rest ended = h.same ∙ ap (rest_after of_items) (items_end (value depth) h.turns before rest h.enough ended)
+    pub items-skipped : (rest : List Token) → after_end_array before ≡ Some rest → after_items depth (length all) all ≡ Some rest
+    items-skipped rest ended = h.same ∙ ap (rest_after of_items) (items_end (value depth) h.turns before rest h.enough ended)
 
 -- ---- objects
 
 module _ (depth : ℕ) (all : List Token) where
-  -- The members so far were passed over, and what follows the object is what follows the members that are left.
-  pub record MembersPassedTo (rest : List Token) : Type 0 where
+  -- The members so far were skipped, and what follows the object is what follows the members that are left.
+  pub record MembersSkippedTo (rest : List Token) : Type 0 where
     pub turns : ℕ
     pub enough : length rest ≤ turns
     pub within : length rest ≤ length all
     pub found : Members
     pub same : after_members depth no_members (length all) all ≡ after_members depth found turns rest
 
-  pub members-start : MembersPassedTo all
+  pub members-start : MembersSkippedTo all
   members-start = record {
     turns = length all;
     enough = omega arith;
@@ -166,13 +166,13 @@ module _ (depth : ℕ) (all : List Token) where
     same = refl;
   }
 
-  module _ (before : List Token) (h : MembersPassedTo before) where
-    pub member-passed : (k : List ℕ) (mid rest : List Token) → read_key before ≡ Some (Some k, mid) → after_value depth mid ≡ Some rest → MembersPassedTo rest
-    member-passed k mid rest key passed =
+  module _ (before : List Token) (h : MembersSkippedTo before) where
+    pub member-skipped : (k : List ℕ) (mid rest : List Token) → read_key before ≡ Some (Some k, mid) → after_value depth mid ≡ Some rest → MembersSkippedTo rest
+    member-skipped k mid rest key skipped =
         let shorter = read_key-shorter before (Some k) mid key in
-        let less = after_value-shorter depth mid rest passed in
+        let less = after_value-shorter depth mid rest skipped in
         let some : 0 < h.turns = omega (arith, shorter, h.enough) in
-        let read = was_read depth mid rest passed in
+        let read = was_read depth mid rest skipped in
         record {
           turns = h.turns - 1;
           enough = omega (arith, shorter, less, h.enough);
@@ -188,8 +188,8 @@ module _ (depth : ℕ) (all : List Token) where
     pub key-refused : read_key before ≡ None → after_members depth no_members (length all) all ≡ None
     key-refused refused = h.same ∙ ap (rest_after (λ js. of_members js h.found)) (members_no_key (value depth) h.turns before refused)
 
-    pub members-passed : (rest : List Token) → read_key before ≡ Some (None, rest) → after_members depth no_members (length all) all ≡ Some rest
-    members-passed rest ended = h.same ∙ ap (rest_after (λ js. of_members js h.found)) (members_end (value depth) h.turns before rest h.enough ended)
+    pub members-skipped : (rest : List Token) → read_key before ≡ Some (None, rest) → after_members depth no_members (length all) all ≡ Some rest
+    members-skipped rest ended = h.same ∙ ap (rest_after (λ js. of_members js h.found)) (members_end (value depth) h.turns before rest h.enough ended)
 
 -- ---- a text
 

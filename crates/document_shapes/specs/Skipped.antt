@@ -1,4 +1,4 @@
--- What follows a value that is passed over.
+-- What follows a value that is skipped.
 use Rattle.std.specs.Prelude.{ℕ, List, Option, option_map, option_and_then}
 use Rattle.json.specs.Token.{Token}
 use Rattle.json.specs.Json as json
