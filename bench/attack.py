@@ -290,12 +290,12 @@ def shapes():
 
 
 def stack():
-    """The greatest inputs again, with 64 KiB of stack more than the least run takes."""
+    """The greatest inputs again, with 100 KiB of stack more than the least run takes: `serde_json` takes 94 for 127 levels."""
     first = dict(examples())["first-path"]
     least = next(most for most in range(1 << 14, 1 << 23, 1 << 12) if starts("run", first, STACK=most))
     for attack in shapes():
         judge = same(ats(attack.words, attack.text))
-        yield attack._replace(judge=judge, seconds=PATIENCE, run=lambda words, text: limited(words, text, STACK=least + (64 << 10)))
+        yield attack._replace(judge=judge, seconds=PATIENCE, run=lambda words, text: limited(words, text, STACK=least + (100 << 10)))
 
 
 def long_journal():

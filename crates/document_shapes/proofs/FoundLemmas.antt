@@ -11,14 +11,12 @@ use Rattle.serde_json.specs.Find.{get_member}
 use Rattle.serde_json.specs.Read.{of_json}
 use Rattle.serde_json.proofs.Views.{get_member-put, get_member-put_other}
 use Rattle.document_shapes.specs.Members.{name_of, need, may, shaped}
-use Rattle.document_shapes.specs.Skipped.{after_value}
 use Rattle.document_shapes.specs.Readings.{ReadsGiven}
 use Rattle.document_shapes.specs.Shape.{Shape}
 use Rattle.document_shapes.specs.Taken.{Finds, FindsAt, Takes, IsObjectWith}
 use Rattle.document_shapes.specs.declared.member.Member.{Member}
 use Rattle.document_shapes.specs.declared.refused.ShapeRefused.{ShapeRefused}
 use Rattle.document_shapes.specs.declared.refused.ShapeRefused.TheVariants as refused
-use Rattle.document_shapes.proofs.SkipLemmas.{skipped-takes}
 
 -- what holds of every value that there may be, under a weaker claim
 pub on_some : {A : Type 0} {P Q : Type 0} (o : Option A) → OnSome o P → (P → Q) → OnSome o Q
@@ -33,17 +31,6 @@ found-at F name k before after depth tokens rest j d is read same h = (j, d, rea
 -- a member of another name stays
 pub kept : (d : Data) (ms : Members) (name k : List ℕ) → is_eq (slice_cmp nat_cmp name k) ≡ false → get_member name (put k d ms) ≡ get_member name ms
 kept d ms name k other = get_member-put_other name k d ms (λ e. true≢false (sym (ap is_eq (ap (λ x. slice_cmp nat_cmp x k) e ∙ tied_itself nat_list_cmp_total k)) ∙ other))
-
--- a member under a name that isn't this one
-pub stays : (d : Data) (ms : Members) (name k : List ℕ) → (k ≡ name → ⊥) → get_member name (put k d ms) ≡ get_member name ms
-stays d ms name k other = get_member-put_other name k d ms (λ e. other (sym e))
-
--- a value that is skipped, under a name that isn't known
-pub found-nothing : {X B : Type 0} (F : Members → X → Type 0) (name : List ℕ) (x : X) (depth : ℕ) (tokens rest : List Token) (r : Option B)
-    → MatchOption r (after_value depth tokens ≡ None) (λ _. after_value depth tokens ≡ Some rest) → ((d : Data) (ms : Members) → F ms x → F (put name d ms) x)
-    → OnSome r (Takes (λ e z. FindsAt F name x e z) depth tokens x rest)
-found-nothing F name x depth tokens rest None skipped same = tt
-found-nothing F name x depth tokens rest (Some b) skipped same = skipped-takes depth tokens rest (λ e z. FindsAt F name x e z) x same skipped
 
 module _ (d : Data) (ms : Members) where
   module _ {A X : Type 0} (shape : Shape A) (see : X → A) where

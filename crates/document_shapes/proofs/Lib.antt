@@ -22,6 +22,3 @@ pub mod NumberLemmas
 pub mod TokenLemmas
 pub mod FoundLemmas
 pub mod FoundParts
-pub mod SkipLemmas
-mod SkipRows
-pub mod CutLemmas

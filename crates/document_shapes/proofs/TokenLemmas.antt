@@ -117,13 +117,13 @@ module _ {X : Type 0} (R : Data → X → Type 0) (depth : ℕ) where
   follow-items tokens rest xs h = followed tokens [] xs tokens rest (items_start R depth tokens) h
 
 module _ (depth inner : ℕ) (tokens mid : List Token) where
-  pub opens-list : Opens Token.begin_array depth tokens inner mid → value depth tokens ≡ parse_map json.array (items (value inner) (length mid) mid)
+  opens-list : Opens Token.begin_array depth tokens inner mid → value depth tokens ≡ parse_map json.array (items (value inner) (length mid) mid)
   opens-list h =
       let some : 0 < depth = omega (arith, h.0) in
       let same : depth - 1 ≡ inner = omega (arith, h.0) in
       ap (value depth) h.1 ∙ value-begin_array depth mid some ∙ ap (λ k. parse_map json.array (items (value k) (length mid) mid)) same
 
-  pub opens-object : Opens Token.begin_object depth tokens inner mid → value depth tokens ≡ parse_map json.object (members (value inner) (length mid) mid)
+  opens-object : Opens Token.begin_object depth tokens inner mid → value depth tokens ≡ parse_map json.object (members (value inner) (length mid) mid)
   opens-object h =
       let some : 0 < depth = omega (arith, h.0) in
       let same : depth - 1 ≡ inner = omega (arith, h.0) in

@@ -11,8 +11,6 @@ pub mod Written
 pub mod InRange
 pub mod Added
 pub mod Taken
-pub mod Skipped
-pub mod Cut
 pub mod SectionFound
 pub mod TableFound
 pub mod TableRead

@@ -1,9 +1,8 @@
 // The members of a document.
-ghost use Rattle.std.specs.Prelude.{◌≡◌, ◌⊎◌, IfOk, IfErr, IsSomeAnd, MatchResult, map, string_bytes, Some, None, Ok, Err};
+ghost use Rattle.std.specs.Prelude.{◌≡◌, ◌⊎◌, IfOk, IfErr, MatchResult, map, string_bytes, Some, None, Ok, Err};
 ghost use Rattle.std.specs.List.{list_all};
 ghost use Rattle.serde_json.specs.View.{view};
 ghost use Rattle.rail_model.specs.Turns.{AnswersAs, in_turn};
-ghost use Rattle.document_shapes.specs.Cut.{IsCut, document_levels};
 ghost use Rattle.document_shapes.specs.Reading.{reading};
 ghost use Rattle.document_shapes.specs.Shape.{list_of, pair, text};
 ghost use Rattle.document_shapes.specs.Shape as shape;
@@ -14,8 +13,6 @@ ghost use Rattle.document_shapes.specs.Seen.{seen_document, names_seen};
 
 use crate::from_value::whole;
 use crate::members::needed;
-use crate::refused::Unread;
-use crate::shallow::read_shallow;
 use crate::table::read_tables;
 use crate::token_document::read_tokens;
 use crate::{Member, ShapeRefused, TableMembers};
@@ -37,16 +34,19 @@ pub struct DocMembers {
     pub tables: Vec<TableMembers>,
 }
 
-// The value that the bytes are, as far as a document's levels go.
+// The value that the bytes are.
 fn read_value(alloc: Global, bytes: &[u8]) -> Result<Value, ShapeRefused>
-    ensures ok { IfOk result (λ v. IsSomeAnd (reading bytes.now) (λ d. IsCut document_levels d v)) }
+    ensures ok { IfOk result (λ v. reading bytes.now ≡ Some (view v)) }
     ensures not_json { result ≡ Err ShapeRefused.NotJson → reading bytes.now ≡ None }
     ensures errors { IfErr result (λ e. (e ≡ ShapeRefused.Memory) ⊎ (e ≡ ShapeRefused.NotJson)) }
 {
-    match read_shallow(alloc, bytes) {
+    match Value::from_slice(alloc, bytes) {
         Ok(value) => Ok(value),
-        Err(Unread::NotJson) => Err(ShapeRefused::NotJson),
-        Err(Unread::Memory) => Err(ShapeRefused::Memory),
+        Err(error) => if error.is_memory() {
+            Err(ShapeRefused::Memory)
+        } else {
+            Err(ShapeRefused::NotJson)
+        },
     }
 }
 

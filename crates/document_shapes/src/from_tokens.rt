@@ -10,9 +10,6 @@ use crate::number_text::{change_of, whole_of};
 use json::{Reader, Token};
 use std::alloc::Global;
 
-/// How deep a text may nest that `serde_json` reads.
-pub(crate) const MAX_DEPTH: usize = 127;
-
 /// The tokens of a text from the next value on, and what allocates what is read of them.
 #[derive(Drop)]
 pub(crate) struct Tokens<'a> {

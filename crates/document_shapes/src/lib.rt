@@ -11,8 +11,6 @@ mod members;
 mod number_text;
 mod parts;
 mod refused;
-mod shallow;
-mod skipping;
 mod table;
 mod to_tokens;
 mod token_document;

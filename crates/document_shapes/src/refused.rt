@@ -29,33 +29,6 @@ pub(crate) enum Misfit {
     Memory,
 }
 
-/// Why a text is not read: it is no JSON, or memory ran out.
-#[derive(Clone, Copy)]
-pub(crate) enum Unread {
-    NotJson,
-    Memory,
-}
-
-impl<T: Drop> From<AllocFailed<T>> for Unread {
-    ghost use Rattle.document_shapes.specs.declared.refused.Unread.TheVariants.{Memory};
-
-    ghost from_gives = { λ _ e. e ≡ Memory };
-
-    fn from(_error: AllocFailed<T>) -> Unread {
-        Unread::Memory
-    }
-}
-
-impl From<AllocError> for Unread {
-    ghost use Rattle.document_shapes.specs.declared.refused.Unread.TheVariants.{Memory};
-
-    ghost from_gives = { λ _ e. e ≡ Memory };
-
-    fn from(_error: AllocError) -> Unread {
-        Unread::Memory
-    }
-}
-
 impl From<AllocError> for Misfit {
     ghost use Rattle.document_shapes.specs.declared.refused.Misfit.TheVariants.{Memory};
 

@@ -9,11 +9,13 @@ ghost use Rattle.document_shapes.specs.TableRead as of_version;
 
 use crate::document::LATEST_VERSION;
 use crate::from_members::{FromMembers, object};
-use crate::from_tokens::{FromTokens, MAX_DEPTH, Tokens, read_into};
-use crate::skipping::skip_value;
+use crate::from_tokens::{FromTokens, Tokens, read_into};
 use crate::{DocMembers, TableMembers};
 use json::{Reader, Scratch};
 use std::alloc::Global;
+
+// How deep a text may nest that `serde_json` reads.
+const MAX_DEPTH: usize = 127;
 
 // What is found of a document's members.
 #[derive(Default, Drop)]
@@ -45,7 +47,7 @@ impl FromMembers for FoundDocument {
             "trains" => read_into(&mut self.trains, tokens, depth),
             "start" => read_into(&mut self.start, tokens, depth),
             "tables" => read_into(&mut self.tables, tokens, depth),
-            _ => skip_value(&mut tokens.reader, depth),
+            _ => None,
         }
     }
 }
@@ -118,7 +120,7 @@ fn members_in(alloc: Global, text: &str, scratch: &mut Scratch) -> Option<DocMem
 }
 
 /// The members of the document that the bytes are, read token by token. None if the bytes are no document or if memory ran
-/// out, and also for a document with a member of a later version.
+/// out, and also for a document with a member of another name or of a later version.
 pub(crate) fn read_tokens(alloc: Global, bytes: &[u8]) -> Option<DocMembers>
     ensures { IfSome result (λ m. members_of bytes.now ≡ Ok (seen_document m)) }
 {

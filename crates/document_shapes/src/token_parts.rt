@@ -6,10 +6,9 @@ ghost use Rattle.document_shapes.specs.Shape as shape;
 
 use crate::from_members::{FromMembers, object};
 use crate::from_tokens::{FromTokens, Tokens, list_begins, read_into};
-use crate::skipping::skip_value;
 use rail_model::{Changes, Connection, Node, Section, TrainTimes};
 
-// Skips the end of a list, where it is next.
+// Takes the end of a list, where it is next.
 fn list_ends(tokens: &mut Tokens<'_>) -> Option<()>
     ensures { OnSome result (after_end_array tokens.old.reader ≡ Some tokens.new.reader) }
 {
@@ -109,7 +108,7 @@ impl FromMembers for FoundSection {
         match name {
             "limit" => read_into(&mut self.limit, tokens, depth),
             "changes" => read_into(&mut self.changes, tokens, depth),
-            _ => skip_value(&mut tokens.reader, depth),
+            _ => None,
         }
     }
 }

@@ -2,7 +2,6 @@
 use crate::TableMembers;
 use crate::from_members::{FromMembers, object};
 use crate::from_tokens::{FromTokens, Tokens, read_into};
-use crate::skipping::skip_value;
 use rail_model::{Connection, Node, Section, TrainTimes};
 
 // What is found of a table's members.
@@ -35,7 +34,7 @@ impl FromMembers for FoundTable {
             "certificate" => read_into(&mut self.certificate, tokens, depth),
             "times" => read_into(&mut self.times, tokens, depth),
             "after" => read_into(&mut self.after, tokens, depth),
-            _ => skip_value(&mut tokens.reader, depth),
+            _ => None,
         }
     }
 }

@@ -1,14 +1,13 @@
-use Rattle.std.proofs.Common.{Result, subst}
-use Rattle.rail_model.specs.Turns.{AnswersAs}
-use Rattle.document_shapes.specs.Raw.{DocMembers}
-use Rattle.document_shapes.specs.Reading.{reading}
+use Rattle.std.proofs.Common.{Option, sym, subst}
+use Rattle.std.specs.Prelude.{ok_or}
+use Rattle.serde_json.specs.Data.{Data}
+use Rattle.rail_model.specs.Turns.{AnswersAs, in_turn}
+use Rattle.document_shapes.specs.Raw.{doc_members}
 use Rattle.document_shapes.specs.Seen.{seen_document}
-use Rattle.document_shapes.specs.declared.refused.ShapeRefused.{ShapeRefused}
-use Rattle.document_shapes.specs.declared.refused.ShapeRefused.TheVariants.{Memory}
-use Rattle.document_shapes.proofs.CutLemmas.{members-cut}
+use Rattle.document_shapes.specs.declared.refused.ShapeRefused.TheVariants.{Memory, NotJson}
 use Rattle.document_shapes.proofs.document.read_document.Goals as goal
 
 pub returns : goal.returns
 returns c =
-    subst (λ (wanted : Result DocMembers ShapeRefused). AnswersAs Memory seen_document c.read_members.result wanted)
-    (members-cut (reading c.args.bytes.now) c.in_ok-value.value c.in_ok-value.ensures.ok) c.read_members.ensures
+    subst (λ (read : Option Data). AnswersAs Memory seen_document c.read_members.result (in_turn (ok_or read NotJson) doc_members)) (sym c.in_ok-value.ensures.ok)
+    c.read_members.ensures

@@ -5,7 +5,7 @@ use Rattle.document_shapes.specs.Seen.{names_seen}
 use Rattle.document_shapes.specs.Shape.{whole, text, list_of, pair}
 use Rattle.document_shapes.specs.TableRead.{ReadsTable}
 use Rattle.document_shapes.proofs.Agreement.{agrees-list, agrees-items, agrees-pair, agrees-text, agrees-whole}
-use Rattle.document_shapes.proofs.FoundLemmas.{finds-read, reads-new, on_some, found-at, kept, stays, found-nothing}
+use Rattle.document_shapes.proofs.FoundLemmas.{finds-read, reads-new, on_some, found-at, kept}
 use Rattle.document_shapes.proofs.token_document.FoundDocumentFromMembers.find.Goals as goal
 
 pub returns-in-version : goal.returns-in-version
@@ -49,16 +49,3 @@ returns-in-tables c =
     on_some c.read_into-in-tables.result c.read_into-in-tables.ensures
     (λ h. found-at DocumentFinds c.args.name.now (codes "tables") c.args.self.now (record c.args.self.now { tables = c.read_into-in-tables.new.field }) c.args.depth c.args.tokens.now.reader c.read_into-in-tables.new.tokens.reader h.0 h.1 (search rules) h.2 h.3
     (λ ms f. record { version = rw (kept h.1 ms (codes "version") (codes "tables") refl) f.version; points = rw (kept h.1 ms (codes "points") (codes "tables") refl) f.points; links = rw (kept h.1 ms (codes "links") (codes "tables") refl) f.links; zones = rw (kept h.1 ms (codes "zones") (codes "tables") refl) f.zones; trains = rw (kept h.1 ms (codes "trains") (codes "tables") refl) f.trains; start = rw (kept h.1 ms (codes "start") (codes "tables") refl) f.start; tables = reads-new h.1 ms (λ e v. ReadsList ReadsTable e v.items) (codes "tables") c.read_into-in-tables.new.field h.4 }))
-
-pub returns-in_default : goal.returns-in_default
-returns-in_default c =
-    found-nothing DocumentFinds c.args.name.now c.args.self.now c.args.depth c.args.tokens.now.reader c.skip_value.new.reader c.skip_value.result c.skip_value.ensures
-    (λ d ms f. record {
-      version = rw (stays d ms (codes "version") c.args.name.now c.in_default.not-version) f.version;
-      points = rw (stays d ms (codes "points") c.args.name.now c.in_default.not-points) f.points;
-      links = rw (stays d ms (codes "links") c.args.name.now c.in_default.not-links) f.links;
-      zones = rw (stays d ms (codes "zones") c.args.name.now c.in_default.not-zones) f.zones;
-      trains = rw (stays d ms (codes "trains") c.args.name.now c.in_default.not-trains) f.trains;
-      start = rw (stays d ms (codes "start") c.args.name.now c.in_default.not-start) f.start;
-      tables = rw (stays d ms (codes "tables") c.args.name.now c.in_default.not-tables) f.tables;
-    })

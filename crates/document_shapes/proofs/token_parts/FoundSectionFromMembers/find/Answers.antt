@@ -2,7 +2,7 @@ use Rattle.std.proofs.Common.{codes, refl, rules}
 use Rattle.document_shapes.specs.SectionFound.{SectionFinds}
 use Rattle.document_shapes.specs.Shape.{whole, change, list_of}
 use Rattle.document_shapes.proofs.Agreement.{agrees-items, agrees-whole, agrees-changes}
-use Rattle.document_shapes.proofs.FoundLemmas.{finds-read, on_some, found-at, kept, stays, found-nothing}
+use Rattle.document_shapes.proofs.FoundLemmas.{finds-read, on_some, found-at, kept}
 use Rattle.document_shapes.proofs.token_parts.FoundSectionFromMembers.find.Goals as goal
 
 pub returns-in-limit : goal.returns-in-limit
@@ -16,11 +16,3 @@ returns-in-changes c =
     on_some c.read_into-in-changes.result c.read_into-in-changes.ensures
     (λ h. found-at SectionFinds c.args.name.now (codes "changes") c.args.self.now (record c.args.self.now { changes = c.read_into-in-changes.new.field }) c.args.depth c.args.tokens.now.reader c.read_into-in-changes.new.tokens.reader h.0 h.1 (search rules) h.2 h.3
     (λ ms f. record { limit = rw (kept h.1 ms (codes "limit") (codes "changes") refl) f.limit; changes = finds-read h.1 ms (list_of (list_of change)) (λ v. v.items) _ (agrees-items agrees-changes).reads (codes "changes") c.read_into-in-changes.new.field h.4 }))
-
-pub returns-in_default : goal.returns-in_default
-returns-in_default c =
-    found-nothing SectionFinds c.args.name.now c.args.self.now c.args.depth c.args.tokens.now.reader c.skip_value.new.reader c.skip_value.result c.skip_value.ensures
-    (λ d ms f. record {
-      limit = rw (stays d ms (codes "limit") c.args.name.now c.in_default.not-limit) f.limit;
-      changes = rw (stays d ms (codes "changes") c.args.name.now c.in_default.not-changes) f.changes;
-    })

@@ -4,7 +4,7 @@ use Rattle.document_shapes.specs.Seen.{names_seen}
 use Rattle.document_shapes.specs.Shape.{whole, truth, text, list_of}
 use Rattle.document_shapes.specs.TableFound.{TableFinds}
 use Rattle.document_shapes.proofs.Agreement.{agrees-list, agrees-items, agrees-text, agrees-truth, agrees-whole, agrees-node, agrees-connection, agrees-section, agrees-train_times}
-use Rattle.document_shapes.proofs.FoundLemmas.{finds-read, on_some, found-at, kept, stays, found-nothing}
+use Rattle.document_shapes.proofs.FoundLemmas.{finds-read, on_some, found-at, kept}
 use Rattle.document_shapes.proofs.token_table.FoundTableFromMembers.find.Goals as goal
 
 pub returns-in-missions : goal.returns-in-missions
@@ -48,16 +48,3 @@ returns-in-after c =
     on_some c.read_into-in-after.result c.read_into-in-after.ensures
     (λ h. found-at TableFinds c.args.name.now (codes "after") c.args.self.now (record c.args.self.now { after = c.read_into-in-after.new.field }) c.args.depth c.args.tokens.now.reader c.read_into-in-after.new.tokens.reader h.0 h.1 (search rules) h.2 h.3
     (λ ms f. record { missions = rw (kept h.1 ms (codes "missions") (codes "after") refl) f.missions; exits = rw (kept h.1 ms (codes "exits") (codes "after") refl) f.exits; sections = rw (kept h.1 ms (codes "sections") (codes "after") refl) f.sections; connections = rw (kept h.1 ms (codes "connections") (codes "after") refl) f.connections; certificate = rw (kept h.1 ms (codes "certificate") (codes "after") refl) f.certificate; times = rw (kept h.1 ms (codes "times") (codes "after") refl) f.times; after = finds-read h.1 ms whole (λ n. n) _ agrees-whole.reads (codes "after") c.read_into-in-after.new.field h.4 }))
-
-pub returns-in_default : goal.returns-in_default
-returns-in_default c =
-    found-nothing TableFinds c.args.name.now c.args.self.now c.args.depth c.args.tokens.now.reader c.skip_value.new.reader c.skip_value.result c.skip_value.ensures
-    (λ d ms f. record {
-      missions = rw (stays d ms (codes "missions") c.args.name.now c.in_default.not-missions) f.missions;
-      exits = rw (stays d ms (codes "exits") c.args.name.now c.in_default.not-exits) f.exits;
-      sections = rw (stays d ms (codes "sections") c.args.name.now c.in_default.not-sections) f.sections;
-      connections = rw (stays d ms (codes "connections") c.args.name.now c.in_default.not-connections) f.connections;
-      certificate = rw (stays d ms (codes "certificate") c.args.name.now c.in_default.not-certificate) f.certificate;
-      times = rw (stays d ms (codes "times") c.args.name.now c.in_default.not-times) f.times;
-      after = rw (stays d ms (codes "after") c.args.name.now c.in_default.not-after) f.after;
-    })
