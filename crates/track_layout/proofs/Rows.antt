@@ -1,9 +1,10 @@
 -- Worked rows: the first path's layout, and each refusal once.
-use Rattle.std.proofs.Common.{◌≡◌, ℕ, List, [], ◌∷◌, length, Ok, Err, refl, sym, ap}
+use Rattle.std.proofs.Common.{◌≡◌, ℕ, List, [], ◌∷◌, length, map, Ok, Err, refl, sym, ap}
 use Rattle.std.specs.Prelude.{codes}
 use Rattle.rail_model.specs.Turns.{first_of}
 use Rattle.track_layout.specs.declared.refused.What.TheVariants.{Points, Links, Zones}
 use Rattle.track_layout.specs.declared.refused.LayoutRefused.TheVariants.{TooMany, NoZone, Name, DoubleName, ZoneRange, ZoneEmpty, UnknownPoint, SelfLink}
+use Rattle.track_layout.specs.Counted.{most_of}
 use Rattle.track_layout.specs.Making.{layout_from}
 use Rattle.track_layout.proofs.Checks.{stop}
 use Rattle.track_layout.proofs.Order.{count_rows, grouped, refused_by}
@@ -39,6 +40,9 @@ many_points points size =
 many_links : (links : List (List ℕ × List ℕ)) → length links ≡ 2049 → layout_from points links 1 ≡ Err (TooMany Links 2049)
 many_links links size =
     refused_by points links 1 (TooMany Links 2049) (stop (grouped points links 1) (ap (λ n. first_of (count_rows 3 n 1)) (sym size)))
+
+greatest_numbers : map most_of (Points ∷ Links ∷ Zones ∷ []) ≡ 512 ∷ 2048 ∷ 16 ∷ []
+greatest_numbers = refl
 
 many_zones : layout_from points links 17 ≡ Err (TooMany Zones 17)
 unfolding layout_from

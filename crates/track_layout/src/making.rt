@@ -4,19 +4,13 @@ ghost use Rattle.std.specs.Bool.{then_some};
 ghost use Rattle.std.specs.List.{list_any, range_with_len};
 ghost use Rattle.std.specs.Result.{result_err};
 ghost use Rattle.rail_model.specs.Turns.{AnswersAs, first_of, unless};
+ghost use Rattle.track_layout.specs.Counted.{most_of};
 ghost use Rattle.track_layout.specs.Making.{too_many, no_zone, bad_name, zone_range, zone_empty, unknown_point, self_link, names_of, zones_of, is_known, link_value, layout_from};
 ghost use Rattle.track_layout.specs.Seen.{points_seen, links_seen, link_seen};
 
 use crate::{LayoutRefused, Numbers, What};
 use rail_model::{Layout, Link, Point, first_bad_name};
 use std::alloc::{AllocError, Global};
-
-// The most points, links and zones of a layout.
-const MOST_POINTS: usize = 512;
-
-const MOST_LINKS: usize = 2048;
-
-const MOST_ZONES: usize = 16;
 
 /// The layout of these points, each with its zone, these links, and `zones` zones.
 ///
@@ -45,19 +39,19 @@ pub fn layout(
 fn check_counts(points: usize, links: usize, zones: u32) -> Result<(), LayoutRefused>
     ensures { result_err result ≡ first_of (too_many What.Points 512 points ∷ too_many What.Links 2048 links ∷ too_many What.Zones 16 zones ∷ no_zone zones ∷ []) }
 {
-    at_most(MOST_POINTS, What::Points, points)?;
-    at_most(MOST_LINKS, What::Links, links)?;
-    at_most(MOST_ZONES, What::Zones, zones as usize)?;
+    at_most(What::Points, points)?;
+    at_most(What::Links, links)?;
+    at_most(What::Zones, zones as usize)?;
     if zones == 0 {
         return Err(LayoutRefused::NoZone);
     }
     Ok(())
 }
 
-fn at_most(limit: usize, what: What, count: usize) -> Result<(), LayoutRefused>
-    ensures { result_err result ≡ too_many what limit count }
+fn at_most(what: What, count: usize) -> Result<(), LayoutRefused>
+    ensures { result_err result ≡ too_many what (most_of what) count }
 {
-    if count > limit {
+    if count > what.most() {
         return Err(LayoutRefused::TooMany { what, count });
     }
     Ok(())
