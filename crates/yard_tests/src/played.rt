@@ -65,7 +65,7 @@ moments come in their order: three-tracks 99
 0: Taken
 0: Read
 0: Appended
-0: Released
+0: next Released
 0: Arrived { ticket: 1 }
 => [1, 0, 0] [Move { train: 0, from: 0, to: Some(1) }]
 
@@ -169,6 +169,14 @@ control: Released
 0 try_request: Granted { ticket: 1 }
 control: Exchanged { ticket: 0 }
 => [1] [Table { table: 1 }, Move { train: 0, from: 0, to: Some(2) }]
+
+nothing is paid for a table that isn't due: goes-on 99
+control exchange: next Taken
+control: next Read
+control: next Appended
+control: next Released
+control: Early { ticket: 0, moves: 0 }
+=> [0] []
 
 a table is early and then kept out: never-legal 99
 control exchange: Early { ticket: 0, moves: 0 }

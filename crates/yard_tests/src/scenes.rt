@@ -16,13 +16,15 @@ pub(crate) enum Call {
     Exchange,
 }
 
-/// A line of a scene as it is written; the pass; its call, if one begins here; and the moment or the answer with which the line ends.
+/// A line of a scene as it is written; the pass; its call, if one begins here; and the moment or the answer with which the line ends, and
+/// whether no other moment may come before.
 #[derive(Clone, Copy)]
 pub(crate) struct Line {
     pub(crate) text: &'static str,
     pub(crate) who: u32,
     pub(crate) call: Option<Call>,
     until: &'static str,
+    is_next: bool,
 }
 
 // The number of a pass.
@@ -54,11 +56,13 @@ fn line_of(text: &'static str) -> Result<Line, Fail> {
         Some((word, words)) => (word, Some(call_of(words)?)),
         None => (head, None),
     };
+    let next = until.strip_prefix("next ");
     Ok(Line {
         text,
         who: number_of(word)?,
         call,
-        until,
+        until: next.unwrap_or(until),
+        is_next: next.is_some(),
     })
 }
 
@@ -146,6 +150,14 @@ impl<'a> Scene<'a> {
         }
     }
 
+    // Whether the line that has come wants this pass's next moment.
+    fn wants_next(&self, who: u32) -> bool {
+        match self.line() {
+            Some(line) => line.who == who && line.is_next,
+            None => false,
+        }
+    }
+
     /// The pass was answered this. With another answer than the line's, the scene is given up.
     pub(crate) fn answer(&self, who: u32, answer: &str) {
         if !self.is_end(who, answer) {
@@ -171,6 +183,8 @@ impl Gate for Scene<'_> {
         self.wait(who);
         if self.is_end(who, name_of(moment)) {
             self.wait(who);
+        } else if self.wants_next(who) {
+            self.give_up();
         }
     }
 }

@@ -71,6 +71,7 @@ module _ (id : TableId) (train position entries : ℕ) (old new : Sat) (driver :
         glanced = t.table;
         tries = t.tries;
         another = λ same. t.another.1 (ap suc same);
+        pass = t.another.2;
         listed = t.listed;
         needed = subst (λ (c : Claim). has zone (zones_of old.0.setup.layout T c) ≡ true) (same_claim (pass_of id old.0) asked asked (omega (arith, some, room)) (omega (arith, room)) T) t.needed;
         rest = ap (λ (m : Sat). pass_of id m.0) t.since.now;

@@ -19,7 +19,7 @@ use Rattle.zone_locks.specs.Zones.{has}
 use Rattle.move_claim.specs.declared.claims.Claim.{Claim}
 use Rattle.zone_yard.specs.declared.requests.Attempt.{Attempt}
 use Rattle.zone_yard.specs.declared.requests.Attempt.TheVariants.{Told, Busy}
-use Rattle.zone_yard.specs.Asked.{Attempted, FoundNoZoneHeld, reply_of, block_reply_of}
+use Rattle.zone_yard.specs.Asked.{Attempted, reply_of, block_reply_of}
 
 pub replies_to : (old new : Pass) (ticket : ℕ) (answer : Ask) → IsReplied old ticket answer new → Replies old (reply_to ticket answer) new
 replies_to old new ticket ask.Yes h = h
@@ -105,23 +105,10 @@ asked_block want asked (Busy zone holder) old new room is b =
         glanced = b.glanced;
         tries = b.tries;
         another = b.another;
+        pass = b.pass;
         listed = b.listed;
         needed = subst (λ (c : Claim). has zone (zones_of old.yard.setup.layout T c) ≡ true) (sym (same_claim old asked asked room (omega (arith, is)) T) ∙ same_claim old want asked room is T) b.needed;
         rest = b.rest;
         free = b.free;
       },
     )
-
--- Only tries were added.
-pub record IsTriedOn (old new : Pass) : Type 0 where
-  pub tries : StartsWith new.tries old.tries
-  pub rest : new ≡ record old { tries = new.tries }
-
--- the answer to the last request is one to the first
-pub asked_again : (n : ℕ) (attempt : Attempt) (old m new : Pass) → IsTriedOn old m → FoundNoZoneHeld attempt → Attempted n m attempt new → Attempted n old attempt new
-asked_again n (Told answer steps ticket) old m new t answered h = answered_since n steps ticket answer old m new t.rest t.tries h
-asked_again n (Busy zone holder) old m new t answered h = absurd answered
-
-pub is_answer : (attempt : Attempt) → ((zone holder : ℕ) → attempt ≡ Busy zone holder → ⊥) → FoundNoZoneHeld attempt
-is_answer (Told answer steps ticket) other = tt
-is_answer (Busy zone holder) other = other zone holder refl

@@ -61,11 +61,14 @@ abbrev pub found_held : Pass
 found_held = record (boarded (four_zones 9) 2) { tries = record { zone = 1; found = 1; glanced = 0 } ∷ [] }
 
 busy : Replies (boarded (four_zones 9) 2) (one.Busy 1 0) found_held
-busy = (lit< tt, record { earlier = []; glanced = 0; tries = refl; another = (λ e. cc); listed = lit< tt; needed = refl; rest = refl; free = (refl, refl) })
+busy = (lit< tt, record { earlier = []; glanced = 0; tries = refl; another = (λ e. cc); pass = lit< tt; listed = lit< tt; needed = refl; rest = refl; free = (refl, refl) })
 
--- a pass isn't held up by itself, nor at a zone that it doesn't need
+-- a pass isn't held up by itself, nor by what is no pass, nor at a zone that it doesn't need
 not_itself : (new : Pass) → Replies (boarded (four_zones 9) 2) (one.Busy 1 2) new → ⊥
 not_itself new r = r.1.another refl
+
+not_by_nobody : (new : Pass) → Replies (boarded (four_zones 9) 2) (one.Busy 1 33) new → ⊥
+not_by_nobody new r = let low = r.1.pass in omega (arith, low)
 
 not_there : (new : Pass) → Replies (boarded (four_zones 9) 2) (one.Busy 2 0) new → ⊥
 not_there new r = go r.1.glanced r.1.listed r.1.needed

@@ -18,7 +18,7 @@ use Rattle.zone_yard.specs.declared.replies.Turn.{Turn}
 use Rattle.zone_yard.specs.declared.replies.Turn.TheVariants as turn
 use Rattle.zone_locks.specs.Zones.{has}
 use Rattle.move_claim.specs.Claims.{claim_of, zones_of}
-use Rattle.zone_yard.specs.Setup.{state_after}
+use Rattle.zone_yard.specs.Setup.{state_after, most_passes}
 use Rattle.zone_yard.specs.Passes.{Pass, Try, IsFree}
 use Rattle.zone_yard.specs.Entering.{Enters, HasRoom, IsSpent, ChangesNothing}
 
@@ -38,13 +38,14 @@ needed_zones pass t want =
     let T = (offer S.tables t).table in
     zones_of S.layout T (claim_of T pass.number pass.position (asked_steps T pass want))
 
--- The last try of the call found the zone held by another pass. The request needs the zone under the table that was glanced before.
+-- The last try of the call found the zone held by another pass, which is one of those that a yard can have. The request needs the zone under the table that was glanced before.
 -- Nothing else was changed.
 pub record IsBusy (want zone holder : ℕ) (old new : Pass) : Type 0 where
   pub earlier : List Try
   pub glanced : ℕ
   pub tries : new.tries ≡ old.tries ++ earlier ++ record { zone = zone; found = suc holder; glanced = glanced } ∷ []
   pub another : holder ≢ old.number
+  pub pass : holder < most_passes
   pub listed : glanced < length old.yard.setup.tables
   pub needed : has zone (needed_zones old glanced want) ≡ true
   pub rest : new ≡ record old { tries = new.tries }

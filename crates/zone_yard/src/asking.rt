@@ -18,14 +18,13 @@ use crate::requests::{Attempt, Wanted, ask_once};
 use crate::steps::{glance, word_of};
 use crate::views::Place;
 use crate::yard::{Driver, Yard};
+use crate::zones::HowToTake;
 use ats_io::{Gate, Moment};
 use move_claim::{Cell, Footprint, Known, Owed};
 use rail_model::BlockAsk;
-use std::sync::Wait;
-use std::thread;
 
 // Asks for a block of steps, and asks again where another table came into force meanwhile: each round sees a later one.
-pub(crate) fn ask_on<G: Gate>(
+pub(crate) fn ask_on<T: HowToTake, G: Gate>(
     yard: &Yard<'_>,
     seat: &mut Place,
     receipts: &mut Receipts,
@@ -34,6 +33,7 @@ pub(crate) fn ask_on<G: Gate>(
     steps: u32,
     known: &mut Known,
     owed: &mut Owed,
+    how: &T,
     gate: &G,
 ) -> Attempt
     requires ours { IsOurs yard.now seat.old.table_id seat.old.me.0 }
@@ -46,6 +46,7 @@ pub(crate) fn ask_on<G: Gate>(
     ensures same { (seat.new.table_id ≡ seat.old.table_id) × (seat.new.id ≡ seat.old.id) }
     ensures lines { AreLines seat.new.me.0 receipts.new }
     ensures asks { Asks seat.old.table_id steps seat.old.me result seat.new.me }
+    ensures waits { T.waits ≡ true → FoundNoZoneHeld result }
     ensures formed { IsSetup (core yard.now.setup) }
 {
     let word = word_of(yard, Cell::Table);
@@ -53,7 +54,6 @@ pub(crate) fn ask_on<G: Gate>(
     'rounds: loop {
         let table = glance(yard, seat, word) as u32;
         gate.at(train, Moment::Glanced);
-        known.clear();
         footprint.fill_block(
             yard.key.layout,
             yard.key.table(table),
@@ -68,7 +68,7 @@ pub(crate) fn ask_on<G: Gate>(
             steps,
         };
         if let Some(attempt) = ask_once(
-            yard, seat, receipts, wanted, &footprint, known, owed, gate,
+            yard, seat, receipts, wanted, &footprint, known, owed, how, gate,
         ) {
             return attempt;
         }
@@ -95,16 +95,18 @@ pub(crate) fn entries_left(yard: &Yard<'_>, driver: &Driver) -> u32
 }
 
 // A driver asks for a block of steps, and goes on by those that are granted.
-pub(crate) fn ask_steps<G: Gate>(
+pub(crate) fn ask_steps<T: HowToTake, G: Gate>(
     yard: &Yard<'_>,
     driver: &mut Driver,
     steps: u32,
+    how: &T,
     gate: &G,
 ) -> Attempt
     requires ours { driver.old.yard ≡ yard.now }
     requires steps { (1 ≤ steps) × (steps ≤ 4) }
     requires room { length driver.old.mine + steps ≤ yard.now.setup.calls }
     ensures asked { Attempted steps driver.old result driver.new }
+    ensures waits { T.waits ≡ true → FoundNoZoneHeld result }
     ensures same { IsSamePass driver.old driver.new }
 {
     let attempt = ask_on(
@@ -116,6 +118,7 @@ pub(crate) fn ask_steps<G: Gate>(
         steps,
         &mut driver.known,
         &mut driver.owed,
+        how,
         gate,
     );
     if let Attempt::Told { answer, steps, .. } = attempt {
@@ -123,28 +126,4 @@ pub(crate) fn ask_steps<G: Gate>(
         driver.entries += entries_of(answer, steps);
     }
     attempt
-}
-
-// A driver asks for a block of steps until no zone that it needs is held.
-pub(crate) fn ask_until<R: Wait, G: Gate>(
-    rt: &R,
-    yard: &Yard<'_>,
-    driver: &mut Driver,
-    steps: u32,
-    gate: &G,
-) -> Attempt
-    requires ours { driver.old.yard ≡ yard.now }
-    requires steps { (1 ≤ steps) × (steps ≤ 4) }
-    requires room { length driver.old.mine + steps ≤ yard.now.setup.calls }
-    ensures asked { Attempted steps driver.old result driver.new }
-    ensures answered { FoundNoZoneHeld result }
-    ensures same { IsSamePass driver.old driver.new }
-{
-    for _ in rt.forever() {
-        match ask_steps(yard, driver, steps, gate) {
-            Attempt::Busy { .. } => thread::yield_now(),
-            answered => return answered,
-        }
-    }
-    unreachable!()
 }

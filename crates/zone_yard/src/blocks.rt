@@ -3,10 +3,11 @@ ghost use Rattle.std.specs.Prelude.{◌≡◌};
 ghost use Rattle.zone_yard.specs.Asked.{block_reply_of as answered_by};
 ghost use Rattle.zone_yard.specs.Replies.{block_reply_to};
 
-use crate::asking::{ask_steps, ask_until, entries_left};
+use crate::asking::{ask_steps, entries_left};
 use crate::replies::BlockReply;
 use crate::requests::Attempt;
 use crate::yard::{Driver, Yard};
+use crate::zones::{TryOnce, WaitForEach};
 use ats_io::Gate;
 use rail_model::{Ask, BlockAsk};
 use std::sync::Wait;
@@ -63,7 +64,7 @@ impl<'a> Yard<'a> {
         if left == 0 {
             return BlockReply::Spent;
         }
-        block_reply_of(ask_steps(self, driver, want.min(left), gate))
+        block_reply_of(ask_steps(self, driver, want.min(left), &TryOnce, gate))
     }
 
     /// Asks for up to four steps at once. It may wait for zones.
@@ -84,6 +85,6 @@ impl<'a> Yard<'a> {
         if left == 0 {
             return BlockReply::Spent;
         }
-        block_reply_of(ask_until(rt, self, driver, want.min(left), gate))
+        block_reply_of(ask_steps(self, driver, want.min(left), &WaitForEach { rt }, gate))
     }
 }

@@ -1,5 +1,5 @@
 // The control tries the next table, under all zones.
-ghost use Rattle.std.specs.Prelude.{◌≡◌, ◌≢◌, ◌+◌, ◌<◌, ◌≤◌, [], ◌∷◌, ◌++◌, length, map, true, false, None, ℕ};
+ghost use Rattle.std.specs.Prelude.{◌≡◌, ◌≢◌, ◌+◌, ◌<◌, ◌≤◌, [], ◌∷◌, length, map, true, false, None, ℕ};
 ghost use Rattle.rail_model.specs.Checks.{below};
 ghost use Rattle.rail_model.specs.Yard.{control as control_number};
 ghost use Rattle.rail_model.specs.declared.types.Reply.TheVariants.{Control as ControlEntry};
@@ -7,9 +7,8 @@ ghost use Rattle.move_claim.specs.declared.cells.Cell.TheVariants.{Position, Tab
 ghost use Rattle.move_claim.specs.Cells.{number_of, first_unknown, AreDistinct};
 ghost use Rattle.zone_machine.specs.ControlAsked.{IsTold};
 ghost use Rattle.zone_machine.specs.Entries.{known_positions, tried as tried_by, control_after};
-ghost use Rattle.zone_machine.specs.Steps.{is_above};
 ghost use Rattle.zone_machine.specs.World.{trains_of as trains_in, holds_all};
-ghost use Rattle.zone_yard.specs.Holding.{span, AreCells, HoldsZones, Knows, Learns};
+ghost use Rattle.zone_yard.specs.Holding.{span, AreCells, Knows, Learns};
 ghost use Rattle.zone_yard.specs.Lines.{AreLines};
 ghost use Rattle.zone_yard.specs.Passes.{told};
 ghost use Rattle.zone_yard.specs.Replies.{turn_to};
@@ -20,51 +19,17 @@ ghost use Rattle.zone_yard.specs.Views.{knower, new_entries};
 use crate::cells::pay_all;
 use crate::receipts::{Receipts, enter_tried};
 use crate::replies::Turn;
-use crate::steps::{read, read_table, take, word_of};
+use crate::steps::{read, read_table, word_of};
 use crate::views::Place;
 use crate::yard::{Control, TurnRoom, Yard};
-use crate::zones::{release_all, zones};
+use crate::zones::{release_all, wait_for_all, zones};
 use ats_io::{Gate, Moment};
 use move_claim::{Cell, Known};
 use rail_model::{HasTable, State, Tried, trains_of};
 use std::marker::Brand;
 use std::sync::Wait;
-use std::thread::yield_now;
 use zone_locks::ZoneSet;
 use zone_machine::{CONTROL, last_answered, moves_to, note_positions, owe_told, tell};
-
-// Takes a zone, and waits while another pass holds it.
-fn wait_for<R: Wait>(rt: &R, yard: &Yard<'_>, seat: &mut Place, pass: u32, zone: u32)
-    requires ours { IsOurs yard.now seat.old.table_id seat.old.me.0 }
-    requires pass { (seat.old.me.0.aboard ≡ true) × (seat.old.me.0.number ≡ pass) }
-    requires zone { (zone < yard.now.setup.layout.zones) × (is_above zone seat.old.me.0.actor.held ≡ true) }
-    requires still { seat.old.me.0.actor.closing ≡ false }
-    ensures same { (seat.new.table_id ≡ seat.old.table_id) × (seat.new.id ≡ seat.old.id) }
-    ensures holds { HoldsZones seat.old.me seat.new.me (seat.old.me.0.actor.held ++ zone ∷ []) }
-{
-    for _ in rt.forever() {
-        if take(yard, seat, pass, zone) == 0 {
-            return;
-        }
-        yield_now();
-    }
-    unreachable!()
-}
-
-// Takes all these zones in rising order, and waits for each that is held.
-fn wait_for_all<R: Wait>(rt: &R, yard: &Yard<'_>, seat: &mut Place, pass: u32, needed: &ZoneSet)
-    requires ours { IsOurs yard.now seat.old.table_id seat.old.me.0 }
-    requires pass { (seat.old.me.0.aboard ≡ true) × (seat.old.me.0.number ≡ pass) }
-    requires free { (seat.old.me.0.actor.held ≡ []) × (seat.old.me.0.actor.closing ≡ false) }
-    ensures same { (seat.new.table_id ≡ seat.old.table_id) × (seat.new.id ≡ seat.old.id) }
-    ensures holds { HoldsZones seat.old.me seat.new.me (span needed.now 0 yard.now.setup.layout.zones) }
-{
-    for zone in 0..zones(yard) {
-        if needed.has(zone) {
-            wait_for(rt, yard, seat, pass, zone);
-        }
-    }
-}
 
 // The number of the yard's trains.
 fn trains(yard: &Yard<'_>) -> u32
@@ -227,7 +192,9 @@ impl<'a> Yard<'a> {
         );
         gate.at(CONTROL, Moment::Appended);
         pay_all(self, &mut control.seat, &control.room.owed);
-        gate.at(CONTROL, Moment::Paid);
+        if let Tried::Exchanged = told {
+            gate.at(CONTROL, Moment::Paid);
+        }
         release_all(self, &mut control.seat, &all, zones(self));
         gate.at(CONTROL, Moment::Released);
         control.tried = last_answered(control.tried, told);

@@ -4,10 +4,11 @@ ghost use Rattle.move_claim.specs.Deciding.{one_ask};
 ghost use Rattle.zone_yard.specs.Asked.{reply_of as answered_by};
 ghost use Rattle.zone_yard.specs.Replies.{reply_to};
 
-use crate::asking::{ask_steps, ask_until, entries_left};
+use crate::asking::{ask_steps, entries_left};
 use crate::replies::Reply;
 use crate::requests::Attempt;
 use crate::yard::{Driver, Yard};
+use crate::zones::{TryOnce, WaitForEach};
 use ats_io::Gate;
 use rail_model::{Ask, BlockAsk};
 use std::sync::Wait;
@@ -64,7 +65,7 @@ impl<'a> Yard<'a> {
         if left == 0 {
             return Reply::Spent;
         }
-        reply_of(ask_steps(self, driver, 1, gate))
+        reply_of(ask_steps(self, driver, 1, &TryOnce, gate))
     }
 
     /// Asks for one step. It may wait for zones.
@@ -78,6 +79,6 @@ impl<'a> Yard<'a> {
         if left == 0 {
             return Reply::Spent;
         }
-        reply_of(ask_until(rt, self, driver, 1, gate))
+        reply_of(ask_steps(self, driver, 1, &WaitForEach { rt }, gate))
     }
 }

@@ -1,5 +1,5 @@
 // A request for a block of steps, under the zones that it needs.
-ghost use Rattle.std.specs.Prelude.{◌≡◌, ◌≢◌, suc, ◌+◌, ◌<◌, ◌≤◌, [], length, None, Some, true, false};
+ghost use Rattle.std.specs.Prelude.{◌≡◌, ◌≢◌, suc, ◌+◌, ◌<◌, ◌≤◌, [], length, IfSome, None, Some, true, false};
 ghost use Rattle.move_claim.specs.declared.cells.Cell.TheVariants.{Table as TableCell};
 ghost use Rattle.move_claim.specs.Cells.{number_of, number_in, first_unknown, AreDistinct};
 ghost use Rattle.move_claim.specs.Claims.{cells_of};
@@ -11,6 +11,7 @@ ghost use Rattle.zone_yard.specs.Lines.{AreLines};
 ghost use Rattle.zone_yard.specs.Views.{new_entries};
 ghost use Rattle.zone_yard.specs.Holding.{span, Learns, StillOwes, AreCells, owing};
 ghost use Rattle.zone_yard.specs.Aboard.{IsIdle};
+ghost use Rattle.zone_yard.specs.Asked.{FoundNoZoneHeld};
 ghost use Rattle.zone_yard.specs.Attempts.{Attempts};
 ghost use Rattle.zone_yard.specs.Setup.{core, most_passes};
 ghost use Rattle.zone_yard.specs.Tells.{Appends, IsOurs};
@@ -20,7 +21,7 @@ use crate::receipts::{Receipts, enter_answer};
 use crate::steps::{read_table, word_of};
 use crate::views::Place;
 use crate::yard::Yard;
-use crate::zones::{release_all, take_all, zones};
+use crate::zones::{HowToTake, release_all, zones};
 use ats_io::{Gate, Moment};
 use move_claim::{Cell, Claim, Footprint, Known, Owed};
 use rail_model::BlockAsk;
@@ -67,7 +68,7 @@ pub(crate) fn know_all(
     requires steps { wanted.steps ≤ 4 }
     requires footprint { footprint.now ≡ needs yard.now.setup wanted seat.old.me.0.actor.position }
     requires held { seat.old.me.0.actor.held ≡ span footprint.now.zones 0 yard.now.setup.layout.zones }
-    requires known { (known.old ≡ []) × (seat.old.me.0.actor.known ≡ []) }
+    requires nothing { seat.old.me.0.actor.known ≡ [] }
     ensures same { (seat.new.table_id ≡ seat.old.table_id) × (seat.new.id ≡ seat.old.id) }
     ensures learns { Learns seat.old.me seat.new.me }
     ensures known { result ≡ true → (known.new ≡ seat.new.me.0.actor.known) × AreSmall footprint.now.table footprint.now.claim known.new }
@@ -80,6 +81,7 @@ pub(crate) fn know_all(
     if read_table(yard, seat, word) != wanted.table as u64 {
         return false;
     }
+    known.clear();
     known.put(Cell::Table, wanted.table);
     read_all(yard, seat, &footprint.cells()[1..], known);
     true
@@ -170,9 +172,9 @@ fn holder_of(word: u64) -> u32
     word as u32 - 1
 }
 
-// One try at the steps under the table that was glanced: takes the zones, reads, enters the answer, pays, and gives all zones back.
+// The steps are asked for under the table that was glanced: takes the zones, reads, enters the answer, pays, and gives all zones back.
 // `None` where another table is in force.
-pub(crate) fn ask_once<G: Gate>(
+pub(crate) fn ask_once<T: HowToTake, G: Gate>(
     yard: &Yard<'_>,
     seat: &mut Place,
     receipts: &mut Receipts,
@@ -180,6 +182,7 @@ pub(crate) fn ask_once<G: Gate>(
     footprint: &Footprint<'_>,
     known: &mut Known,
     owed: &mut Owed,
+    how: &T,
     gate: &G,
 ) -> Option<Attempt>
     requires ours { IsOurs yard.now seat.old.table_id seat.old.me.0 }
@@ -190,15 +193,15 @@ pub(crate) fn ask_once<G: Gate>(
     requires place { wanted.place ≡ seat.old.me.0.actor.position }
     requires steps { (1 ≤ wanted.steps) × (wanted.steps ≤ 4) }
     requires footprint { footprint.now ≡ needs yard.now.setup wanted seat.old.me.0.actor.position }
-    requires known { known.old ≡ [] }
     requires room { length seat.old.me.0.mine + wanted.steps ≤ yard.now.setup.calls }
     requires lines { AreLines seat.old.me.0 receipts.old }
     ensures same { (seat.new.table_id ≡ seat.old.table_id) × (seat.new.id ≡ seat.old.id) }
     ensures lines { AreLines seat.new.me.0 receipts.new }
     ensures attempts { Attempts seat.old.table_id wanted yard.now.setup.layout.zones footprint.now.zones seat.old.me result seat.new.me }
+    ensures waits { T.waits ≡ true → IfSome result FoundNoZoneHeld }
 {
     let needed = footprint.zones();
-    if let Some((zone, found)) = take_all(yard, seat, wanted.train, needed) {
+    if let Some((zone, found)) = how.take_zones(yard, seat, wanted.train, needed) {
         release_all(yard, seat, needed, zone);
         if needed.first_from(0) != Some(zone) {
             gate.at(wanted.train, Moment::Released);

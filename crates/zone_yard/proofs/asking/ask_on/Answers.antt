@@ -39,6 +39,7 @@ returns-in-Some g c =
           c.requires.ours.1 c.requires.train.1 next listed
           (since_glance c.glance-table.result old c.rounds.seat.me seen before.since glance.sees.0 glance.glanced) (ap (λ (m : Sat). m.0.actor.glance) glance.glanced) c.requires.idle c.in-Some.attempt
           (subst (λ (id : TableId). Attempts id wanted c.args.yard.now.setup.layout.zones c.fill_block.new.self.zones seen (Some c.in-Some.attempt) c.ask_once.new.seat.me) same c.in-Some.ensures.attempts);
+      waits = c.in-Some.ensures.waits;
       formed = c.word_of-word.ensures.formed;
     }
 

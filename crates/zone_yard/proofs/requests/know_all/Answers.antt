@@ -33,14 +33,14 @@ read_all-requires-clause-known c =
     let found : c.read_table.result ≡ c.args.wanted.table = omega (arith, c.if-read_table-wanted.false) in
     let few = c.word_of-word.ensures.formed.tables.few in
     let lt : c.args.wanted.table < 2 ^ 31 = omega (arith, c.requires.listed, few) in (
-      c.put.ensures ∙ (λ i. put TableCell (sym found i) ((c.requires.known.0 ∙ sym c.requires.known.1) i)) ∙ sym (ap (λ (m : Sat). m.0.actor.known) c.read_table.ensures.reads),
-      subst AreAllSmall (sym (c.put.ensures ∙ ap (put TableCell c.args.wanted.table) c.requires.known.0)) (put-small TableCell c.args.wanted.table [] (λ d n e. absurd (cc e)) lt),
+      c.put.ensures ∙ (λ i. put TableCell (sym found i) ((c.clear.ensures ∙ sym c.requires.nothing) i)) ∙ sym (ap (λ (m : Sat). m.0.actor.known) c.read_table.ensures.reads),
+      subst AreAllSmall (sym (c.put.ensures ∙ ap (put TableCell c.args.wanted.table) c.clear.ensures)) (put-small TableCell c.args.wanted.table [] (λ d n e. absurd (cc e)) lt),
     )
 
 pub read_all-requires-clause-room : goal.read_all-requires-clause-room
 read_all-requires-clause-room c =
     let tail = tail_of TableCell (later_cells c.args.footprint.now.table c.args.footprint.now.claim) c.cells.result.now c.cells.ensures in
-    let one = ap length (c.put.ensures ∙ ap (put TableCell c.args.wanted.table) c.requires.known.0) in
+    let one = ap length (c.put.ensures ∙ ap (put TableCell c.args.wanted.table) c.clear.ensures) in
     let formed = c.word_of-word.ensures.formed.formed c.args.wanted.table c.requires.listed in
     let few : length (later_cells c.args.footprint.now.table c.args.footprint.now.claim) ≤ 100 =
     subst (λ (g : Footprint). length (later_cells g.table g.claim) ≤ 100) (sym c.requires.footprint) (few_cells _ _ formed (omega (arith, c.requires.steps))) in
@@ -51,13 +51,13 @@ pub returns-clause-table : goal.returns-clause-table
 returns-clause-table c = λ _.
     let tail = tail_of TableCell (later_cells c.args.footprint.now.table c.args.footprint.now.claim) c.cells.result.now c.cells.ensures in
     c.read_all.ensures.others TableCell (λ k d e. no_table c.args.footprint.now.table c.args.footprint.now.claim d (Among-get _ k d (ap (λ l. slice_get l k) (sym tail) ∙ e)))
-    ∙ (ap (number_of TableCell) c.put.ensures ∙ number_of-put_same TableCell c.args.wanted.table c.args.known.now)
+    ∙ (ap (number_of TableCell) c.put.ensures ∙ number_of-put_same TableCell c.args.wanted.table c.clear.new.self)
 
 pub returns-clause-cells : goal.returns-clause-cells
 returns-clause-cells c = λ _.
     let tail = tail_of TableCell (later_cells c.args.footprint.now.table c.args.footprint.now.claim) c.cells.result.now c.cells.ensures in
     let table = c.read_all.ensures.others TableCell (λ k d e. no_table c.args.footprint.now.table c.args.footprint.now.claim d (Among-get _ k d (ap (λ l. slice_get l k) (sym tail) ∙ e)))
-    ∙ (ap (number_of TableCell) c.put.ensures ∙ number_of-put_same TableCell c.args.wanted.table c.args.known.now) in
+    ∙ (ap (number_of TableCell) c.put.ensures ∙ number_of-put_same TableCell c.args.wanted.table c.clear.new.self) in
     tail_known (later_cells c.args.footprint.now.table c.args.footprint.now.claim) c.read_all.new.known c.args.wanted.table table
     (ap (λ l. first_unknown l c.read_all.new.known) (sym tail) ∙ c.read_all.ensures.all)
 

@@ -11,6 +11,6 @@ returns-then-left-eq0-clause-reply g c =
 
 pub returns-clause-reply : goal.returns-clause-reply
 returns-clause-reply g c =
-    subst (λ (r : Reply). Replies c.args.driver.now r c.ask_until.new.driver) (sym c.reply_of.ensures)
-    (asked_reply c.ask_until.result c.args.driver.now c.ask_until.new.driver
-    (omega (arith, c.entries_left-left.ensures.left, c.if-left-eq0.false, ap (λ (y : SharedYard). y.setup.calls) c.requires)) c.ask_until.ensures.asked)
+    subst (λ (r : Reply). Replies c.args.driver.now r c.ask_steps.new.driver) (sym c.reply_of.ensures)
+    (asked_reply c.ask_steps.result c.args.driver.now c.ask_steps.new.driver
+    (omega (arith, c.entries_left-left.ensures.left, c.if-left-eq0.false, ap (λ (y : SharedYard). y.setup.calls) c.requires)) c.ask_steps.ensures.asked)

@@ -13,5 +13,5 @@ pub returns-clause-reply : goal.returns-clause-reply
 returns-clause-reply g c =
     let sum = c.entries_left-left.ensures.left in
     let calls = ap (λ (y : SharedYard). y.setup.calls) c.requires.ours in
-    subst (λ (r : BlockReply). BlockReplies c.args.want c.args.driver.now r c.ask_until.new.driver) (sym c.block_reply_of.ensures)
-    (asked_block c.args.want c.min.result c.ask_until.result c.args.driver.now c.ask_until.new.driver (omega (arith, sum, c.if-left-eq0.false, calls)) (omega (arith, sum, calls, c.min.ensures)) c.ask_until.ensures.asked)
+    subst (λ (r : BlockReply). BlockReplies c.args.want c.args.driver.now r c.ask_steps.new.driver) (sym c.block_reply_of.ensures)
+    (asked_block c.args.want c.min.result c.ask_steps.result c.args.driver.now c.ask_steps.new.driver (omega (arith, sum, c.if-left-eq0.false, calls)) (omega (arith, sum, calls, c.min.ensures)) c.ask_steps.ensures.asked)

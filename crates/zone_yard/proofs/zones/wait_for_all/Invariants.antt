@@ -1,6 +1,6 @@
 use Rattle.std.proofs.Common.{◌≡◌}
 use Rattle.zone_yard.specs.Holding.{span, HoldsZones}
-use Rattle.zone_yard.proofs.exchanging.wait_for_all.Given as goal
+use Rattle.zone_yard.proofs.zones.wait_for_all.Given as goal
 
 abbrev pub invariant-loop-zone : goal.invariant-loop-zone
 invariant-loop-zone g l = record {

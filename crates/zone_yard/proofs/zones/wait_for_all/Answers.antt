@@ -3,8 +3,8 @@ use Rattle.zone_machine.specs.Steps.{is_above}
 use Rattle.zone_yard.specs.Tells.{Sat}
 use Rattle.zone_yard.proofs.Spans.{above_span}
 use Rattle.zone_yard.proofs.Holdings.{waits_more, takes_none}
-use Rattle.zone_yard.proofs.exchanging.wait_for_all.Goals as goal
-use Rattle.zone_yard.proofs.exchanging.wait_for_all.Goals.{then-has, else-has}
+use Rattle.zone_yard.proofs.zones.wait_for_all.Goals as goal
+use Rattle.zone_yard.proofs.zones.wait_for_all.Goals.{then-has, else-has}
 
 pub wait_for-requires-clause-zone : goal.wait_for-requires-clause-zone
 wait_for-requires-clause-zone g c = (

@@ -1,6 +1,6 @@
 use Rattle.std.proofs.Common.{◌≡◌}
 use Rattle.zone_yard.specs.Holding.{HoldsZones}
-use Rattle.zone_yard.proofs.exchanging.wait_for.Given as goal
+use Rattle.zone_yard.proofs.zones.wait_for.Given as goal
 
 abbrev pub invariant-loop : goal.invariant-loop
 invariant-loop g l = record {
