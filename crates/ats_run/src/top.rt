@@ -13,7 +13,7 @@ ghost use Rattle.ats_run.specs.Complete.{IsDoneOrMemory};
 ghost use Rattle.ats_run.specs.Orders.{Reads, OnInput, IsAlone};
 ghost use Rattle.ats_run.specs.Report.{line_of as line_of_failure, IsLineMade};
 
-use crate::answer::{answer, answer_alone};
+use crate::answer::{answer_alone, answer_by, crew_of};
 use crate::lines::{NO_MEMORY, fixed_line, line_of};
 use crate::{Failure, Status};
 use ats_io::{Gate, ReadAll, Sink, Source, WriteFault, read_all, write_all};
@@ -120,7 +120,7 @@ pub fn serve_alone<S: Source, K: Sink>(
     write_text(&text, out)
 }
 
-// Does what any order asks for, as `serve_alone` does it. It may wait where workers run the order's trains.
+// Does what any order asks for, by `serve_alone` unless workers run the order's trains: only then may it wait.
 fn serve_any<S: Source, K: Sink, R: Threads + Wait + Sync, G: Gate>(
     rt: &R,
     alloc: Global,
@@ -145,8 +145,11 @@ fn serve_any<S: Source, K: Sink, R: Threads + Wait + Sync, G: Gate>(
     ensures same_plans { (S.planned source.new ≡ S.planned source.old)
         × (K.planned out.new ≡ K.planned out.old) }
 {
+    if crew_of(order).workers == 0 {
+        return serve_alone(rt, alloc, order, source, out);
+    }
     let input = input_of(alloc, order, source)?;
-    let text = answer(rt, alloc, order, &input, gate)?;
+    let text = answer_by(rt, alloc, order, &input, gate)?;
     write_text(&text, out)
 }
 

@@ -2,7 +2,11 @@
 #![tactic(auto)]
 
 #[cfg(test)]
+mod alone;
+#[cfg(test)]
 mod devices;
+#[cfg(test)]
+mod errors;
 #[cfg(test)]
 mod examples;
 #[cfg(test)]
