@@ -4,24 +4,7 @@ use Rattle.std.proofs.lemmas.Bool.{cases_lt}
 use Rattle.std.specs.Fmt.{digits}
 use Rattle.std.specs.List.{range_with_len}
 use Rattle.toml.specs.Data.{Data, no_items, item, no_members, member, string, array, table}
-use Rattle.plan_reading.specs.Zoned.{are_zoned, first_zone, list_of, lists, zone_named, zone_of}
-
--- a zone is named by its number, with no sign and no zero before it
-pub fifteen : zone_named (codes "15") ≡ Some 15
-unfolding first_zone digits
-fifteen = refl
-
-pub sixteen : zone_named (codes "16") ≡ None
-unfolding first_zone digits
-sixteen = refl
-
-pub leading_zero : zone_named (codes "01") ≡ None
-unfolding first_zone digits
-leading_zero = refl
-
-pub sign : zone_named (codes "+1") ≡ None
-unfolding first_zone digits
-sign = refl
+use Rattle.plan_reading.specs.Zoned.{are_zoned, first_zone, list_of, lists, zone_of}
 
 -- A in zone 0, C and D in zone 1
 abbrev zones : Data

@@ -1,5 +1,5 @@
 -- Which zones a text puts points into.
-use Rattle.std.specs.Prelude.{ℕ, ◌-◌, List, find, bytes_eq, ◌==◌, Bool, false, String, unwrap_or, Option, Some, None, option_and_then, decimal}
+use Rattle.std.specs.Prelude.{ℕ, ◌-◌, List, find, ◌==◌, Bool, false, String, unwrap_or, Option, Some, None, option_and_then, decimal}
 use Rattle.std.specs.List.{list_all, range_with_len}
 use Rattle.std.specs.declared.alloc.Global.{Global}
 use Rattle.toml.specs.Data.{Data, Items, get, as_array}
@@ -17,10 +17,6 @@ list_of zones zone = option_and_then as_array (option_and_then (get (decimal zon
 -- the first zone that passes a test, of those from this number up to 15
 unfoldable pub first_zone : ℕ → (ℕ → Bool) → Option ℕ
 first_zone from test = find test (range_with_len from (16 - from))
-
--- the zone whose number is this text
-abbrev pub zone_named : List ℕ → Option ℕ
-zone_named text = first_zone 0 (λ zone. bytes_eq text (decimal zone))
 
 -- the zone of a point: the first from 1 to 15 whose list has it, or 0, if none has
 abbrev pub zone_of : Option Data → String Global → ℕ

@@ -244,7 +244,12 @@ fn starts_right(entries: &[Value], plan: &Plan, first: &TablePlan, train: usize)
 fn all_start_right(entries: &[Value], plan: &Plan, first: &TablePlan) -> bool
     ensures { IsTrue result ↔ EachTrain plan.now (spec.starts_right (items_view entries.now) plan.now first.now) }
 {
-    (0..plan.trains.len()).all(|train| starts_right(entries, plan, first, train))
+    for train in 0..plan.trains.len() {
+        if !starts_right(entries, plan, first, train) {
+            return false;
+        }
+    }
+    true
 }
 
 // Whether the trains of a plan start, under its first table, where their entries say.

@@ -2,20 +2,11 @@
 #![tactic(auto)]
 
 mod agreement;
-mod connections;
-mod ground;
 mod held;
 mod matching;
-mod names;
 mod placed;
-mod ranges;
 mod reading;
-mod routes;
-mod sections;
-mod tables;
 mod timed;
-mod times;
-mod trains;
 mod zoned;
 
 pub use plan_entries::Fault;

@@ -4,9 +4,9 @@ ghost use Rattle.toml.specs.View.{table_view};
 ghost use Rattle.plan_reading.specs.Said.{IsPlanRead, IsReading};
 
 use crate::agreement::agrees;
-use crate::tables::plan_of;
 use plan_document::Plan;
 use plan_entries::{Entry, Fault, Faults, Kind, check_types};
+use plan_making::plan_of;
 use std::alloc::{AllocError, Global};
 use toml::Table;
 use toml::de::Error;
@@ -30,6 +30,22 @@ fn line_after(bytes: &[u8]) -> u32 {
     line
 }
 
+// Two texts as one.
+fn joined(alloc: Global, what: &str, why: &str) -> Result<String, AllocError> {
+    let mut words = String::from_str(alloc, what)?;
+    words.push_str(why)?;
+    Ok(words)
+}
+
+// A list of one fault.
+fn alone(alloc: Global, fault: Fault) -> Result<Vec<Fault>, AllocError>
+    ensures { IfOk result (λ list. 0 < vec_len list) }
+{
+    let mut list = Vec::new(alloc);
+    list.push(fault)?;
+    Ok(list)
+}
+
 // One fault, after the first bytes of a text.
 fn one_fault(
     alloc: Global,
@@ -40,12 +56,9 @@ fn one_fault(
 ) -> Result<PlanRead, AllocError>
     ensures { IfOk result (λ read. IsPlanRead text.now read) }
 {
-    let mut words = String::from_str(alloc, what)?;
-    words.push_str(why)?;
+    let words = joined(alloc, what, why)?;
     let line = line_after(text.get(..at).unwrap_or(&[]));
-    let mut faults = Vec::new(alloc);
-    faults.push(Fault { line, words })?;
-    Ok(PlanRead::Faults(faults))
+    Ok(PlanRead::Faults(alone(alloc, Fault { line, words })?))
 }
 
 // What a text that isn't TOML is as a plan.

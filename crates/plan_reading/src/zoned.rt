@@ -19,19 +19,6 @@ fn number_of(zone: u32) -> &'static str
     NUMBERS[zone as usize]
 }
 
-/// The zone whose number is this text.
-#[tactic(auto, using(crate::proofs::Numbered::first_turn, crate::proofs::Numbered::first_end))]
-pub(crate) fn zone_named(text: &str) -> Option<u32>
-    ensures { result ≡ spec.zone_named text.now }
-{
-    for zone in 0..16u32 {
-        if text == number_of(zone) {
-            return Some(zone);
-        }
-    }
-    None
-}
-
 // The list of a zone.
 fn list_of(zones: Option<&Value>, zone: u32) -> Option<&[Value]>
     requires { zone < 16 }

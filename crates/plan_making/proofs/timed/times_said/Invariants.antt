@@ -1,7 +1,7 @@
 use Rattle.std.proofs.Common.{◌≡◌, map, option_map}
 use Rattle.toml.specs.View.{view}
-use Rattle.plan_reading.specs.Timed.{step_time}
-use Rattle.plan_reading.proofs.timed.times_said.Given as goal
+use Rattle.plan_making.specs.Timed.{step_time}
+use Rattle.plan_making.proofs.timed.times_said.Given as goal
 
 abbrev pub invariant-loop-from : goal.invariant-loop-from
 invariant-loop-from l = l.times.items ≡ map (λ s. step_time (option_map (λ v. view v.now) l.said) s.0.now s.1.now) l.yielded

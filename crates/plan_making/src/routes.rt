@@ -65,8 +65,8 @@ pub(crate) fn point_of(name: &str) -> &str {
     }
 }
 
-// A count in decimal, from 1 on, with no sign and no leading zero.
-fn count_of(text: &str) -> Option<usize> {
+/// A count in decimal, from 1 on, with no sign and no leading zero.
+pub(crate) fn count_of(text: &str) -> Option<usize> {
     match text.as_bytes() {
         [b'1'..=b'9', ..] => text.parse::<usize>().ok(),
         _ => None,

@@ -4,10 +4,10 @@ use Rattle.std.proofs.lemmas.Iterator.Adapters.{YieldsList-from_skip}
 use Rattle.std.proofs.lemmas.Iterator.Consumers.{YieldsList-end}
 use Rattle.std.proofs.lemmas.Grind.{common_steps}
 use Rattle.toml.specs.View.{view}
-use Rattle.plan_reading.specs.Timed.{step_time, steps}
-use Rattle.plan_reading.proofs.Steps.{all_steps}
-use Rattle.plan_reading.proofs.timed.times_said.Goals as goal
-use Rattle.plan_reading.proofs.timed.times_said.Goals.{then-exits+in_ok-push-2, else-exits}
+use Rattle.plan_making.specs.Timed.{step_time, steps}
+use Rattle.plan_making.proofs.Steps.{all_steps}
+use Rattle.plan_making.proofs.timed.times_said.Goals as goal
+use Rattle.plan_making.proofs.timed.times_said.Goals.{then-exits+in_ok-push-2, else-exits}
 
 pub returns : goal.returns
 returns c =

@@ -1,6 +1,6 @@
 // The tables of a plan, and the plan as a whole.
 use crate::connections::add_waits;
-use crate::ground::{Ground, greatest};
+use crate::ground::{Ground, Link, greatest};
 use crate::ranges::Range;
 use crate::routes::Scope;
 use crate::sections::{add_sections, check_taken};
@@ -158,12 +158,17 @@ fn add_names(alloc: Global, ground: &Ground, plan: &mut Plan) -> Result<(), Allo
     Ok(())
 }
 
+// The names of two linked points.
+fn names_of(alloc: Global, link: &Link) -> Result<(String, String), AllocError> {
+    let one = String::from_str(alloc, link.one)?;
+    let other = String::from_str(alloc, link.other)?;
+    Ok((one, other))
+}
+
 // Adds the links, by the names of their points.
 fn add_links(alloc: Global, ground: &Ground, plan: &mut Plan) -> Result<(), AllocError> {
     for link in &ground.links {
-        let one = String::from_str(alloc, link.one)?;
-        let other = String::from_str(alloc, link.other)?;
-        plan.links.push((one, other))?;
+        plan.links.push(names_of(alloc, link)?)?;
     }
     Ok(())
 }
@@ -203,7 +208,7 @@ fn ground_of<'t>(
 }
 
 /// The plan that a table of keys makes; what is wrong with it is reported.
-pub(crate) fn plan_of(alloc: Global, faults: &mut Faults, top: &Entry) -> Result<Plan, AllocError> {
+pub fn plan_of(alloc: Global, faults: &mut Faults, top: &Entry) -> Result<Plan, AllocError> {
     let ground = ground_of(alloc, faults, top)?;
     let mut plan = Plan {
         points: Vec::new(alloc),

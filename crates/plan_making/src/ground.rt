@@ -1,6 +1,6 @@
 // The trains and points of a plan and what links the points, in the order in which they are first named, and zones.
 use crate::names::{find, is_known, is_name, text_of};
-use crate::zoned::zone_named;
+use crate::routes::count_of;
 use plan_entries::{Entries, Entry, Faults, Kind, Part, names_of};
 use std::alloc::{AllocError, Global};
 use toml::Value;
@@ -51,6 +51,15 @@ fn tell_of(faults: &mut Faults, at: &Entry, form: &'static str) {
 fn check_name(faults: &mut Faults, at: &Entry) {
     if !is_name(at.name) {
         tell_of(faults, at, "{} is no name: 1 to 16 of A-Z, a-z, 0-9 and _");
+    }
+}
+
+// The zone whose number is this text.
+fn zone_named(text: &str) -> Option<u32> {
+    let number = if text == "0" { 0 } else { count_of(text)? };
+    match u32::try_from(number) {
+        Ok(zone) if zone < MOST_ZONES => Some(zone),
+        _ => None,
     }
 }
 
