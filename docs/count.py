@@ -1,5 +1,5 @@
 #!/usr/bin/env python3
-"""Renews the numbers of lines in docs/proofs.md, and tells which definition files its tables lack or have no more.
+"""Renews the numbers of lines in docs/definitions.md, and prints which definition files its tables lack or have no more.
 
 A row with a path and a number is a file. The row `all` sums all files; any other row with a number sums the files of the table that it ends.
 """
@@ -9,7 +9,7 @@ import re
 
 HERE = os.path.dirname(os.path.abspath(__file__))
 ROOT = os.path.dirname(HERE)
-PAGE = os.path.join(HERE, "proofs.md")
+PAGE = os.path.join(HERE, "definitions.md")
 ROW = re.compile(r"\| (`?)([^|`]+)\1 \| [\d,]+ \|")
 
 
