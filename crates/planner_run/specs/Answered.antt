@@ -18,11 +18,12 @@ use Rattle.run_timetable.specs.declared.run.Run.{Run}
 use Rattle.timed_reading.specs.Runs.{IsToldRun}
 use Rattle.train_graph.specs.Marks.{IsGraph}
 use Rattle.layout_picture.specs.Drawn.{IsDrawn}
+use Rattle.document_certificates.specs.Certified.{IsCertified}
 use Rattle.document_lint.specs.Told.{LosesNoSection}
 use Rattle.svg_text.specs.Tree.{Picture}
 use Rattle.svg_text.specs.Text.{svg_text}
 use Rattle.planner_words.specs.declared.orders.Order.{Order}
-use Rattle.planner_words.specs.declared.orders.Order.TheVariants.{Plan as OfPlan, ExplainState, ExplainLine, Lint, Timetable, Graph, Layout}
+use Rattle.planner_words.specs.declared.orders.Order.TheVariants.{Plan as OfPlan, ExplainState, ExplainLine, Lint, Certify, Timetable, Graph, Layout}
 use Rattle.planner_words.specs.declared.orders.WordsAnswered.{WordsAnswered}
 use Rattle.planner_words.specs.declared.orders.WordsAnswered.TheVariants.{Shown, Refused, Memory}
 use Rattle.planner_run.specs.declared.answer.Answer.{Answer}
@@ -102,6 +103,12 @@ pub record IsLayoutText (input table_words : List ℕ) (asked : Option (Bor (Lis
   pub is_table : number_of table_words ≡ Some table
   pub is_layout : IsLayoutOf document table asked text
 
+-- The input is a document, and the text is it with other certificates alone, which its tables accept.
+pub record IsCertifiedInput (input text : List ℕ) : Type 0 where
+  pub document : Doc
+  pub is_read : doc_of input ≡ Ok document
+  pub is_certified : IsCertified document text
+
 -- No section of the former document is gone, if there is a former one.
 abbrev pub LosesNone : Option (Bor (List ℕ)) → List ℕ → Type 0
 LosesNone None input = Unit {0}
@@ -121,6 +128,7 @@ IsTextFor OfPlan former input text = IsPlanned input text
 IsTextFor (ExplainState table at) former input text = ExplainsPlaces input table.now at.now text
 IsTextFor (ExplainLine line) former input text = ExplainsWords input line.now text
 IsTextFor (Lint before) former input text = HasNoRemarks former input text
+IsTextFor (Certify budget effort) former input text = IsCertifiedInput input text
 IsTextFor (Timetable csv) former input text = Unit {0}
 IsTextFor (Graph train) former input text = IsGraphText text
 IsTextFor (Layout table at) former input text = IsLayoutText input table.now at text
@@ -131,6 +139,7 @@ AsksForRemarks (Lint before) = Unit {0}
 AsksForRemarks OfPlan = ⊥
 AsksForRemarks (ExplainState table at) = ⊥
 AsksForRemarks (ExplainLine line) = ⊥
+AsksForRemarks (Certify budget effort) = ⊥
 AsksForRemarks (Timetable csv) = ⊥
 AsksForRemarks (Graph train) = ⊥
 AsksForRemarks (Layout table at) = ⊥

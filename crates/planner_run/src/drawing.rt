@@ -59,8 +59,8 @@ fn picture_of(alloc: Global, doc: &Doc, table: u32, state: &State) -> Result<Ans
     }
 }
 
-// That the input is no document.
-fn refusal(alloc: Global, refused: &DocRefused) -> Result<Answer, AllocError>
+/// That the input is no document.
+pub(crate) fn refusal(alloc: Global, refused: &DocRefused) -> Result<Answer, AllocError>
     ensures { IfOk result (IfText (λ text. ⊥)) }
 {
     let mut line = String::from_str(alloc, "ats refuses the document: ")?;

@@ -5,7 +5,7 @@ use Rattle.clap.specs.Words.{Row, Text, first_of}
 use Rattle.clap.specs.declared.error.ErrorKind.{ErrorKind}
 use Rattle.clap.specs.declared.error.ErrorKind.TheVariants.{DisplayHelp, DisplayVersion, OutOfMemory}
 use Rattle.planner_words.specs.Answered.{AnswersWords, AsksForNone, MissesNone}
-use Rattle.planner_words.specs.declared.orders.Order.TheVariants.{Plan, ExplainState, ExplainLine, Lint, Timetable, Graph, Layout}
+use Rattle.planner_words.specs.declared.orders.Order.TheVariants.{Plan, ExplainState, ExplainLine, Lint, Certify, Timetable, Graph, Layout}
 use Rattle.planner_words.specs.declared.orders.WordsAnswered.{WordsAnswered}
 use Rattle.planner_words.specs.declared.orders.WordsAnswered.TheVariants.{Shown, Refused, Memory}
 
@@ -29,6 +29,7 @@ none_explained given no_places no_line Plan asked = cc
 none_explained given no_places no_line (ExplainState table at) asked = let found : Some at.now ≡ None = asked.1.1 ∙ sym no_places in cc
 none_explained given no_places no_line (ExplainLine line) asked = let found : Some line.now ≡ None = asked.1.1 ∙ sym no_line in cc
 none_explained given no_places no_line (Lint before) asked = cc
+none_explained given no_places no_line (Certify budget effort) asked = cc
 none_explained given no_places no_line (Timetable csv) asked = cc
 none_explained given no_places no_line (Graph train) asked = cc
 none_explained given no_places no_line (Layout table at) asked = cc

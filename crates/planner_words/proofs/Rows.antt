@@ -6,7 +6,7 @@ use Rattle.clap.specs.Words.{Text, first_of, subcommand_of, takes}
 use Rattle.clap.proofs.OnLiterals.{clap_on_literals}
 use Rattle.command_words.specs.Built.{leaf}
 use Rattle.planner_words.specs.Line.{planner}
-use Rattle.planner_words.specs.Named.{table_in}
+use Rattle.planner_words.specs.Named.{budget_in, effort_in, table_in}
 
 -- the words of a line, which single spaces part
 abbrev words_of : Text → List Text
@@ -20,6 +20,15 @@ the_train = refl
 the_tables : map (λ line. option_map (λ found. table_in found.1) (subcommand_of planner (words_of line))) (codes "layout" ∷ codes "explain --at 0,1 --table 2" ∷ []) ≡ Some (codes "0") ∷ Some (codes "2") ∷ []
 unfolding clap_on_literals leaf
 the_tables = refl
+
+-- The greatest budget is taken where none is named.
+the_budgets : map (λ line. option_map (λ found. budget_in found.1) (subcommand_of planner (words_of line))) (codes "certify" ∷ codes "certify --budget 500 --effort small" ∷ []) ≡ Some (codes "1000000") ∷ Some (codes "500") ∷ []
+unfolding clap_on_literals leaf
+the_budgets = refl
+
+the_effort : option_map (λ found. effort_in found.1) (subcommand_of planner (words_of (codes "certify --effort great"))) ≡ Some (codes "great")
+unfolding clap_on_literals leaf
+the_effort = refl
 
 -- clap says of each command but explain which words it takes
 taken : map (λ line. takes planner (words_of line)) (codes "plan" ∷ codes "layout --at 1,0" ∷ codes "timetable --csv" ∷ codes "lint --csv" ∷ codes "help" ∷ codes "explain --at 0,1" ∷ []) ≡ true ∷ true ∷ true ∷ false ∷ false ∷ false ∷ []

@@ -1,6 +1,6 @@
 -- The command as clap takes it: its subcommands and their options.
 use Rattle.std.specs.Prelude.{List, [], ◌∷◌, codes, true, false, Some}
-use Rattle.clap.specs.Words.{App, Rule, Shape, Text, new_app}
+use Rattle.clap.specs.Words.{App, Rule, Shape, Text, new_app, with_subcommand}
 use Rattle.clap.specs.declared.builder.action.ArgAction.TheVariants.{Set, SetTrue}
 use Rattle.command_words.specs.Built.{leaf, long_option, with_all}
 use Rattle.planner_words.specs.declared.asking.Choice.{Choice}
@@ -40,6 +40,9 @@ explain = leaf (codes "explain") (excluding (codes "at") ∷ valued (codes "tabl
 abbrev pub lint : Shape
 lint = leaf (codes "lint") (valued (codes "before") ∷ [])
 
+abbrev pub certify : Shape
+certify = leaf (codes "certify") (valued (codes "budget") ∷ valued (codes "effort") ∷ [])
+
 abbrev pub timetable : Shape
 timetable = leaf (codes "timetable") (flag (codes "csv") ∷ [])
 
@@ -59,4 +62,4 @@ pictures = timetable ∷ graph ∷ layout ∷ []
 
 -- the whole command
 abbrev pub planner : App
-planner = with_all pictures (with_all documents start)
+planner = with_all pictures (with_subcommand (with_all documents start) certify)

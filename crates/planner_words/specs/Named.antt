@@ -3,7 +3,7 @@ use Rattle.std.specs.Prelude.{◌≡◌, ℕ, Bool, true, false, List, codes, Op
 use Rattle.clap.specs.Words.{Row, Text, first_of, one_of, subcommand_of}
 use Rattle.planner_words.specs.Line.{planner}
 use Rattle.planner_words.specs.declared.orders.Order.{Order}
-use Rattle.planner_words.specs.declared.orders.Order.TheVariants.{Plan, ExplainState, ExplainLine, Lint, Timetable, Graph, Layout}
+use Rattle.planner_words.specs.declared.orders.Order.TheVariants.{Plan, ExplainState, ExplainLine, Lint, Certify, Timetable, Graph, Layout}
 
 -- the word that asks for an order
 abbrev pub name_of : Order → List ℕ
@@ -11,6 +11,7 @@ name_of Plan = codes "plan"
 name_of (ExplainState table at) = codes "explain"
 name_of (ExplainLine line) = codes "explain"
 name_of (Lint before) = codes "lint"
+name_of (Certify budget effort) = codes "certify"
 name_of (Timetable csv) = codes "timetable"
 name_of (Graph train) = codes "graph"
 name_of (Layout table at) = codes "layout"
@@ -18,6 +19,14 @@ name_of (Layout table at) = codes "layout"
 -- the table that is named, or the first one
 abbrev pub table_in : List Row → Text
 table_in given = unwrap_or (first_of (codes "table") given) (codes "0")
+
+-- the budget that is named, or the greatest one
+abbrev pub budget_in : List Row → Text
+budget_in given = unwrap_or (first_of (codes "budget") given) (codes "1000000")
+
+-- the effort that is named, or the usual one
+abbrev pub effort_in : List Row → Text
+effort_in given = unwrap_or (first_of (codes "effort") given) (codes "usual")
 
 -- The flag is up where clap has "true" for it, and down where it has "false".
 abbrev pub IsFlag : Option Text → Bool → Type 0
@@ -29,6 +38,7 @@ HasValues given Plan = Unit {0}
 HasValues given (ExplainState table at) = (table.now ≡ table_in given) × (Some at.now ≡ first_of (codes "at") given)
 HasValues given (ExplainLine line) = (None ≡ first_of (codes "at") given) × (Some line.now ≡ first_of (codes "line") given)
 HasValues given (Lint before) = option_map (λ s. s.now) before ≡ first_of (codes "before") given
+HasValues given (Certify budget effort) = (budget.now ≡ budget_in given) × (effort.now ≡ effort_in given)
 HasValues given (Timetable csv) = IsFlag (one_of (codes "csv") given) csv
 HasValues given (Graph train) = option_map (λ s. s.now) train ≡ first_of (codes "train") given
 HasValues given (Layout table at) = (table.now ≡ table_in given) × (option_map (λ s. s.now) at ≡ first_of (codes "at") given)

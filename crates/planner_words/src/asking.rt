@@ -72,6 +72,18 @@ const TRAIN: Choice = Choice::Value {
     help: "The train whose route is the axis of places (default: the longest route)",
 };
 
+const BUDGET: Choice = Choice::Value {
+    name: "budget",
+    value: "NODES",
+    help: "The most nodes of a table's certificate (default: 1000000)",
+};
+
+const EFFORT: Choice = Choice::Value {
+    name: "effort",
+    value: "EFFORT",
+    help: "small, usual or great: how many ways of searching are tried (default: usual)",
+};
+
 const AT_OR_START: Choice = Choice::Value {
     name: "at",
     value: "PLACES",
@@ -88,6 +100,7 @@ pub(crate) fn command<'a>(alloc: Global) -> Result<Command<'a>, AllocError>
     let command = with_subcommand(alloc, command, "explain", about, &[AT, TABLE, LINE])?;
     let about = "Reads a document and lists what has no effect or is likely a mistake";
     let command = with_subcommand(alloc, command, "lint", about, &[BEFORE])?;
+    let command = with_certify(alloc, command)?;
     with_pictures(alloc, command)
 }
 
@@ -101,6 +114,14 @@ fn start<'a>(alloc: Global) -> Command<'a>
         .no_binary_name(true)
         .subcommand_required(true)
         .disable_help_subcommand(true)
+}
+
+fn with_certify<'a>(alloc: Global, command: Command<'a>) -> Result<Command<'a>, AllocError>
+    requires { IsLocal command }
+    ensures { IfOk result (IsBuiltAs (with_subcommand (app_of command.entry) spec.certify)) }
+{
+    let about = "Reads a document and writes it with certificates that are found by search";
+    with_subcommand(alloc, command, "certify", about, &[BUDGET, EFFORT])
 }
 
 fn with_pictures<'a>(alloc: Global, command: Command<'a>) -> Result<Command<'a>, AllocError>

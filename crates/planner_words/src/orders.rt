@@ -15,6 +15,8 @@ pub enum Order<'a> {
     Timetable { csv: bool },
     /// Draw a timed run along the route of a train.
     Graph { train: Option<&'a str> },
+    /// Find certificates for the tables of a document by search, of so many nodes, with so much effort.
+    Certify { budget: &'a str, effort: &'a str },
     /// Draw the layout of a document, with its trains at the start of a table or at these positions.
     Layout { table: &'a str, at: Option<&'a str> },
 }

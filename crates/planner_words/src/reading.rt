@@ -3,7 +3,7 @@ ghost use Rattle.std.specs.Prelude.{◌≡◌, IfErr, IfOk, IsSomeAnd, Some, cod
 ghost use Rattle.clap.specs.Words.{found_of, kind_of, rows_of, subcommand_of, subcommand_rows_of, takes};
 ghost use Rattle.planner_words.specs.Answered.{AnswersWords, MissesNone};
 ghost use Rattle.planner_words.specs.Line.{planner};
-ghost use Rattle.planner_words.specs.Named.{AsksFor, IsAsked, table_in};
+ghost use Rattle.planner_words.specs.Named.{AsksFor, IsAsked, budget_in, effort_in, table_in};
 
 use crate::asking::command;
 use crate::{Order, WordsAnswered};
@@ -84,6 +84,10 @@ fn order_called<'a>(
         "lint" => Ok(Order::Lint {
             before: matches.get_str("before"),
         }),
+        "certify" => Ok(Order::Certify {
+            budget: budget_in(matches),
+            effort: effort_in(matches),
+        }),
         "timetable" => Ok(Order::Timetable {
             csv: matches.get_flag("csv"),
         }),
@@ -103,6 +107,20 @@ fn table_in<'a>(matches: &ArgMatches<'a>) -> &'a str
     ensures { result.now ≡ table_in (rows_of (found_of matches.now)) }
 {
     matches.get_str("table").unwrap_or("0")
+}
+
+// The budget that is named, as it was written, or the greatest one.
+fn budget_in<'a>(matches: &ArgMatches<'a>) -> &'a str
+    ensures { result.now ≡ budget_in (rows_of (found_of matches.now)) }
+{
+    matches.get_str("budget").unwrap_or("1000000")
+}
+
+// The effort that is named, or the usual one.
+fn effort_in<'a>(matches: &ArgMatches<'a>) -> &'a str
+    ensures { result.now ≡ effort_in (rows_of (found_of matches.now)) }
+{
+    matches.get_str("effort").unwrap_or("usual")
 }
 
 fn explain<'a>(alloc: Global, matches: &ArgMatches<'a>) -> Result<Order<'a>, WordsAnswered>

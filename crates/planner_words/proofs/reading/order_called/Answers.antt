@@ -6,6 +6,9 @@ use Rattle.planner_words.proofs.reading.order_called.Goals as goal
 pub returns-in-lint-clause-asked : goal.returns-in-lint-clause-asked
 returns-in-lint-clause-asked c = (search rules, c.get_str.ensures ∙ first_value-rows (found_of c.args.matches.now) (codes "before"))
 
+pub returns-in-certify-clause-asked : goal.returns-in-certify-clause-asked
+returns-in-certify-clause-asked c = (search rules, (c.budget_in.ensures, c.effort_in.ensures))
+
 pub returns-in-timetable-clause-asked : goal.returns-in-timetable-clause-asked
 returns-in-timetable-clause-asked c =
     let found = one_text-rows (found_of c.args.matches.now) (codes "csv") in

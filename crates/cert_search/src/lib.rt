@@ -1,0 +1,21 @@
+//! Certificates of tables, found by search and checked, with far fewer nodes than the maker's rule needs; or a state from which no train can move.
+#![tactic(auto)]
+
+mod board;
+mod choice;
+mod facts;
+mod finding;
+mod found;
+mod growth;
+mod numbers;
+mod peel;
+mod region;
+mod search;
+mod spelling;
+mod stuck;
+#[cfg(test)]
+mod tests;
+mod votes;
+
+pub use finding::find;
+pub use found::{Effort, Found};
