@@ -1,0 +1,5 @@
+pub mod Found
+pub mod Grids
+pub mod Orders
+pub mod Pairs
+pub mod Reached

@@ -1,0 +1,21 @@
+//! Sections that forbid only what no run from the start reaches: the order in which the tracks keep two trains.
+#![tactic(auto)]
+
+mod choosing;
+mod closed;
+mod grid;
+mod keeping;
+mod laws;
+mod making;
+mod ordering;
+mod orders;
+mod pairs;
+mod refused;
+mod search;
+mod stairs;
+
+pub use grid::Grid;
+pub use laws::{orders_keep_runs, reached_pairs_are_in_closed_sets};
+pub use ordering::{Ordered, order};
+pub use orders::Order;
+pub use refused::OrderRefused;
