@@ -35,8 +35,8 @@ use std::thread::Threads;
 
 const DRILL_ROUNDS: u32 = 1000;
 
-// Who runs the trains of an order.
-fn crew_of(order: Order) -> Crew
+/// Who runs the trains of an order.
+pub(crate) fn crew_of(order: Order) -> Crew
     requires { HasItsNumbers order }
     ensures exact { result ≡ crew_in order }
     ensures formed { 1 ≤ result.workers → IsCrew result }
@@ -165,8 +165,8 @@ fn run_alone(
     }
 }
 
-// The bytes that an order prints for its input whose trains are run by workers, or why there are none.
-fn answer_by<R: Threads + Wait + Sync, G: Gate>(
+/// The bytes that an order prints for its input whose trains are run by workers, or why there are none. It may wait for its threads.
+pub(crate) fn answer_by<R: Threads + Wait + Sync, G: Gate>(
     rt: &R,
     alloc: Global,
     order: Order,
@@ -184,7 +184,7 @@ fn answer_by<R: Threads + Wait + Sync, G: Gate>(
     }
 }
 
-/// The bytes that an order prints for its input, or why there are none. An order that reads nothing has the empty input.
+/// The bytes that an order without workers prints for its input, or why there are none. An order that reads nothing has the empty input.
 pub(crate) fn answer_alone(
     rt: &(impl Threads + Sync),
     alloc: Global,
@@ -209,24 +209,5 @@ pub(crate) fn answer_alone(
         Order::Simulate => simulate(rt, alloc, input),
         Order::Generate { seed, trains } => generate(alloc, seed, trains),
         Order::Weave { seed, steps } => weave(rt, alloc, input, seed, steps),
-    }
-}
-
-/// The bytes that any order prints for its input, or why there are none. It may wait where workers run the order's trains.
-pub(crate) fn answer<R: Threads + Wait + Sync, G: Gate>(
-    rt: &R,
-    alloc: Global,
-    order: Order,
-    input: &[u8],
-    gate: &G,
-) -> Result<Vec<u8>, Failure>
-    requires { HasItsNumbers order }
-    ensures { MatchResult result (λ text. Comes order input.now (Ok text.items))
-        (λ e. (e ≡ NoMemory) ⊎ Comes order input.now (Err e)) }
-{
-    if crew_of(order).workers == 0 {
-        answer_alone(rt, alloc, order, input)
-    } else {
-        answer_by(rt, alloc, order, input, gate)
     }
 }

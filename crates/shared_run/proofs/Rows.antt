@@ -4,7 +4,7 @@ use Rattle.std.proofs.lemmas.List.Elements.{All-nil, All-cons, All-map}
 use Rattle.rail_model.specs.declared.types.Line.{Line}
 use Rattle.rail_model.specs.Journal.{IsRound}
 use Rattle.zone_yard.specs.Setup.{Setup}
-use Rattle.zone_yard.specs.Passes.{Pass}
+use Rattle.zone_yard.specs.Passes.{Pass, Root}
 use Rattle.zone_yard.specs.Boarding.{fresh_root, with_pass}
 use Rattle.zone_yard.proofs.Samples.{boarded, yes, one_zone, four_zones}
 use Rattle.zone_yard.proofs.Rows.{granted_after}
@@ -13,7 +13,7 @@ use Rattle.dispatch_workers.specs.Rounds.{Worked}
 use Rattle.shared_run.specs.Crews.{crew_of, IsCrew, trains_of, dealt}
 use Rattle.shared_run.specs.Shared.{fresh_pass, fresh_passes, IsRecorded, IsWorked, IsShared, IsAddedBy}
 use Rattle.shared_run.specs.Boarding.{onto, AreOnce, passes_in, IsFresh, HaveBoarded, AreAshore, IsControlGroup}
-use Rattle.shared_run.specs.Leaving.{entries_with, HaveLeft, HasLeft}
+use Rattle.shared_run.specs.Leaving.{HasSeen, entries_with, HaveLeft, HasLeft}
 
 -- five trains dealt to two workers, and two to three
 dealt_to_two : (dealt 5 2 0 ≡ 0 ∷ 2 ∷ 4 ∷ []) × (dealt 5 2 1 ≡ 1 ∷ 3 ∷ [])
@@ -43,12 +43,24 @@ ashore : AreAshore 2 0 (fresh_root one_zone) × (AreAshore 2 0 (with_pass (fresh
 ashore = (((λ p at h. cc h), λ h. cc h), λ still. still.0 0 (lit≤ tt) refl)
 
 -- it has left with its entry
-has_left : HaveLeft (with_pass (fresh_root one_zone) 0) (granted_after one_zone 0 [] ∷ [])
-    (record (fresh_root one_zone) { seen = yes 0 ∷ []; done = entries_with (granted_after one_zone 0 []) ∷ []; boarded = 0 ∷ [] })
-has_left = record { out = refl; done = refl; yard = refl }
+abbrev root_after : Root
+root_after = record (fresh_root one_zone) { seen = yes 0 ∷ []; done = entries_with (granted_after one_zone 0 []) ∷ []; boarded = 0 ∷ [] }
 
-is_done : HasLeft (record (fresh_root one_zone) { done = entries_with (granted_after one_zone 0 []) ∷ [] }) (granted_after one_zone 0 [])
-is_done = record { low = lit< tt; entries = refl; room = lit< tt }
+has_left : HaveLeft (with_pass (fresh_root one_zone) 0) (granted_after one_zone 0 [] ∷ []) root_after
+has_left = record {
+  own = (yes 0 ∷ [], refl);
+  theirs = All-cons (HasSeen root_after) (granted_after one_zone 0 []) [] ([], refl) (All-nil (HasSeen root_after));
+  out = refl;
+  done = refl;
+  yard = refl;
+}
+
+is_done : HasLeft root_after (granted_after one_zone 0 [])
+is_done = record { seen = ([], refl); low = lit< tt; entries = refl; room = lit< tt }
+
+-- a root that hasn't seen the entry isn't one to which the pass has left
+not_unseen : HasLeft (record root_after { seen = [] }) (granted_after one_zone 0 []) → ⊥
+not_unseen left = cc left.seen.1
 
 one_control : IsControlGroup (fresh_pass one_zone 32) (Control (boarded one_zone 32)) × (passes_in (Control (boarded one_zone 32) ∷ []) ≡ boarded one_zone 32 ∷ [])
 one_control = (refl, refl)
@@ -70,15 +82,15 @@ nobody_asks = record {
   legal = tt;
   drivers = fresh_passes (four_zones 9) 2;
   worked = λ g lt. no_rounds (fresh_passes (four_zones 9) 2 g);
-  recorded = λ g lt. All-map (IsRecorded []) (fresh_pass (four_zones 9)) (dealt 3 2 g) (λ k d within. (refl, lit< tt));
+  recorded = λ g lt. All-map (IsRecorded []) (fresh_pass (four_zones 9)) (dealt 3 2 g) (λ k d within. record { begins = ([], refl); entries = refl; room = lit< tt });
   control = fresh_pass (four_zones 9) 32;
   turned = record { turns = []; made = refl; ends = refl };
-  told = (refl, lit< tt);
+  told = record { begins = ([], refl); entries = refl; room = lit< tt };
 }
 
 -- an entry of a pass that made none isn't in the history
 not_recorded : IsRecorded (yes 0 ∷ []) (boarded one_zone 0) → ⊥
-not_recorded is = cc is.0
+not_recorded is = cc is.entries
 
 recorded : IsRecorded (yes 0 ∷ []) (granted_after one_zone 0 [])
-recorded = (refl, lit< tt)
+recorded = record { begins = ([], refl); entries = refl; room = lit< tt }

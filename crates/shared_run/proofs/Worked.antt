@@ -1,12 +1,15 @@
 -- A crew that boarded, worked and left: what it did, and that the root has all its entries.
-use Rattle.std.proofs.Common.{◌≡◌, ◌<◌, ◌≤◌, ◌+◌, ◌*◌, ℕ, List, [], ◌∷◌, refl, length, get_or, map, sym, ap, ◌∙◌, subst, arith}
+use Rattle.std.proofs.Common.{◌≡◌, ◌<◌, ◌≤◌, ◌+◌, ◌*◌, ℕ, List, [], ◌∷◌, ◌++◌, refl, length, get_or, map, sym, ap, ◌∙◌, subst, arith}
 use Rattle.std.specs.List.{All, AllZip, AllByRecursion}
-use Rattle.std.proofs.lemmas.List.Elements.{All-from_recursion, recursion_from_All, AllZip-get_or}
+use Rattle.std.proofs.lemmas.List.Elements.{All-weaker, All-from_recursion, recursion_from_All, AllZip-get_or}
+use Rattle.rail_model.specs.Lines.{journal_of}
+use Rattle.rail_model.specs.Plain.{Plain}
 use Rattle.rail_model.specs.Yard.{control as control_number}
-use Rattle.zone_yard.specs.Setup.{SharedYard, most_passes}
+use Rattle.plain_yard.specs.Keeps.{Keeps}
+use Rattle.zone_yard.specs.Setup.{SharedYard, most_passes, state_after, IsLegalHistory}
 use Rattle.zone_yard.specs.Passes.{Pass, Root, done_of}
 use Rattle.zone_yard.specs.Entering.{HasRoom}
-use Rattle.zone_yard.specs.Boarding.{fresh_root}
+use Rattle.zone_yard.specs.Boarding.{fresh_root, Closes}
 use Rattle.dispatch_workers.specs.declared.groups.Group.{Group}
 use Rattle.dispatch_workers.specs.declared.groups.Group.TheVariants.{Drivers, Control}
 use Rattle.dispatch_workers.specs.Rounds.{HasFinished, IsLastTurn, Worked, Turned}
@@ -14,9 +17,9 @@ use Rattle.dispatch_workers.specs.Groups.{GroupWorked}
 use Rattle.dispatch_workers.proofs.Ended.{ended_within}
 use Rattle.shared_run.specs.declared.crews.Crew.{Crew}
 use Rattle.shared_run.specs.Crews.{IsCrew}
-use Rattle.shared_run.specs.Shared.{fresh_pass, fresh_passes}
+use Rattle.shared_run.specs.Shared.{fresh_pass, fresh_passes, IsRecorded, IsWorkedTo}
 use Rattle.shared_run.specs.Boarding.{onto, AreOnce, numbers, passes_of, passes_in, IsFresh, HaveBoarded, HasDrivers, IsControlGroup, AreDealt}
-use Rattle.shared_run.specs.Leaving.{HaveLeft, HasLeft, HasWorked, entries_with}
+use Rattle.shared_run.specs.Leaving.{HasSeen, HaveLeft, HasLeft, HasWorked, entries_with}
 use Rattle.shared_run.proofs.Lists.{each_part, zip_weaker, zip_parts, all_zipped, zip_long}
 use Rattle.shared_run.proofs.Grown.{Grew, grew_more, rounds_grew, turns_grew}
 use Rattle.shared_run.proofs.Done.{each_done}
@@ -67,6 +70,10 @@ module _ (yard : SharedYard) (crew : Crew) (groups news : List Group) (old mid n
   abbrev IsLow : Pass → Type 0
   IsLow pass = (pass.number < most_passes) × HasRoom pass
 
+  -- The root has seen all that the pass has seen, and has its entries.
+  abbrev HasEntries : Pass → Type 0
+  HasEntries pass = HasSeen new pass × (done_of pass.number new.done ≡ pass.mine)
+
   low : IsCrew crew → 4000000 < yard.setup.calls → (x y : Pass) → Grew (4 * crew.rounds) x y → IsFresh yard x → IsLow y
   low is calls x y grew fresh =
       let none : length x.mine ≡ 0 = ap length fresh.2 in
@@ -86,11 +93,14 @@ module _ (yard : SharedYard) (crew : Crew) (groups news : List Group) (old mid n
       left.done ∙ ap (λ ds. onto (map entries_with (passes_in news)) ds) (ap (λ (r : Root). r.done) boarded.now ∙ ap (λ (r : Root). r.done) fresh) in
       let entries : AllByRecursion (λ (p : Pass). done_of p.number new.done ≡ p.mine) (passes_in news) =
       subst (λ ds. AllByRecursion (λ (p : Pass). done_of p.number ds ≡ p.mine) (passes_in news)) (sym done) (each_done (passes_in news) [] once) in
+      let lows : AllByRecursion IsLow (passes_in news) =
+      all_zipped (Grew (4 * crew.rounds)) (IsFresh yard) IsLow (low is calls) (passes_in groups) (passes_in news) grew
+      (recursion_from_All (IsFresh yard) (passes_in groups) (subst (λ y. All (IsFresh y) (passes_in groups)) (ap (λ (r : Root). r.yard) fresh) boarded.each)) in
+      let recorded : AllByRecursion HasEntries (passes_in news) =
+      both_hold (HasSeen new) (λ (p : Pass). done_of p.number new.done ≡ p.mine) HasEntries (λ p s e. (s, e)) (passes_in news)
+      (recursion_from_All (HasSeen new) (passes_in news) left.theirs) entries in
       let each : AllByRecursion (HasLeft new) (passes_in news) =
-      both_hold IsLow (λ (p : Pass). done_of p.number new.done ≡ p.mine) (HasLeft new) (λ p l e. record { low = l.0; entries = e; room = l.1 }) (passes_in news)
-      (all_zipped (Grew (4 * crew.rounds)) (IsFresh yard) IsLow (low is calls) (passes_in groups) (passes_in news) grew
-      (recursion_from_All (IsFresh yard) (passes_in groups) (subst (λ y. All (IsFresh y) (passes_in groups)) (ap (λ (r : Root). r.yard) fresh) boarded.each)))
-      entries in
+      both_hold IsLow HasEntries (HasLeft new) (λ p l e. record { seen = e.0; low = l.0; entries = e.1; room = l.1 }) (passes_in news) lows recorded in
       let none : Group = Control (fresh_pass yard control_number) in
       let long : length news ≡ crew.workers + 1 = zip_long (GroupWorked crew.rounds crew.block) groups news worked ∙ dealt.count in
       let last_in : crew.workers < length groups = (let count = dealt.count in omega (arith, count)) in
@@ -111,3 +121,29 @@ module _ (yard : SharedYard) (crew : Crew) (groups news : List Group) (old mid n
         turned = turned.2;
         told = (subst (AllByRecursion (HasLeft new)) turned.1 (each_part (HasLeft new) passes_of news each crew.workers none (omega (arith, long)))).0;
       }
+
+-- to the whole history each pass that left is recorded
+recorded_by : (root : Root) (state : Plain) → Closes root state → (pass : Pass) → HasLeft root pass → IsRecorded root.seen pass
+recorded_by root state closes pass left =
+    record { begins = left.seen; entries = closes.passes pass.number left.low ∙ left.entries; room = left.room }
+
+-- a yard that is closed after a crew worked at it
+pub worked_to : (yard : SharedYard) (crew : Crew) (root : Root) (state : Plain) → HasWorked yard crew root → Closes root state → IsWorkedTo yard.setup crew state
+worked_to yard crew root state has closes = record {
+  yard = yard;
+  made = refl;
+  history = root.seen;
+  worked = record {
+    legal = subst (λ (y : SharedYard). IsLegalHistory y.setup root.seen) has.ours closes.legal;
+    drivers = has.drivers;
+    worked = has.worked;
+    recorded = λ g lt. All-weaker (HasLeft root) (IsRecorded root.seen) (recorded_by root state closes) (has.drivers g) (has.done g lt);
+    control = has.control;
+    turned = has.turned;
+    told = recorded_by root state closes has.control has.told;
+  };
+  reached = subst (λ (y : SharedYard). state.yard ≡ state_after y.setup root.seen) has.ours closes.yard;
+  lines =
+      subst (λ (y : SharedYard). state.lines ≡ y.setup.opening.lines ++ journal_of y.setup.tables y.setup.opening.yard root.seen) has.ours closes.lines;
+  keeps = subst (λ (y : SharedYard). Keeps y.setup.tables state.yard state.lines) has.ours closes.keeps;
+}

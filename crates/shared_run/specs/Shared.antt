@@ -9,7 +9,7 @@ use Rattle.rail_model.specs.Lines.{journal_of}
 use Rattle.rail_model.specs.Yard.{Offer, control as control_number}
 use Rattle.plain_yard.specs.Keeps.{Keeps}
 use Rattle.zone_yard.specs.Setup.{Setup, SharedYard, state_after, IsLegalHistory}
-use Rattle.zone_yard.specs.Passes.{Pass, entries_of}
+use Rattle.zone_yard.specs.Passes.{Pass, StartsWith, entries_of}
 use Rattle.zone_yard.specs.Entering.{HasRoom}
 use Rattle.zone_yard.specs.Boarding.{fresh_root, boarded_pass}
 use Rattle.dispatch_workers.specs.Rounds.{Worked, Turned}
@@ -28,9 +28,12 @@ fresh_pass yard p = boarded_pass (fresh_root yard) p
 abbrev pub fresh_passes : SharedYard → ℕ → ℕ → List Pass
 fresh_passes yard workers g = map (fresh_pass yard) (dealt (trains_of yard.setup) workers g)
 
--- The pass's own entries are all that the history has of it. It may make more, so it was never told that its entries are spent.
-abbrev pub IsRecorded : List Entry → Pass → Type 0
-IsRecorded H pass = (entries_of pass.number H ≡ pass.mine) × HasRoom pass
+-- The history begins with all that the pass has seen, and has of it the pass's own entries alone. The pass may make more, so it was never
+-- told that its entries are spent.
+pub record IsRecorded (H : List Entry) (pass : Pass) : Type 0 where
+  pub begins : StartsWith H pass.seen
+  pub entries : entries_of pass.number H ≡ pass.mine
+  pub room : HasRoom pass
 
 -- The history is legal, and its entries are those of the crew: of each worker's drivers in their rounds, and of the control in its turns.
 pub record IsWorked (yard : SharedYard) (crew : Crew) (H : List Entry) : Type 0 where
