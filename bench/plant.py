@@ -1,13 +1,14 @@
 #!/usr/bin/env python3
 """Plants wrong bodies in copies of the crates, and tells which of them the prover lets through.
 
-    bench/plant.py                  all that are in bench/planted
+    bench/plant.py --all            all that are in bench/planted
     bench/plant.py cert_tree ..     those of these crates
 
 planted/CRATE.txt has a line `== NAME` for each bug, and below it lines as in a must-fail edit. The prover is to refuse a bug, unless its
 name begins with `survivor_`: docs/proofs.md says why it lets those through. The crates are copied to a temporary folder, where the bugs
 take the place of the must-fail edits, and `rt must-fail` tries them. After ./build that takes ten to forty seconds for a bug; before, the
-crate and all below it are proved first. Prints a line for each bug that ends otherwise than it should, and then how many were refused.
+crate and all below it are proved first. Prints a line for each bug that ends otherwise than it should, and then how many were refused and how
+long it took.
 """
 import pathlib
 import re
@@ -15,6 +16,7 @@ import shutil
 import subprocess
 import sys
 import tempfile
+import time
 
 ROOT = pathlib.Path(__file__).resolve().parent.parent
 PLANTED = ROOT / "bench" / "planted"
@@ -46,7 +48,10 @@ def answers(room, crate, bugs):
 
 
 def main():
-    crates = sys.argv[1:] or sorted(path.stem for path in PLANTED.glob("*.txt"))
+    if not sys.argv[1:]:
+        sys.exit(__doc__)
+    crates = sorted(path.stem for path in PLANTED.glob("*.txt")) if sys.argv[1:] == ["--all"] else sys.argv[1:]
+    begun = time.time()
     refused = through = odd = 0
     with tempfile.TemporaryDirectory() as room:
         room = pathlib.Path(room)
@@ -62,7 +67,8 @@ def main():
                     odd += 1
                     print(f"{crate} {name}: {answer}")
             print(f"{crate}: {len(bugs)} tried", flush=True)
-    print(f"{refused} refused, {through} let through, {odd} otherwise than they should")
+    minutes = (time.time() - begun) / 60
+    print(f"{refused} refused, {through} let through, {odd} otherwise than they should, in {minutes:.0f} minutes")
     return 1 if odd else 0
 
 

@@ -1,3 +1,4 @@
+pub mod Apart
 pub mod Changes
 pub mod Growing
 pub mod Members

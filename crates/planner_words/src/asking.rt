@@ -2,7 +2,7 @@
 ghost use Rattle.std.specs.Prelude.{◌≡◌, false, IfOk, map};
 ghost use Rattle.clap.specs.Built.{IsPlainArg};
 ghost use Rattle.clap.specs.Words.{app_of, rule_of, with_subcommand};
-ghost use Rattle.command_words.specs.Built.{IsBuiltAs, IsSubcommand, IsLocal, leaf, long_option, with_all};
+ghost use Rattle.command_words.specs.Built.{IsBuiltAs, IsSubcommand, IsLocal, leaf, long_option};
 ghost use Rattle.planner_words.specs.Line as spec;
 
 use clap::{Arg, ArgAction, Command};
@@ -78,17 +78,50 @@ const AT_OR_START: Choice = Choice::Value {
     help: "The place of each train, as 1,0,2 (default: the start)",
 };
 
+// The subcommands, each with what help says of it, and with its options.
+const SUBCOMMANDS: [(&str, &str, &[Choice]); 6] = [
+    (
+        "plan",
+        "Reads a plan (TOML) and writes its document, for `ats make`",
+        &[],
+    ),
+    (
+        "explain",
+        "Reads a document and explains a state, or a line of `ats`, by names",
+        &[AT, TABLE, LINE],
+    ),
+    (
+        "lint",
+        "Reads a document and lists what has no effect or is likely a mistake",
+        &[BEFORE],
+    ),
+    (
+        "timetable",
+        "Reads a document, a line `journal` and what `ats sim` wrote; writes when each train arrives, leaves and waits",
+        &[CSV],
+    ),
+    (
+        "graph",
+        "Reads what `timetable` reads; writes a picture (SVG) of the trains over time",
+        &[TRAIN],
+    ),
+    (
+        "layout",
+        "Reads a document and writes a picture (SVG) of its tracks, sections and trains",
+        &[AT_OR_START, TABLE],
+    ),
+];
+
 /// The whole command.
 pub(crate) fn command<'a>(alloc: Global) -> Result<Command<'a>, AllocError>
     ensures { IfOk result (IsBuiltAs spec.planner) }
 {
-    let about = "Reads a plan (TOML) and writes its document, for `ats make`";
-    let command = with_subcommand(alloc, start(alloc), "plan", about, &[])?;
-    let about = "Reads a document and explains a state, or a line of `ats`, by names";
-    let command = with_subcommand(alloc, command, "explain", about, &[AT, TABLE, LINE])?;
-    let about = "Reads a document and lists what has no effect or is likely a mistake";
-    let command = with_subcommand(alloc, command, "lint", about, &[BEFORE])?;
-    with_pictures(alloc, command)
+    let subcommands: &[(&str, &str, &[Choice])] = &SUBCOMMANDS;
+    let mut command = start(alloc);
+    for &(name, about, choices) in subcommands {
+        command = with_subcommand(alloc, command, name, about, choices)?;
+    }
+    Ok(command)
 }
 
 // The command before any subcommand.
@@ -101,19 +134,6 @@ fn start<'a>(alloc: Global) -> Command<'a>
         .no_binary_name(true)
         .subcommand_required(true)
         .disable_help_subcommand(true)
-}
-
-fn with_pictures<'a>(alloc: Global, command: Command<'a>) -> Result<Command<'a>, AllocError>
-    requires { IsLocal command }
-    ensures { IfOk result (IsBuiltAs (with_all spec.pictures (app_of command.entry))) }
-{
-    let about =
-        "Reads a document, a line `journal` and what `ats sim` wrote; writes when each train arrives, leaves and waits";
-    let command = with_subcommand(alloc, command, "timetable", about, &[CSV])?;
-    let about = "Reads what `timetable` reads; writes a picture (SVG) of the trains over time";
-    let command = with_subcommand(alloc, command, "graph", about, &[TRAIN])?;
-    let about = "Reads a document and writes a picture (SVG) of its tracks, sections and trains";
-    with_subcommand(alloc, command, "layout", about, &[AT_OR_START, TABLE])
 }
 
 // The command with one more subcommand, which has these options.

@@ -16,7 +16,7 @@ use Rattle.ring_sections.proofs.RingLists.{among-index}
 use Rattle.ring_sections.proofs.StepLists.{among-All}
 
 -- pairs of different trains are stays
-ring-stays : (n : ℕ) (r : List Pair) → ((k : ℕ) → k < length r → (pair_at r k).0 < n) → ((j k : ℕ) → j < k → k < length r → (pair_at r j).0 ≢ (pair_at r k).0) → AreStays n (stays r)
+pub ring-stays : (n : ℕ) (r : List Pair) → ((k : ℕ) → k < length r → (pair_at r k).0 < n) → ((j k : ℕ) → j < k → k < length r → (pair_at r j).0 ≢ (pair_at r k).0) → AreStays n (stays r)
 ring-stays n [] low apart = tt
 ring-stays n (w ∷ r) low apart = (
   low 0 (omega arith),

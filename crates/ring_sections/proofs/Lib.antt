@@ -13,3 +13,4 @@ pub mod Rows
 pub mod SearchRows
 pub mod StepLists
 pub mod TrainSets
+pub mod Waiting

@@ -1,13 +1,19 @@
 -- Worked rows: a circular wait of two trains at different places, its section, and answers that add.
 use Rattle.std.proofs.Common.{◌≡◌, ℕ, zero, suc, ◌<◌, ◌≤◌, List, [], ◌∷◌, ℤ, pos, ◌≤ℤ◌, false, Some, None, Ok, Err, refl, ◌∙◌, ap, sym, subst, lit<, lit≤, arith, inl, inr}
-use Rattle.std.specs.Prelude.{replicate, ◌+ℤ◌}
+use Rattle.std.specs.Prelude.{All, replicate, ◌+ℤ◌}
 use Rattle.std.proofs.lemmas.Int.{ints}
 use Rattle.rail_model.specs.Table.{Mission, place, share, count}
+use Rattle.rail_model.specs.Move.{Move, IsOver}
+use Rattle.forbidden_states.specs.Forbid.{unmarked}
+use Rattle.forbidden_states.specs.Completing.{Completable}
+use Rattle.forbidden_states.proofs.Apart.{two_apart}
 use Rattle.ring_sections.specs.declared.refused.Rings.TheVariants.{Many, Memory}
 use Rattle.ring_sections.specs.Answer.{too_many, AddsRings}
 use Rattle.ring_sections.specs.Marking.{ring_table, HasRing, Excludes}
 use Rattle.ring_sections.specs.Ring.{Pair, IsRing}
+use Rattle.ring_sections.specs.Waiting.{NeverMoves}
 use Rattle.ring_sections.proofs.RingTests.{Decides-ring}
+use Rattle.ring_sections.proofs.Waiting.{loses_nothing}
 
 -- a corridor between points 1 and 2: T0 enters it with its first step, T1 with its second
 abbrev pub uneven : List Mission
@@ -66,3 +72,34 @@ few_enough = refl
 
 one_too_many : too_many 65 ≡ Some (Many 65)
 one_too_many = refl
+
+-- ---- two trains head-on in a corridor
+
+rings_there : All (IsRing uneven) (ring ∷ [])
+rings_there zero d lt = is_ring
+rings_there (suc k) d lt = absurd (omega (arith, lt))
+
+-- where both are in it, the state is over the section
+over : IsOver (ring_table uneven (ring ∷ [])) (1 ∷ 2 ∷ []) 0
+over = (lit< tt, grind (arith, ints))
+
+-- where T1 is still before it, it isn't
+not_over : IsOver (ring_table uneven (ring ∷ [])) (1 ∷ 1 ∷ []) 0 → ⊥
+not_over over = let more = over.1 in grind (arith, ints)
+
+-- not both can arrive from there
+lost : Completable uneven (1 ∷ 2 ∷ []) → ⊥
+lost = loses_nothing uneven (ring ∷ []) rings_there (1 ∷ 2 ∷ []) 0 (two_apart uneven 1 2 refl (lit≤ tt) (lit≤ tt) refl) over
+
+-- a train that waits for nobody moves on
+moves : NeverMoves uneven ((0, 1) ∷ []) → ⊥
+moves never = let still = never (1 ∷ 1 ∷ []) (0 ∷ []) (2 ∷ 1 ∷ []) (refl, tt) (2 ∷ 1 ∷ [], move, refl) in let there = still.0 in cc
+  where
+    move : Move (unmarked uneven) (1 ∷ 1 ∷ []) 0 (2 ∷ 1 ∷ [])
+    move = record {
+      before = two_apart uneven 1 1 refl (lit≤ tt) (lit≤ tt) refl;
+      train = lit< tt;
+      step = refl;
+      after = two_apart uneven 2 1 refl (lit≤ tt) (lit≤ tt) refl;
+      free = λ c held. let none = held.1 in cc;
+    }

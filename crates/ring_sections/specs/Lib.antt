@@ -4,3 +4,4 @@ pub mod Levels
 pub mod Marking
 pub mod Ring
 pub mod Search
+pub mod Waiting

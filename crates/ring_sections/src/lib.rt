@@ -13,7 +13,7 @@ mod search;
 mod standing;
 mod train_set;
 
-pub use laws::lists_just_the_rings;
+pub use laws::{lists_just_the_rings, ring_sections_lose_nothing};
 pub use marking::mark_rings;
 pub use refused::Rings;
 pub use ring::Ring;

@@ -13,7 +13,8 @@ use Rattle.section_repair.specs.declared.repaired.Repair.TheVariants.{Done}
 use Rattle.section_repair.specs.Claims.{IsApart, ForbidsOnlyIncompletable, IsExact, HasShare, StandAlike, DoomsAlike, WaitsFor, IsClosed}
 use Rattle.section_repair.specs.Core.{smallest}
 use Rattle.section_repair.specs.Joining.{settled}
-use Rattle.section_repair.proofs.RepairRows.{two_apart, starts, mended, certificate, done, dead, passing, passing_starts, completable}
+use Rattle.forbidden_states.proofs.Apart.{two_apart}
+use Rattle.section_repair.proofs.RepairRows.{starts, mended, certificate, done, dead, passing, passing_starts, completable}
 use Rattle.section_repair.proofs.Kept.{is_exact}
 use Rattle.section_repair.proofs.Samples.{stay, long, head_on, follower}
 

@@ -2,27 +2,16 @@
 use Rattle.std.specs.Prelude.{IsTrue, ◌≡◌, ◌≢◌, ◌⊎◌, ◌↔◌, ℕ, ◌<◌, ◌≤◌, pos, ◌<ℤ◌, List, []}
 use Rattle.rail_model.specs.declared.types.Ask.TheVariants.{Occupied, Full}
 use Rattle.rail_model.specs.Table.{Table, Mission, IsTable, trains, last, place, share}
-use Rattle.rail_model.specs.State.{Legal, Arrived}
-use Rattle.rail_model.specs.Move.{Run, IsOver, Answers}
-use Rattle.forbidden_states.specs.Forbid.{Stay, unmarked, marked}
+use Rattle.rail_model.specs.State.{Legal}
+use Rattle.rail_model.specs.Move.{Answers}
+use Rattle.forbidden_states.specs.Forbid.{Stay, marked}
+pub use Rattle.forbidden_states.specs.Completing.{Completable, IsApart, ForbidsOnlyIncompletable}
 use Rattle.legal_state.specs.declared.judges.Illegal.TheVariants.{Over}
 use Rattle.legal_state.specs.Illegal.{IsIllegal}
 use Rattle.section_repair.specs.declared.repaired.Repair.{Repair}
 use Rattle.section_repair.specs.declared.repaired.Repair.TheVariants.{Done, Spent, Rounds, Many}
 use Rattle.section_repair.specs.Core.{waits_for, has, closure}
 use Rattle.section_repair.specs.Repairs.{Treats, Repairs}
-
--- Under the missions alone some run leads from the state to an arrived one.
-abbrev pub Completable : List Mission → List ℕ → Type 0
-Completable M p = (l : List ℕ) × (q : List ℕ) × Run (unmarked M) p l q × Arrived (unmarked M) q
-
--- One position per train, in range, and no two trains at one point.
-abbrev pub IsApart : List Mission → List ℕ → Type 0
-IsApart M p = Legal (unmarked M) p
-
--- A state with distinct points that is over a section of the table can't be completed.
-abbrev pub ForbidsOnlyIncompletable : List Mission → Table → Type 0
-ForbidsOnlyIncompletable M T = (p : List ℕ) (s : ℕ) → IsApart M p → IsOver T p s → Completable M p → ⊥
 
 -- the table that a repair reached
 abbrev pub table_of : Repair → Table

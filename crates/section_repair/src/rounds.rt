@@ -1,12 +1,12 @@
 // The rounds of a repair.
-ghost use Rattle.std.specs.Prelude.{◌≡◌, ◌+◌, ◌≤◌, ℕ, IfOk, length};
+ghost use Rattle.std.specs.Prelude.{◌≡◌, ◌+◌, ◌≤◌, ℕ, IfOk, OnOk, length};
 ghost use Rattle.rail_model.specs.State.{Legal};
 ghost use Rattle.cert_maker.specs.Draft.{IsDraft};
 ghost use Rattle.cert_maker.specs.Rule.{Makes};
 ghost use Rattle.cert_maker.specs.declared.made.Made.TheVariants.{Stuck as stuck_at};
 ghost use Rattle.forbidden_states.specs.Forbid.{marked as marked_of};
 ghost use Rattle.section_repair.specs.Repairs.{treated as treated_of, Repairs};
-ghost use Rattle.section_repair.specs.Rounds.{IsUnderWay, LeadsOn};
+ghost use Rattle.section_repair.specs.Rounds.{IsAfter, IsUnderWay, LeadsOn};
 ghost use Rattle.section_repair.specs.Claims.{LosesNothing, IsExact, DoomsAlike};
 
 use crate::Repair;
@@ -38,13 +38,12 @@ fn treated(
 }
 
 // A round under a budget: the sections so far and their table, after `used` states were treated; and the table of the
-// round before, with what is left of its nodes.
+// round before.
 #[derive(Drop)]
 struct Round {
     sections: Vec<Stays>,
     table: Table,
     former: Table,
-    draft: Draft,
     budget: u32,
     used: u32,
 }
@@ -56,8 +55,8 @@ enum Turn {
     End(Repair),
 }
 
-// The first round, of no sections. No nodes are left of a round before. Two tables are there at a time, this one and the
-// former, and they take turns with two lists of the missions: these, and the only copy of them.
+// The first round, of no sections. Two tables are there at a time, this one and the former, and they take turns with two
+// lists of the missions: these, and the only copy of them.
 fn first_round(alloc: Global, missions: Missions, budget: u32) -> Result<Round, AllocError>
     ensures under_way { IfOk result (IsUnderWay missions) }
     ensures budget { IfOk result (λ round. round.budget ≡ budget) }
@@ -66,32 +65,24 @@ fn first_round(alloc: Global, missions: Missions, budget: u32) -> Result<Round, 
     let sections = Vec::new(alloc);
     let table = marked(alloc, missions, &sections)?;
     let former = copy_table(alloc, &table)?;
-    let draft = Draft::empty(alloc, &former)?;
     Ok(Round {
         sections,
         table,
         former,
-        draft,
         budget,
         used: 0,
     })
 }
 
-// What a round leads to that found this stuck state, with the nodes that are left of its table. The next table has the
-// missions of the former one, which isn't read any more.
-fn treat(
-    alloc: Global,
-    round: Round,
-    draft: Draft,
-    at: State,
-    rounds: u32,
-) -> Result<Turn, AllocError>
+// What a round leads to that found this stuck state. The next table has the missions of the former one, which isn't read
+// any more.
+fn treat(alloc: Global, round: Round, at: State, rounds: u32) -> Result<Turn, AllocError>
     requires under_way { IsUnderWay round.table.missions round }
     requires within { round.used ≤ rounds }
     requires stuck { Makes round.table round.budget (stuck_at at) }
     requires legal { Legal round.table at }
-    requires draft { IsDraft round.table draft }
-    ensures { IfOk result (LeadsOn round.table.missions round.budget rounds round.used) }
+    ensures turn { IfOk result (LeadsOn round.table.missions round.budget rounds round.used) }
+    ensures former { IfOk result (IsAfter round.table) }
 {
     let Round {
         sections,
@@ -99,7 +90,6 @@ fn treat(
         former,
         budget,
         used,
-        ..
     } = round;
     if used == rounds {
         return Ok(Turn::End(Repair::Rounds { table, rounds, at }));
@@ -114,27 +104,31 @@ fn treat(
         sections,
         table: next,
         former: table,
-        draft,
         budget,
         used: used + 1,
     }))
 }
 
-// Plays a round: a certificate, the budget, the rounds or the room end it, or it treats one more state.
-fn play(alloc: Global, round: Round, rounds: u32) -> Result<Turn, AllocError>
+// Plays a round: a certificate, the budget, the rounds or the room end it, or it treats one more state. The draft is of
+// the former table, and then of the round's.
+fn play(alloc: Global, round: Round, draft: &mut Draft, rounds: u32) -> Result<Turn, AllocError>
     requires some { 1 ≤ round.budget }
     requires most { round.budget ≤ 1000000 }
     requires under_way { IsUnderWay round.table.missions round }
+    requires draft { IsDraft round.former draft.old }
     requires within { round.used ≤ rounds }
-    ensures { IfOk result (LeadsOn round.table.missions round.budget rounds round.used) }
+    ensures turn { IfOk result (LeadsOn round.table.missions round.budget rounds round.used) }
+    ensures former { IfOk result (IsAfter round.table) }
+    ensures draft { OnOk result (IsDraft round.table draft.new) }
 {
-    let Remade { made, draft } = remake(
+    let Remade { made, draft: left } = remake(
         alloc,
         &round.table,
         round.budget,
         &round.former,
-        &round.draft,
+        draft,
     )?;
+    *draft = left;
     match made {
         Made::Cert(cert) => Ok(Turn::End(Repair::Done {
             table: round.table,
@@ -145,7 +139,7 @@ fn play(alloc: Global, round: Round, rounds: u32) -> Result<Turn, AllocError>
             table: round.table,
             nodes,
         })),
-        Made::Stuck(at) => treat(alloc, round, draft, at, rounds),
+        Made::Stuck(at) => treat(alloc, round, at, rounds),
     }
 }
 
@@ -156,8 +150,9 @@ fn answer(alloc: Global, missions: Missions, budget: u32, rounds: u32) -> Result
     ensures { IfOk result (Repairs missions budget rounds) }
 {
     let mut round = first_round(alloc, missions, budget)?;
+    let mut draft = Draft::empty(alloc, &round.former)?;
     loop {
-        match play(alloc, round, rounds)? {
+        match play(alloc, round, &mut draft, rounds)? {
             Turn::End(repair) => return Ok(repair),
             Turn::Next(next) => round = next,
         }

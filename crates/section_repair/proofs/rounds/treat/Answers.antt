@@ -16,8 +16,8 @@ marked-requires-clause-stays c =
     subst (λ (l : List (List Stay)). All (AreStays (length c.into_missions.result)) l) (sym c.deref.ensures.value)
     (subst (λ (ms : List Mission). All (AreStays (length ms)) sections) (sym (c.into_missions.ensures.missions ∙ c.requires.under_way.missions)) (next-stays further))
 
-pub returns : goal.returns
-returns c =
+pub returns-clause-turn : goal.returns-clause-turn
+returns-clause-turn c =
     let round = c.args.round in
     let at = c.args.at in
     let reached = c.requires.under_way.reached in
@@ -34,7 +34,6 @@ returns c =
           went_on further c.in_ok-next.next (omega (arith, c.len.ensures, c.if-len-gt-MOST_SECTIONS.false)) made,
           omega (arith, reached.2, length-append reached.0 (at ∷ [])),
         );
-        draft = c.requires.draft;
         missions = ap (λ (t : Table). t.missions) (sym made);
         connections = ap (λ (t : Table). t.connections) reached.1.table ∙ sym (ap (λ (t : Table). t.connections) made);
       },
