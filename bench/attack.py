@@ -224,13 +224,20 @@ def filled(front, one, back):
     return front + one * count + b" " * (room - count * len(one)) + back
 
 
-def in_a_second(words, text):
-    """One run of the program that is ended after a second of processor time."""
-    return limited(words, text, CPU=1)
+def within(seconds):
+    """Runs the program, and ends it after so many seconds of processor time."""
+    return lambda words, text: limited(words, text, CPU=seconds)
+
+
+# The greatest inputs with members that are ignored, which `serde_json` reads: ten seconds of processor time each, the others have one.
+IGNORED = {
+    "one long name", "escapes", "members of one name", "members of other names", "long numbers", "many such lists", "fractions in a member",
+    "fractions with version 9",
+}
 
 
 def shapes():
-    """The greatest inputs, of every shape, in a second each."""
+    """The greatest inputs, of every shape, in a second each, or in ten."""
     first = dict(examples())["first-path"]
     open_end = first.rstrip()[:-1]
     deep = b"[" * 126 + b"]" * 126
@@ -284,9 +291,10 @@ def shapes():
     for name, text in texts.items():
         words = "verify" if "journal" in name else "check" if b'"certificate"' in text else "make"
         judge = says(lines[name]) if name in lines else lambda ran: refused(ran) or ran.code == 0
-        yield Attack(f"{name}, {len(text)} bytes, {words}", words, text, judge, PATIENCE, in_a_second)
+        run = within(10 if name in IGNORED else 1)
+        yield Attack(f"{name}, {len(text)} bytes, {words}", words, text, judge, PATIENCE, run)
         if words == "make":
-            yield Attack(f"{name}, {len(text)} bytes, check", "check", text, lambda ran: refused(ran) or ran.code == 0, PATIENCE, in_a_second)
+            yield Attack(f"{name}, {len(text)} bytes, check", "check", text, lambda ran: refused(ran) or ran.code == 0, PATIENCE, run)
 
 
 def stack():
