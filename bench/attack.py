@@ -11,7 +11,8 @@
 An attack is one run of the program. It is *refused* where the exit code isn't 0, standard output has nothing, and standard error has one
 line, whose number belongs to the exit code. It is *right* where the answer is the one that was wanted, or where a run's journal is legal
 by a plain model of its own (model.py). All else is *wrong*, and is printed: another answer, a crash, a run that takes too long, which for
-the greatest inputs is more than a second of processor time. Faults of single calls come from a library, faults.c, which gcc compiles and which is loaded before the C
+the greatest inputs is more than a second of processor time, or ten if `serde_json` reads it. Faults of single calls come from a library,
+faults.c, which gcc compiles and which is loaded before the C
 library; the table shows how many runs there were.
 """
 import argparse
