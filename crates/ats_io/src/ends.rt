@@ -16,9 +16,6 @@ pub trait Source {
     /// How often the source has failed.
     ghost faults: { Self → ℕ };
 
-    /// The numbers of the calls that are to fail, where the source tells them.
-    ghost planned: { Self → Option (List ℕ) };
-
     /// Puts the next bytes at the front of `buf`, and says how many they are. `Ok(0)` for a `buf` that
     /// isn't empty is the end of the input. A read that fails takes no byte.
     fn read(&mut self, buf: &mut [u8]) -> Result<usize, Failed>
@@ -29,8 +26,7 @@ pub trait Source {
         ensures none_taken { OnErr result (Keeps (left self.old) (left self.new)) }
         ensures cause { OnErr result (Rose (faults self.old) (faults self.new)) }
 
-        ensures never_falls { faults self.old ≤ faults self.new }
-        ensures same_plan { planned self.new ≡ planned self.old };
+        ensures never_falls { faults self.old ≤ faults self.new };
 }
 
 /// Takes bytes, a piece at a time.
@@ -40,9 +36,6 @@ pub trait Sink {
 
     /// How often the sink has failed.
     ghost faults: { Self → ℕ };
-
-    /// The numbers of the calls that are to fail, where the sink tells them.
-    ghost planned: { Self → Option (List ℕ) };
 
     /// Takes the first bytes of `piece`, and says how many they are: at least one, unless it is empty.
     /// A write that fails takes no byte.
@@ -54,6 +47,5 @@ pub trait Sink {
         ensures none_taken { OnErr result (Adds (taken self.old) (taken self.new) []) }
         ensures cause { OnErr result (Rose (faults self.old) (faults self.new)) }
 
-        ensures never_falls { faults self.old ≤ faults self.new }
-        ensures same_plan { planned self.new ≡ planned self.old };
+        ensures never_falls { faults self.old ≤ faults self.new };
 }

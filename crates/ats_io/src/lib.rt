@@ -10,7 +10,7 @@ mod writing;
 
 pub use ends::{Failed, Sink, Source};
 pub use gate::{Gate, Moment, NoGate};
-pub use memory::{MemSink, MemSource, SINK_ROOM, SureSink, SureSource};
+pub use memory::{Fails, MemSink, MemSource, SINK_ROOM, SureSink, SureSource};
 pub use reading::Reading;
 pub use whole::{ReadAll, WriteFault, read_all, write_all};
 pub use writing::Writing;

@@ -6,6 +6,7 @@ mod sinks;
 mod sources;
 mod stock;
 
+pub use plan::Fails;
 pub use room::SINK_ROOM;
 pub use sinks::{MemSink, SureSink};
 pub use sources::{MemSource, SureSource};

@@ -35,8 +35,6 @@ impl<R: Read> Source for Reading<R> {
 
     ghost faults = { λ s. s.faults };
 
-    ghost planned = { λ _. None };
-
     /// Hands one read on to the reader.
     fn read(&mut self, buf: &mut [u8]) -> Result<usize, Failed>
         ensures within { IfOk result (λ count. count ≤ length buf.new) }

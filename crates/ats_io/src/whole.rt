@@ -56,7 +56,6 @@ pub fn read_all<S: Source>(alloc: Global, source: &mut S, limit: usize) -> Resul
     // Whatever the answer is.
     ensures at_most { ConsumesAtMost (limit + 1) (S.left source.old) (S.left source.new) }
     ensures never_falls { S.faults source.old ≤ S.faults source.new }
-    ensures same_plan { S.planned source.new ≡ S.planned source.old }
 {
     let mut bytes = Vec::new(alloc);
     let mut piece = [0u8; 4096];
@@ -85,7 +84,6 @@ pub fn write_all<K: Sink>(sink: &mut K, bytes: &[u8]) -> Result<(), WriteFault>
     // Whatever the answer is.
     ensures prefix { AddsPrefix (K.taken sink.old) (K.taken sink.new) bytes.now }
     ensures never_falls { K.faults sink.old ≤ K.faults sink.new }
-    ensures same_plan { K.planned sink.new ≡ K.planned sink.old }
 {
     let mut done = 0;
     while done < bytes.len() {

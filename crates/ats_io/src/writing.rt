@@ -36,8 +36,6 @@ impl<W: Write> Sink for Writing<W> {
 
     ghost faults = { λ s. s.faults };
 
-    ghost planned = { λ _. None };
-
     /// Hands one write on to the writer, and flushes it.
     fn write(&mut self, piece: &[u8]) -> Result<usize, Failed>
         ensures within { IfOk result (λ count. count ≤ length piece.now) }

@@ -20,20 +20,16 @@ use Rattle.ats_rows.specs.Calls.{IsPlayed}
 risen : (before now : ℕ) → before ≡ 0 → Rose before now → 0 < now
 risen before now new rose = omega (arith, new, rose)
 
-same_plan : (fails planned : List ℕ) → Some planned ≡ Some fails → planned ≡ fails
-same_plan fails planned same = cc
-
 -- a source whose count rose has made a read that was to fail
-pub source_failed : (before now calls told : ℕ) (fails planned : List ℕ) → before ≡ 0 → Some planned ≡ Some fails → told ≡ calls
-    → (0 < now → HasMade planned calls) → Rose before now → HasMade fails told
-source_failed before now calls told fails planned new same counted made rose =
-    subst (λ n. HasMade fails n) (sym counted) (subst (λ (xs : List ℕ). HasMade xs calls) (same_plan fails planned same) (made (risen before now new rose)))
+pub source_failed : (before now calls told : ℕ) (fails : List ℕ) → before ≡ 0 → told ≡ calls
+    → (0 < now → HasMade fails calls) → Rose before now → HasMade fails told
+source_failed before now calls told fails new counted made rose = subst (HasMade fails) (sym counted) (made (risen before now new rose))
 
 -- so has a sink, or it is full
-pub sink_failed : (before now calls told : ℕ) (fails planned taken written : List ℕ) → before ≡ 0 → Some planned ≡ Some fails → told ≡ calls → written ≡ taken
-    → (0 < now → HasMade planned calls ⊎ IsFull taken) → Rose before now → HasMade fails told ⊎ IsFull written
-sink_failed before now calls told fails planned taken written new same counted copied made rose = elim (made (risen before now new rose)) [
-  | inl one ↦ inl (source_failed before now calls told fails planned new same counted (λ _. one) rose)
+pub sink_failed : (before now calls told : ℕ) (fails taken written : List ℕ) → before ≡ 0 → told ≡ calls → written ≡ taken
+    → (0 < now → HasMade fails calls ⊎ IsFull taken) → Rose before now → HasMade fails told ⊎ IsFull written
+sink_failed before now calls told fails taken written new counted copied made rose = elim (made (risen before now new rose)) [
+  | inl one ↦ inl (subst (HasMade fails) (sym counted) one)
   | inr full ↦ inr (subst IsFull (sym copied) full)
 ]
 
@@ -88,13 +84,10 @@ module _ (asked : Option Order) (held : Option (List ℕ)) (E S K E' S' K' : Typ
 pub told_nothing : (old now told : Option (List ℕ)) → old ≡ Some [] → told ≡ now → Adds old now [] → Adds (Some []) told []
 told_nothing old now told none same h = same_adds old (Some []) now told [] none same h
 
--- what is said of a call's devices is said of what they are made of
-pub played_by : {E : Type 0} (result : Result Played E) (line : List Text) (left read written input reads writes : List ℕ)
-    → left ≡ input → read ≡ reads → written ≡ writes → IfOk result (IsPlayed line left read written) → IfOk result (IsPlayed line input reads writes)
-played_by result line left read written input reads writes all reading writing h =
-    subst (λ (w : List ℕ). IfOk result (IsPlayed line input reads w)) writing
-    (subst (λ (r : List ℕ). IfOk result (IsPlayed line input r written)) reading
-    (subst (λ (i : List ℕ). IfOk result (IsPlayed line i read written)) all h))
+-- what is said of a call on what its source held is said of it on the input
+pub played_by : {E : Type 0} (result : Result Played E) (line : List Text) (left input reads writes : List ℕ) → left ≡ input
+    → IfOk result (IsPlayed line left reads writes) → IfOk result (IsPlayed line input reads writes)
+played_by result line left input reads writes all h = subst (λ (i : List ℕ). IfOk result (IsPlayed line i reads writes)) all h
 
 -- a count of 0 that is still 0 hasn't risen
 pub never_rises : Rose 0 0 → ⊥

@@ -2,9 +2,10 @@
 ghost use Rattle.std.specs.Prelude.{◌≡◌, ◌<◌, [], Some, IfOk, map, option_map, string_bytes};
 ghost use Rattle.ats_rows.specs.Calls.{IsPlayed};
 
-use ats_io::{Gate, MemSink, MemSource, SureSink};
+use ats_io::{Fails, Gate, MemSink, MemSource, SureSink};
 use ats_run::{Status, ats};
 use std::alloc::{AllocError, Global};
+use std::marker::Brand;
 use std::sync::Wait;
 use std::thread::Threads;
 
@@ -46,12 +47,12 @@ fn copied_of(alloc: Global, sink: &SureSink) -> Result<Option<Vec<u8>>, AllocErr
 }
 
 // The program called over these devices, which are new.
-fn play_on<R: Threads + Wait + Sync, G: Gate>(
+fn play_on<R: Threads + Wait + Sync, G: Gate, S: Fails, K: Fails>(
     rt: &R,
     alloc: Global,
     line: &[String],
-    source: &mut MemSource,
-    out: &mut MemSink,
+    source: &mut MemSource<S>,
+    out: &mut MemSink<K>,
     err: &mut SureSink,
     gate: &G,
 ) -> Result<Played, AllocError>
@@ -59,7 +60,7 @@ fn play_on<R: Threads + Wait + Sync, G: Gate>(
     requires sink { out.old.plan.faults ≡ 0 }
     requires written { out.old.taken ≡ [] }
     requires told { err.old ≡ Some [] }
-    ensures { IfOk result (IsPlayed (map string_bytes line.now) source.old.left source.old.plan.fails out.old.plan.fails) }
+    ensures { IfOk result (IsPlayed (map string_bytes line.now) source.old.left S.numbers K.numbers) }
 {
     let status = ats(rt, alloc, line, source, out, err, gate);
     Ok(Played {
@@ -70,6 +71,26 @@ fn play_on<R: Threads + Wait + Sync, G: Gate>(
         reads: source.calls(),
         writes: out.calls(),
     })
+}
+
+// The program called over new devices, of which these calls fail.
+fn play_by<R: Threads + Wait + Sync, G: Gate, S: Fails, K: Fails>(
+    rt: &R,
+    alloc: Global,
+    line: &[String],
+    input: Vec<u8>,
+    faults: Faults<'_>,
+    gate: &G,
+) -> Result<Played, AllocError>
+    requires most { 0 < faults.most }
+    requires reads { faults.reads.now ≡ S.numbers }
+    requires writes { faults.writes.now ≡ K.numbers }
+    ensures { IfOk result (IsPlayed (map string_bytes line.now) input.items S.numbers K.numbers) }
+{
+    let mut source = MemSource::<S>::new(input, faults.most, faults.reads.to_vec(alloc)?);
+    let mut out = MemSink::<K>::new(alloc, faults.most, faults.writes.to_vec(alloc)?)?;
+    let mut err = SureSink::new(alloc)?;
+    play_on(rt, alloc, line, &mut source, &mut out, &mut err, gate)
 }
 
 /// Calls the program with these words on an input in memory. Its error sink never fails. Where the words ask for
@@ -89,8 +110,5 @@ pub fn play<R: Threads + Wait + Sync, G: Gate>(
     requires { 0 < faults.most }
     ensures { IfOk result (IsPlayed (map string_bytes line.now) input.items faults.entry.reads.now faults.entry.writes.now) }
 {
-    let mut source = MemSource::new(input, faults.most, faults.reads.to_vec(alloc)?);
-    let mut out = MemSink::new(alloc, faults.most, faults.writes.to_vec(alloc)?)?;
-    let mut err = SureSink::new(alloc)?;
-    play_on(rt, alloc, line, &mut source, &mut out, &mut err, gate)
+    play_by::<R, G, Brand, Brand>(rt, alloc, line, input, faults, gate)
 }

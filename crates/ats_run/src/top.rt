@@ -34,7 +34,6 @@ fn read_input<S: Source>(alloc: Global, source: &mut S) -> Result<Vec<u8>, Failu
         (Rose (S.faults source.old) (S.faults source.new))) }
 
     ensures at_most { ConsumesAtMost (most_bytes + 1) (S.left source.old) (S.left source.new) }
-    ensures same_plan { S.planned source.new ≡ S.planned source.old }
 {
     match read_all(alloc, source, MOST_BYTES) {
         Ok(bytes) => Ok(bytes),
@@ -61,7 +60,6 @@ fn input_of<S: Source>(alloc: Global, order: Order, source: &mut S) -> Result<Ve
 
     ensures untouched { (Reads order → ⊥) → source.new ≡ source.old }
     ensures at_most { ConsumesAtMost (most_bytes + 1) (S.left source.old) (S.left source.new) }
-    ensures same_plan { S.planned source.new ≡ S.planned source.old }
 {
     if is_reading(order) {
         read_input(alloc, source)
@@ -76,8 +74,6 @@ fn write_text<K: Sink>(text: &[u8], out: &mut K) -> Result<(), Failure>
 
     ensures failed { IfErr result (λ e. (e ≡ Failure.WriteFault) × Rose (K.faults out.old) (K.faults out.new)) }
     ensures prefix { AddsPrefix (K.taken out.old) (K.taken out.new) text.now }
-
-    ensures same_plan { K.planned out.new ≡ K.planned out.old }
 {
     match write_all(out, text) {
         Ok(()) => Ok(()),
@@ -112,8 +108,6 @@ pub fn serve_alone<S: Source, K: Sink>(
 
     ensures untouched { (Reads order → ⊥) → source.new ≡ source.old }
     ensures at_most { ConsumesAtMost (most_bytes + 1) (S.left source.old) (S.left source.new) }
-    ensures same_plans { (S.planned source.new ≡ S.planned source.old)
-        × (K.planned out.new ≡ K.planned out.old) }
 {
     let input = input_of(alloc, order, source)?;
     let text = answer_alone(rt, alloc, order, &input)?;
@@ -142,8 +136,6 @@ fn serve_any<S: Source, K: Sink, R: Threads + Wait + Sync, G: Gate>(
 
     ensures untouched { (Reads order → ⊥) → source.new ≡ source.old }
     ensures at_most { ConsumesAtMost (most_bytes + 1) (S.left source.old) (S.left source.new) }
-    ensures same_plans { (S.planned source.new ≡ S.planned source.old)
-        × (K.planned out.new ≡ K.planned out.old) }
 {
     if crew_of(order).workers == 0 {
         return serve_alone(rt, alloc, order, source, out);
@@ -174,8 +166,6 @@ fn serve_words<S: Source, K: Sink, R: Threads + Wait + Sync, G: Gate>(
 
     ensures untouched { IfSome (asked line.now) (λ order. Reads order → ⊥) → source.new ≡ source.old }
     ensures at_most { ConsumesAtMost (most_bytes + 1) (S.left source.old) (S.left source.new) }
-    ensures same_plans { (S.planned source.new ≡ S.planned source.old)
-        × (K.planned out.new ≡ K.planned out.old) }
 {
     match words(alloc, line) {
         Ok(order) => serve_any(rt, alloc, order, source, out, gate),
@@ -276,10 +266,6 @@ pub fn ats<S: Source, K: Sink, E: Sink, R: Threads + Wait + Sync, G: Gate>(
     // The source isn't touched where the words are refused or what they ask for reads nothing.
     ensures untouched { IfSome (asked line.now) (λ order. Reads order → ⊥) → source.new ≡ source.old }
     ensures at_most { ConsumesAtMost (most_bytes + 1) (S.left source.old) (S.left source.new) }
-
-    // The plan of each device, by which its calls fail, stays.
-    ensures same_plans { (S.planned source.new ≡ S.planned source.old)
-        × (K.planned out.new ≡ K.planned out.old) }
 {
     match serve_words(rt, alloc, line, source, out, gate) {
         Ok(()) => Status::Done,

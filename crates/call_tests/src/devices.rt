@@ -5,6 +5,7 @@ use ats_io::{
 use std::alloc::Global;
 use std::io;
 use std::io::{ErrorKind, Read, Write};
+use std::marker::Brand;
 use std::test::Fail;
 
 // The journal of the first path, 49 bytes.
@@ -19,7 +20,7 @@ fn many(alloc: Global) -> Result<Vec<u8>, Fail> {
 }
 
 // Whether a sink takes these bytes, and then no more.
-fn is_filled(sink: &mut MemSink, bytes: &[u8]) -> bool {
+fn is_filled(sink: &mut MemSink<Brand>, bytes: &[u8]) -> bool {
     write_all(sink, bytes).is_ok() && sink.bytes() == bytes && write_all(sink, b"8").is_err()
 }
 
@@ -27,7 +28,7 @@ fn is_filled(sink: &mut MemSink, bytes: &[u8]) -> bool {
 fn a_sink_that_fails_has_its_room(rt: HostRuntime) -> Result<(), Fail> {
     let alloc = rt.alloc();
     let bytes = many(alloc)?;
-    let mut sink = MemSink::new(alloc, 1_000_000, Vec::new(alloc))?;
+    let mut sink = MemSink::<Brand>::new(alloc, 1_000_000, Vec::new(alloc))?;
     assert!(rt; is_filled(&mut sink, &bytes));
     Ok(())
 }

@@ -1,8 +1,18 @@
 // Which calls fail.
-ghost use Rattle.std.specs.Prelude.{◌≡◌, ◌≤◌, ◌↔◌, Contains, IsTrue};
+ghost use Rattle.std.specs.Prelude.{◌≡◌, ◌≤◌, ◌↔◌, [], ℕ, List, Contains, IsTrue};
 ghost use Rattle.ats_io.specs.Memory.{Plan as Plan_value, starting, after_pass, after_fault};
 
-use std::marker::Model;
+use std::marker::{Brand, Model};
+
+/// The numbers of the calls, from 0, that fail of a device in memory. They belong to its type, so they stay as they are whoever calls it.
+pub trait Fails {
+    ghost numbers: { List ℕ };
+}
+
+/// No call fails, unless a proof picks others.
+impl Fails for Brand {
+    ghost numbers = { [] };
+}
 
 /// The numbers of the calls that fail, the number of the next call, and how many have failed.
 #[derive(Drop)]

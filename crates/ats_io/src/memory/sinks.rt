@@ -2,39 +2,42 @@
 ghost use Rattle.std.specs.Prelude.{◌≡◌, ◌⊎◌, ◌≤◌, ◌<◌, ◌-◌, ◌++◌, ◌↔◌, [], ℕ, List, length, take, min, Option, Some, None, Ok, IfOk, OnErr, IsErr, MatchOption, if◌then◌else◌};
 ghost use Rattle.ats_io.specs.Memory.{Store, MustFail, HasMade, IsFull, starting, after_pass, after_fault, told_after};
 
-use super::plan::Plan;
+use super::plan::{Fails, Plan};
 use super::room::{Room, SINK_ROOM};
 use crate::{Failed, Sink};
 use std::alloc::{AllocError, Global};
-use std::marker::Model;
+use std::marker::{Model, PhantomData};
 
 /// A sink in memory that tells what it took. It takes at most `most` bytes a call, fails at the calls
 /// whose numbers, from 0, are in a list, and where its room of 1,048,576 bytes is full.
 #[derive(Drop)]
-pub struct MemSink {
+pub struct MemSink<P: Fails> {
     room: Room,
     most: usize,
     plan: Plan,
+    of: PhantomData<P>,
 }
 
-impl Model for MemSink {
+impl<P: Fails> Model for MemSink<P> {
     ghost Value = { Store };
 
     ghost view = { λ s. record { taken = s.room; most = s.most; plan = s.plan } };
 
-    ghost invariant = { λ s. (0 < s.most) × (0 < s.plan.faults → HasMade s.plan.fails s.plan.call ⊎ IsFull s.room) };
+    ghost invariant = { λ s. (0 < s.most) × (s.plan.fails ≡ P.numbers) × (0 < s.plan.faults → HasMade s.plan.fails s.plan.call ⊎ IsFull s.room) };
 }
 
-impl MemSink {
+impl<P: Fails> MemSink<P> {
     /// An empty sink that takes at most `most` bytes a call and fails at the calls `fails`.
     pub fn new(alloc: Global, most: usize, fails: Vec<u64>) -> Result<Self, AllocError>
-        requires { 0 < most }
+        requires most { 0 < most }
+        requires plan { fails.items ≡ P.numbers }
         ensures { IfOk result (λ sink. sink ≡ record { taken = []; most = most; plan = starting fails.items }) }
     {
         Ok(MemSink {
             room: Room::new(alloc)?,
             most,
             plan: Plan::new(fails),
+            of: PhantomData,
         })
     }
 
@@ -48,18 +51,16 @@ impl MemSink {
     /// How many calls there were.
     pub fn calls(&self) -> u64
         ensures count { result ≡ self.now.plan.call }
-        ensures failed { 0 < self.now.plan.faults → HasMade self.now.plan.fails self.now.plan.call ⊎ IsFull self.now.taken }
+        ensures failed { 0 < self.now.plan.faults → HasMade P.numbers self.now.plan.call ⊎ IsFull self.now.taken }
     {
         self.plan.call()
     }
 }
 
-impl Sink for MemSink {
+impl<P: Fails> Sink for MemSink<P> {
     ghost taken = { λ s. Some s.taken };
 
     ghost faults = { λ s. s.plan.faults };
-
-    ghost planned = { λ s. Some s.plan.fails };
 
     fn write(&mut self, piece: &[u8]) -> Result<usize, Failed>
         ensures fails { IsErr result ↔ MustFail self.old piece.now }
@@ -71,7 +72,6 @@ impl Sink for MemSink {
         ensures err { OnErr result (self.new ≡ record self.old { plan = after_fault self.old.plan }) }
 
         ensures never_falls { self.old.plan.faults ≤ self.new.plan.faults }
-        ensures same_plan { self.new.plan.fails ≡ self.old.plan.fails }
     {
         let free = self.room.free();
         let is_full = free == 0 && !piece.is_empty();
@@ -127,8 +127,6 @@ impl Sink for SureSink {
     ghost taken = { λ s. s };
 
     ghost faults = { λ _. 0 };
-
-    ghost planned = { λ _. Some [] };
 
     fn write(&mut self, piece: &[u8]) -> Result<usize, Failed>
         ensures all { result ≡ Ok (length piece.now) }

@@ -2,38 +2,41 @@
 ghost use Rattle.std.specs.Prelude.{◌≡◌, ◌≤◌, ◌<◌, ◌++◌, ◌↔◌, [], ℕ, List, length, take, min, Some, Ok, Contains, IfOk, OnErr, IsErr};
 ghost use Rattle.ats_io.specs.Memory.{Supply, HasMade, starting, after_pass, after_fault};
 
-use super::plan::Plan;
+use super::plan::{Fails, Plan};
 use super::stock::Stock;
 use crate::{Failed, Source};
-use std::marker::Model;
+use std::marker::{Model, PhantomData};
 
 /// A source over bytes in memory that tells them. It gives at most `most` bytes a call, and the calls
 /// whose numbers, from 0, are in a list fail.
 #[derive(Drop)]
-pub struct MemSource {
+pub struct MemSource<P: Fails> {
     stock: Stock,
     most: usize,
     plan: Plan,
+    of: PhantomData<P>,
 }
 
-impl Model for MemSource {
+impl<P: Fails> Model for MemSource<P> {
     ghost Value = { Supply };
 
     ghost view = { λ s. record { left = s.stock; most = s.most; plan = s.plan } };
 
-    ghost invariant = { λ s. (0 < s.most) × (0 < s.plan.faults → HasMade s.plan.fails s.plan.call) };
+    ghost invariant = { λ s. (0 < s.most) × (s.plan.fails ≡ P.numbers) × (0 < s.plan.faults → HasMade s.plan.fails s.plan.call) };
 }
 
-impl MemSource {
+impl<P: Fails> MemSource<P> {
     /// A source of these bytes, that gives at most `most` of them a call and fails at the calls `fails`.
     pub fn new(bytes: Vec<u8>, most: usize, fails: Vec<u64>) -> Self
-        requires { 0 < most }
+        requires most { 0 < most }
+        requires plan { fails.items ≡ P.numbers }
         ensures { result ≡ record { left = bytes.items; most = most; plan = starting fails.items } }
     {
         MemSource {
             stock: Stock::new(bytes),
             most,
             plan: Plan::new(fails),
+            of: PhantomData,
         }
     }
 
@@ -47,18 +50,16 @@ impl MemSource {
     /// How many calls there were.
     pub fn calls(&self) -> u64
         ensures count { result ≡ self.now.plan.call }
-        ensures failed { 0 < self.now.plan.faults → HasMade self.now.plan.fails self.now.plan.call }
+        ensures failed { 0 < self.now.plan.faults → HasMade P.numbers self.now.plan.call }
     {
         self.plan.call()
     }
 }
 
-impl Source for MemSource {
+impl<P: Fails> Source for MemSource<P> {
     ghost left = { λ s. Some s.left };
 
     ghost faults = { λ s. s.plan.faults };
-
-    ghost planned = { λ s. Some s.plan.fails };
 
     fn read(&mut self, buf: &mut [u8]) -> Result<usize, Failed>
         ensures fails { IsErr result ↔ Contains self.old.plan.fails self.old.plan.call }
@@ -70,7 +71,6 @@ impl Source for MemSource {
         ensures err { OnErr result (self.new ≡ record self.old { plan = after_fault self.old.plan }) }
 
         ensures never_falls { self.old.plan.faults ≤ self.new.plan.faults }
-        ensures same_plan { self.new.plan.fails ≡ self.old.plan.fails }
     {
         if self.plan.is_fault_next() {
             self.plan.fail();
@@ -115,8 +115,6 @@ impl Source for SureSource {
     ghost left = { λ s. Some s };
 
     ghost faults = { λ _. 0 };
-
-    ghost planned = { λ _. Some [] };
 
     fn read(&mut self, buf: &mut [u8]) -> Result<usize, Failed>
         ensures count { result ≡ Ok (min (length buf.new) (length self.old)) }

@@ -7,7 +7,6 @@ invariant-loop-piece g l = record {
   within : vec_len l.bytes ≤ l.limit + 1;
   read : Consumes (g.S.Source.left l.initial.source) (g.S.Source.left l.source) l.bytes.items;
   later : g.S.Source.faults l.initial.source ≤ g.S.Source.faults l.source;
-  same : g.S.Source.planned l.source ≡ g.S.Source.planned l.initial.source;
 }
 
 abbrev pub decreases-loop-piece : goal.decreases-loop-piece

@@ -14,5 +14,4 @@ loop-done-preserved g c =
       within = omega (arith, c.in-Ok.ensures.within, length-drop c.loop-done.done bytes, ap length rest);
       wrote = subst (Adds _ _) (sym (take-add c.loop-done.done c.in-Ok.count bytes)) (adds_both _ _ _ _ _ c.loop-done.invariant.wrote wrote);
       later = omega (arith, c.write.ensures.never_falls);
-      same = c.write.ensures.same_plan ∙ c.loop-done.invariant.same;
     }

@@ -7,7 +7,6 @@ invariant-loop-done g l = record {
   within : l.done ≤ length l.bytes;
   wrote : Adds (g.K.Sink.taken l.initial.sink) (g.K.Sink.taken l.sink) (take l.done l.bytes);
   later : g.K.Sink.faults l.initial.sink ≤ g.K.Sink.faults l.sink;
-  same : g.K.Sink.planned l.sink ≡ g.K.Sink.planned l.initial.sink;
 }
 
 abbrev pub decreases-loop-done : goal.decreases-loop-done

@@ -11,8 +11,8 @@ returns g c =
     let copy = c.in_ok-copied.ensures ∙ c.bytes.ensures in
     let told = c.in_ok-copied_of.ensures in
     let rest = c.in_ok-copied-2.ensures ∙ c.left.ensures in
-    let source = source_failed _ _ _ _ _ _ c.requires.source a.same_plans.0 c.calls.ensures.count c.calls.ensures.failed in
-    let sink = sink_failed _ _ _ _ _ _ _ _ c.requires.sink a.same_plans.1 c.calls-2.ensures.count copy c.calls-2.ensures.failed in
+    let source = source_failed _ _ _ _ _ c.requires.source c.calls.ensures.count c.calls.ensures.failed in
+    let sink = sink_failed _ _ _ _ _ _ _ c.requires.sink c.calls-2.ensures.count copy c.calls-2.ensures.failed in
     record {
       done = λ is. served_weaker _ _ _ _ _ _ rest (λ written. wrote _ _ _ written c.requires.written copy) (a.done is);
       quiet = λ is. told_nothing _ _ _ c.requires.told told (a.quiet is);
