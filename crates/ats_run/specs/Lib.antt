@@ -14,6 +14,7 @@ pub mod Migrating
 pub mod Orders
 pub mod Repairing
 pub mod Report
+pub mod Serving
 pub mod Simulating
 pub mod Starting
 pub mod Tasks

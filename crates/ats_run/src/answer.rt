@@ -1,7 +1,7 @@
 // What an order comes to on the bytes of its input.
-ghost use Rattle.std.specs.Prelude.{◌≡◌, ◌≤◌, ◌⊎◌, Ok, Err, MatchResult, IfOk, IfErr, length};
+ghost use Rattle.std.specs.Prelude.{◌≡◌, ◌≤◌, ◌⊎◌, Ok, Err, MatchResult, IfOk, IfErr, IfSome, IfNone, length};
 ghost use Rattle.command_words.specs.Subcommands.{HasItsNumbers};
-ghost use Rattle.shared_run.specs.Crews.{IsCrew};
+ghost use Rattle.shared_run.specs.Crews.{IsCrew, crew_of as crew_with};
 ghost use Rattle.ats_run.specs.Command.{Comes};
 ghost use Rattle.ats_run.specs.Orders.{crew_in, IsAlone};
 ghost use Rattle.ats_run.specs.Tasks.{EndsWith, RunsTrains, TaskLeads, Prints};
@@ -35,11 +35,13 @@ use std::thread::Threads;
 
 const DRILL_ROUNDS: u32 = 1000;
 
-/// Who runs the trains of an order.
-pub(crate) fn crew_of(order: Order) -> Crew
+/// The workers who run the trains of an order, if any do.
+pub(crate) fn crew_of(order: Order) -> Option<Crew>
     requires { HasItsNumbers order }
-    ensures exact { result ≡ crew_in order }
-    ensures formed { 1 ≤ result.workers → IsCrew result }
+    ensures crew { IfSome result (λ crew. crew ≡ crew_in order) }
+    ensures formed { IfSome result IsCrew }
+
+    ensures alone { IfNone result (IsAlone order) }
 {
     match order {
         Order::Run {
@@ -51,22 +53,26 @@ pub(crate) fn crew_of(order: Order) -> Crew
             workers,
             rounds,
             block,
-        } => Crew {
-            workers,
-            rounds,
-            block,
-        },
-        Order::Drill { workers, .. } => Crew {
-            workers,
-            rounds: DRILL_ROUNDS,
-            block: 1,
-        },
-        _ => Crew {
-            workers: 0,
-            rounds: 0,
-            block: 1,
-        },
+        } => some_crew(workers, rounds, block),
+        Order::Drill { workers, .. } => some_crew(workers, DRILL_ROUNDS, 1),
+        _ => None,
     }
+}
+
+// This many workers, if there are any.
+fn some_crew(workers: u32, rounds: u32, block: u32) -> Option<Crew>
+    ensures crew { IfSome result (λ crew. (crew ≡ crew_with workers rounds block) × (1 ≤ workers)) }
+
+    ensures none { IfNone result (workers ≡ 0) }
+{
+    if workers == 0 {
+        return None;
+    }
+    Some(Crew {
+        workers,
+        rounds,
+        block,
+    })
 }
 
 // What is left to do of an order that runs trains.
@@ -129,19 +135,19 @@ fn end_by<R: Threads + Wait + Sync, G: Gate>(
     rt: &R,
     alloc: Global,
     order: Order,
+    crew: Crew,
     checked: &Checked,
     from: PlainState,
     gate: &G,
 ) -> Result<Vec<u8>, Failure>
-    requires numbers { HasItsNumbers order }
-    requires workers { 1 ≤ (crew_in order).workers }
+    requires crew { crew ≡ crew_in order }
+    requires formed { IsCrew crew }
     requires tables { checked.now.tables.items ≡ offers_of checked.now.doc }
     requires keeps { Keeps (offers_of checked.now.doc) from.yard from.lines }
     requires few { length checked.now.certs.items ≤ 16 }
     ensures ends { IfOk result (λ text. EndsWith order checked.now.doc checked.now.certs.items from text.items) }
     ensures memory { IfErr result (λ e. e ≡ NoMemory) }
 {
-    let crew = crew_of(order);
     let end = finish_by(rt, alloc, &checked.doc, &checked.tables, from, crew, gate)?;
     Ok(print(alloc, order, checked, end)?)
 }
@@ -170,16 +176,18 @@ pub(crate) fn answer_by<R: Threads + Wait + Sync, G: Gate>(
     rt: &R,
     alloc: Global,
     order: Order,
+    crew: Crew,
     input: &[u8],
     gate: &G,
 ) -> Result<Vec<u8>, Failure>
     requires numbers { HasItsNumbers order }
-    requires workers { 1 ≤ (crew_in order).workers }
+    requires crew { crew ≡ crew_in order }
+    requires formed { IsCrew crew }
     ensures { MatchResult result (λ text. Comes order input.now (Ok text.items))
         (λ e. (e ≡ NoMemory) ⊎ Comes order input.now (Err e)) }
 {
     match begin_task(rt, alloc, order, input)? {
-        Task::Goes { checked, from } => end_by(rt, alloc, order, &checked, from, gate),
+        Task::Goes { checked, from } => end_by(rt, alloc, order, crew, &checked, from, gate),
         Task::Printed(text) => Ok(text),
     }
 }

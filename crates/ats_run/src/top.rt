@@ -1,5 +1,5 @@
 // The top call.
-ghost use Rattle.std.specs.Prelude.{◌≡◌, ◌≢◌, ◌+◌, ◌⊎◌, ◌≤◌, ℕ, [], IfSome, IfOk, IfErr, OnOk, Some, Err, IsTrue, ◌↔◌, length};
+ghost use Rattle.std.specs.Prelude.{◌≡◌, ◌≢◌, ◌+◌, ◌⊎◌, ◌≤◌, ℕ, [], IfSome, IfOk, IfErr, OnOk, IsOkAnd, IsErrAnd, Some, IsTrue, ◌↔◌, length};
 ghost use Rattle.std.specs.Io.KnownBytes.{IsAtEnd};
 ghost use Rattle.ats_io.specs.Bytes.{Adds, AddsPrefix, ConsumesAtMost};
 ghost use Rattle.ats_io.specs.Faults.{Rose};
@@ -7,11 +7,12 @@ ghost use Rattle.command_words.specs.Subcommands.{HasItsNumbers};
 ghost use Rattle.command_words.specs.declared.orders.Order.{Order as OrderValue};
 ghost use Rattle.command_words.specs.declared.orders.Order.TheVariants.{Run};
 ghost use Rattle.ats_run.specs.Calls.{asked, OnDone, OnRun, OnDrill, OnGoodInput, Wrote, WroteFor, WroteDocument, IsRunOf, IsRoundRobinOf};
-ghost use Rattle.ats_run.specs.Causes.{call_of, IsReadWhole, IsServed, IsCause, IsUnread, TellsCause, most_bytes};
+ghost use Rattle.ats_run.specs.Causes.{call_of, IsReadWhole, IsServed, IsUnread, TellsCause, most_bytes};
 ghost use Rattle.ats_run.specs.Command.{IsRunInput, IsAnyDrill};
 ghost use Rattle.ats_run.specs.Complete.{IsDoneOrMemory};
 ghost use Rattle.ats_run.specs.Orders.{Reads, OnInput, IsAlone};
 ghost use Rattle.ats_run.specs.Report.{line_of as line_of_failure, IsLineMade};
+ghost use Rattle.ats_run.specs.Serving.{Serves, source_seen, sink_seen};
 
 use crate::answer::{answer_alone, answer_by, crew_of};
 use crate::lines::{NO_MEMORY, fixed_line, line_of};
@@ -68,14 +69,16 @@ fn input_of<S: Source>(alloc: Global, order: Order, source: &mut S) -> Result<Ve
     }
 }
 
-// Writes a text to the sink.
-fn write_text<K: Sink>(text: &[u8], out: &mut K) -> Result<(), Failure>
-    ensures done { OnOk result (Adds (K.taken out.old) (K.taken out.new) text.now) }
+// Writes the text of an answer to the sink, or hands its failure on.
+fn write_answer<K: Sink>(answer: Result<Vec<u8>, Failure>, out: &mut K) -> Result<(), Failure>
+    ensures done { OnOk result (IsOkAnd answer (λ text. Adds (K.taken out.old) (K.taken out.new) text.items)) }
 
-    ensures failed { IfErr result (λ e. (e ≡ Failure.WriteFault) × Rose (K.faults out.old) (K.faults out.new)) }
-    ensures prefix { AddsPrefix (K.taken out.old) (K.taken out.new) text.now }
+    ensures failed { IfErr result (λ e. IsErrAnd answer (λ cause. cause ≡ e) × Adds (K.taken out.old) (K.taken out.new) []
+        ⊎ (e ≡ Failure.WriteFault) × Rose (K.faults out.old) (K.faults out.new)
+        × IsOkAnd answer (λ text. AddsPrefix (K.taken out.old) (K.taken out.new) text.items)) }
 {
-    match write_all(out, text) {
+    let text = answer?;
+    match write_all(out, &text) {
         Ok(()) => Ok(()),
         Err(WriteFault) => Err(Failure::WriteFault),
     }
@@ -96,22 +99,11 @@ pub fn serve_alone<S: Source, K: Sink>(
 ) -> Result<(), Failure>
     requires numbers { HasItsNumbers order }
     requires alone { IsAlone order }
-    ensures done { OnOk result (IsServed (Some order)
-        (S.left source.old) (S.left source.new) (Adds (K.taken out.old) (K.taken out.new))) }
-
-    ensures cause { IfErr result (IsCause (call_of (Some order)
-        (S.left source.old) (S.left source.new)
-        (Rose (S.faults source.old) (S.faults source.new)) (Rose (K.faults out.old) (K.faults out.new)))) }
-    ensures nothing { IfErr result (λ e. e ≢ Failure.WriteFault → Adds (K.taken out.old) (K.taken out.new) []) }
-    ensures prefix { result ≡ Err Failure.WriteFault → IsServed (Some order)
-        (S.left source.old) (S.left source.new) (AddsPrefix (K.taken out.old) (K.taken out.new)) }
-
-    ensures untouched { (Reads order → ⊥) → source.new ≡ source.old }
-    ensures at_most { ConsumesAtMost (most_bytes + 1) (S.left source.old) (S.left source.new) }
+    ensures { Serves (Some order) result
+        (source_seen S.left S.faults source.old source.new) (sink_seen K.taken K.faults out.old out.new) }
 {
     let input = input_of(alloc, order, source)?;
-    let text = answer_alone(rt, alloc, order, &input)?;
-    write_text(&text, out)
+    write_answer(answer_alone(rt, alloc, order, &input), out)
 }
 
 // Does what any order asks for, by `serve_alone` unless workers run the order's trains: only then may it wait.
@@ -124,25 +116,14 @@ fn serve_any<S: Source, K: Sink, R: Threads + Wait + Sync, G: Gate>(
     gate: &G,
 ) -> Result<(), Failure>
     requires { HasItsNumbers order }
-    ensures done { OnOk result (IsServed (Some order)
-        (S.left source.old) (S.left source.new) (Adds (K.taken out.old) (K.taken out.new))) }
-
-    ensures cause { IfErr result (IsCause (call_of (Some order)
-        (S.left source.old) (S.left source.new)
-        (Rose (S.faults source.old) (S.faults source.new)) (Rose (K.faults out.old) (K.faults out.new)))) }
-    ensures nothing { IfErr result (λ e. e ≢ Failure.WriteFault → Adds (K.taken out.old) (K.taken out.new) []) }
-    ensures prefix { result ≡ Err Failure.WriteFault → IsServed (Some order)
-        (S.left source.old) (S.left source.new) (AddsPrefix (K.taken out.old) (K.taken out.new)) }
-
-    ensures untouched { (Reads order → ⊥) → source.new ≡ source.old }
-    ensures at_most { ConsumesAtMost (most_bytes + 1) (S.left source.old) (S.left source.new) }
+    ensures { Serves (Some order) result
+        (source_seen S.left S.faults source.old source.new) (sink_seen K.taken K.faults out.old out.new) }
 {
-    if crew_of(order).workers == 0 {
+    let Some(crew) = crew_of(order) else {
         return serve_alone(rt, alloc, order, source, out);
-    }
+    };
     let input = input_of(alloc, order, source)?;
-    let text = answer_by(rt, alloc, order, &input, gate)?;
-    write_text(&text, out)
+    write_answer(answer_by(rt, alloc, order, crew, &input, gate), out)
 }
 
 // What the words of a command line ask for, on what the source holds, written to the sink.
@@ -154,18 +135,8 @@ fn serve_words<S: Source, K: Sink, R: Threads + Wait + Sync, G: Gate>(
     out: &mut K,
     gate: &G,
 ) -> Result<(), Failure>
-    ensures done { OnOk result (IsServed (asked line.now)
-        (S.left source.old) (S.left source.new) (Adds (K.taken out.old) (K.taken out.new))) }
-
-    ensures cause { IfErr result (IsCause (call_of (asked line.now)
-        (S.left source.old) (S.left source.new)
-        (Rose (S.faults source.old) (S.faults source.new)) (Rose (K.faults out.old) (K.faults out.new)))) }
-    ensures nothing { IfErr result (λ e. e ≢ Failure.WriteFault → Adds (K.taken out.old) (K.taken out.new) []) }
-    ensures prefix { result ≡ Err Failure.WriteFault → IsServed (asked line.now)
-        (S.left source.old) (S.left source.new) (AddsPrefix (K.taken out.old) (K.taken out.new)) }
-
-    ensures untouched { IfSome (asked line.now) (λ order. Reads order → ⊥) → source.new ≡ source.old }
-    ensures at_most { ConsumesAtMost (most_bytes + 1) (S.left source.old) (S.left source.new) }
+    ensures { Serves (asked line.now) result
+        (source_seen S.left S.faults source.old source.new) (sink_seen K.taken K.faults out.old out.new) }
 {
     match words(alloc, line) {
         Ok(order) => serve_any(rt, alloc, order, source, out, gate),

@@ -6,7 +6,7 @@ use Rattle.ats_run.proofs.answer.end_by.Goals as goal
 pub returns-clause-ends : goal.returns-clause-ends
 returns-clause-ends g c = record {
   end = c.in_ok-end.end;
-  ends = subst (λ (crew : Crew). Ends c.args.checked.now.doc crew c.args.from c.in_ok-end.end) c.crew_of-crew.ensures.exact c.in_ok-end.ensures.ends;
+  ends = subst (λ (crew : Crew). Ends c.args.checked.now.doc crew c.args.from c.in_ok-end.end) c.requires.crew c.in_ok-end.ensures.ends;
   keeps = c.in_ok-end.ensures.keeps;
   printed = c.in_ok-print.ensures;
 }
