@@ -1,2 +1,3 @@
+mod Certified
 mod Suits
 mod Weaker

@@ -1,17 +1,24 @@
 -- What an order comes to, told by what its answer is.
 use Rattle.std.proofs.Common.{ℕ, List, Option}
-use Rattle.std.specs.Prelude.{Result, Ok, Err, IfOk}
+use Rattle.std.specs.Prelude.{Result, Ok, Err, IfOk, string_bytes}
+use Rattle.planner_words.specs.declared.orders.Effort.{Effort}
 use Rattle.planner_words.specs.declared.orders.Order.{Order}
-use Rattle.planner_words.specs.declared.orders.Order.TheVariants.{Lint}
-use Rattle.planner_run.specs.Answered.{IfText, IsAnswerTo, IsLinted, IsTextFor}
+use Rattle.planner_words.specs.declared.orders.Order.TheVariants.{Lint, Certify}
+use Rattle.planner_run.specs.Answered.{AreWrongFor, IfText, IsAnswerTo, IsCertifying, IsLinted, IsTextFor}
 use Rattle.planner_run.specs.declared.answer.Answer.{Answer}
 use Rattle.planner_run.specs.declared.answer.Answer.TheVariants.{Text, Remarks, Wrong}
 use denote.Ref.{Bor}
 
-pub if_text_answers : (order : Order) (former : Option (Bor (List ℕ))) (input : List ℕ) (a : Answer) → IfText (IsTextFor order former input) a → IsAnswerTo order former input a
-if_text_answers order former input (Text text) holds = holds
-if_text_answers order former input (Remarks lines) holds = absurd holds
-if_text_answers order former input (Wrong lines) holds = holds
+-- for an order of whose faults nothing is said
+pub if_text_answers : (order : Order) (former : Option (Bor (List ℕ))) (input : List ℕ) (a : Answer) → ((lines : List ℕ) → AreWrongFor order input lines) → IfText (IsTextFor order former input) a → IsAnswerTo order former input a
+if_text_answers order former input (Text text) unsaid holds = holds
+if_text_answers order former input (Remarks lines) unsaid holds = absurd holds
+if_text_answers order former input (Wrong lines) unsaid holds = unsaid (string_bytes lines)
+
+pub certifying_answers : (budget : ℕ) (effort : Effort) (former : Option (Bor (List ℕ))) (input : List ℕ) (a : Answer) → IsCertifying input budget a → IsAnswerTo (Certify budget effort) former input a
+certifying_answers budget effort former input (Text text) holds = holds
+certifying_answers budget effort former input (Remarks lines) holds = absurd holds
+certifying_answers budget effort former input (Wrong lines) holds = holds
 
 pub lint_answers : (before former : Option (Bor (List ℕ))) (input : List ℕ) (a : Answer) → IsLinted former input a → IsAnswerTo (Lint before) former input a
 lint_answers before former input (Text text) linted = linted

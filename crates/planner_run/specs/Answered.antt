@@ -1,5 +1,6 @@
 -- What the answers to orders are.
 use Rattle.std.specs.Prelude.{◌≡◌, ℕ, List, [], Ok, Option, Some, None, string_bytes}
+use Rattle.ats_io.specs.Bytes.{AddsPrefix}
 use Rattle.decimal_number.specs.Decimal.{number_of}
 use Rattle.document_shapes.specs.Written.{text_of}
 use Rattle.rail_model.specs.State.{Legal}
@@ -22,9 +23,10 @@ use Rattle.document_lint.specs.Told.{LosesNoSection}
 use Rattle.svg_text.specs.Tree.{Picture}
 use Rattle.svg_text.specs.Text.{svg_text}
 use Rattle.planner_words.specs.declared.orders.Order.{Order}
-use Rattle.planner_words.specs.declared.orders.Order.TheVariants.{Plan as OfPlan, ExplainState, ExplainLine, Lint, Timetable, Graph, Layout}
+use Rattle.planner_words.specs.declared.orders.Order.TheVariants.{Plan as OfPlan, ExplainState, ExplainLine, Lint, Certify, Timetable, Graph, Layout}
 use Rattle.planner_words.specs.declared.orders.WordsAnswered.{WordsAnswered}
 use Rattle.planner_words.specs.declared.orders.WordsAnswered.TheVariants.{Shown, Refused, Memory}
+use Rattle.planner_run.specs.Certifying.{IsCertifiedInput, IsCertifyingFault}
 use Rattle.planner_run.specs.declared.answer.Answer.{Answer}
 use Rattle.planner_run.specs.declared.answer.Answer.TheVariants.{Text, Remarks, Wrong}
 use Rattle.planner_run.specs.declared.top.Status.{Status}
@@ -121,9 +123,27 @@ IsTextFor OfPlan former input text = IsPlanned input text
 IsTextFor (ExplainState table at) former input text = ExplainsPlaces input table.now at.now text
 IsTextFor (ExplainLine line) former input text = ExplainsWords input line.now text
 IsTextFor (Lint before) former input text = HasNoRemarks former input text
+IsTextFor (Certify budget effort) former input text = IsCertifiedInput input budget text
 IsTextFor (Timetable csv) former input text = Unit {0}
 IsTextFor (Graph train) former input text = IsGraphText text
 IsTextFor (Layout table at) former input text = IsLayoutText input table.now at text
+
+-- The lines are what is wrong with an input for an order. Only of those of `certify` anything is said.
+abbrev pub AreWrongFor : Order → List ℕ → List ℕ → Type 0
+AreWrongFor (Certify budget effort) input lines = IsCertifyingFault input budget lines
+AreWrongFor OfPlan input lines = Unit {0}
+AreWrongFor (ExplainState table at) input lines = Unit {0}
+AreWrongFor (ExplainLine line) input lines = Unit {0}
+AreWrongFor (Lint before) input lines = Unit {0}
+AreWrongFor (Timetable csv) input lines = Unit {0}
+AreWrongFor (Graph train) input lines = Unit {0}
+AreWrongFor (Layout table at) input lines = Unit {0}
+
+-- What a sink took is the beginning of lines that say what is wrong with an input for an order.
+pub record Tells (order : Order) (input : List ℕ) (old new : Option (List ℕ)) : Type 0 where
+  pub lines : List ℕ
+  pub are_wrong : AreWrongFor order input lines
+  pub are_told : AddsPrefix old new lines
 
 -- The order asks for remarks.
 abbrev pub AsksForRemarks : Order → Type 0
@@ -131,6 +151,7 @@ AsksForRemarks (Lint before) = Unit {0}
 AsksForRemarks OfPlan = ⊥
 AsksForRemarks (ExplainState table at) = ⊥
 AsksForRemarks (ExplainLine line) = ⊥
+AsksForRemarks (Certify budget effort) = ⊥
 AsksForRemarks (Timetable csv) = ⊥
 AsksForRemarks (Graph train) = ⊥
 AsksForRemarks (Layout table at) = ⊥
@@ -141,11 +162,23 @@ IfText Holds (Text text) = Holds text.items
 IfText Holds (Remarks lines) = ⊥
 IfText Holds (Wrong lines) = Unit {0}
 
--- The answer is what an order comes to on an input, with remarks only where it asks for them.
+-- The answer says with these lines what is wrong.
+abbrev pub IsWrong : List ℕ → Answer → Type 0
+IsWrong words (Text text) = ⊥
+IsWrong words (Remarks lines) = ⊥
+IsWrong words (Wrong lines) = string_bytes lines ≡ words
+
+-- The answer is what an order comes to on an input, with remarks only where it asks for them, or what is wrong with the input.
 abbrev pub IsAnswerTo : Order → Option (Bor (List ℕ)) → List ℕ → Answer → Type 0
 IsAnswerTo order former input (Text text) = IsTextFor order former input text.items
 IsAnswerTo order former input (Remarks lines) = AsksForRemarks order
-IsAnswerTo order former input (Wrong lines) = Unit {0}
+IsAnswerTo order former input (Wrong lines) = AreWrongFor order input (string_bytes lines)
+
+-- The answer is the document with certificates, or the line that says why it has none.
+abbrev pub IsCertifying : List ℕ → ℕ → Answer → Type 0
+IsCertifying input budget (Text text) = IsCertifiedInput input budget text.items
+IsCertifying input budget (Remarks lines) = ⊥
+IsCertifying input budget (Wrong lines) = IsCertifyingFault input budget (string_bytes lines)
 
 -- The answer is remarks, or an empty text where there are none.
 abbrev pub IsLinted : Option (Bor (List ℕ)) → List ℕ → Answer → Type 0

@@ -1,1 +1,2 @@
+pub mod Certifying
 pub mod Answered

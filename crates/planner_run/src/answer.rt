@@ -2,6 +2,7 @@
 ghost use Rattle.std.specs.Prelude.{◌≡◌, IfOk};
 ghost use Rattle.planner_run.specs.Answered.{IsAnswerTo};
 
+use crate::certifying::certify;
 use crate::drawing::layout;
 use crate::explaining::{line as explain_line, state as explain_state};
 use crate::linting::remarks;
@@ -22,7 +23,7 @@ pub enum Answer {
 }
 
 /// What an order comes to on this input. `former` is the former document, where the order names one.
-#[tactic(auto, using(crate::proofs::Suits::if_text_answers, crate::proofs::Suits::lint_answers))]
+#[tactic(auto, using(crate::proofs::Suits::if_text_answers, crate::proofs::Suits::lint_answers, crate::proofs::Suits::certifying_answers))]
 pub fn answer_to(
     alloc: Global,
     order: &Order<'_>,
@@ -36,6 +37,7 @@ pub fn answer_to(
         Order::ExplainState { table, at } => explain_state(alloc, input, table, at),
         Order::ExplainLine { line } => explain_line(alloc, input, line),
         Order::Lint { .. } => remarks(alloc, input, former),
+        Order::Certify { budget, effort } => certify(alloc, input, *budget, *effort),
         Order::Timetable { csv } => timetable(alloc, input, *csv),
         Order::Graph { train } => graph(alloc, input, *train),
         Order::Layout { table, at } => layout(alloc, input, table, *at),

@@ -1,6 +1,7 @@
 // Pictures of layouts.
 ghost use Rattle.std.specs.Prelude.{◌≡◌, IfOk};
-ghost use Rattle.planner_run.specs.Answered.{IfText, IsLayoutText, IsLayoutOf, IsLayoutAt};
+ghost use Rattle.planner_run.specs.Answered.{IfText, IsLayoutText, IsLayoutOf, IsLayoutAt, IsWrong};
+ghost use Rattle.planner_run.specs.Certifying.{refused_line};
 
 use crate::Answer;
 use crate::explaining::{NO_PLACES, NO_TABLE, wrong};
@@ -59,9 +60,10 @@ fn picture_of(alloc: Global, doc: &Doc, table: u32, state: &State) -> Result<Ans
     }
 }
 
-// That the input is no document.
-fn refusal(alloc: Global, refused: &DocRefused) -> Result<Answer, AllocError>
-    ensures { IfOk result (IfText (λ text. ⊥)) }
+/// That the input is no document.
+pub(crate) fn refusal(alloc: Global, refused: &DocRefused) -> Result<Answer, AllocError>
+    ensures none { IfOk result (IfText (λ text. ⊥)) }
+    ensures wrong { IfOk result (IsWrong (refused_line refused.now)) }
 {
     let mut line = String::from_str(alloc, "ats refuses the document: ")?;
     push_document(&mut line, refused)?;

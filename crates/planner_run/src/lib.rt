@@ -2,6 +2,7 @@
 #![tactic(auto)]
 
 mod answer;
+mod certifying;
 mod drawing;
 mod explaining;
 mod linting;

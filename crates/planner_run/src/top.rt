@@ -2,7 +2,7 @@
 ghost use Rattle.std.specs.Prelude.{◌≡◌, ◌≢◌, ◌⊎◌, ℕ, List, None, IfSome};
 ghost use Rattle.ats_io.specs.Bytes.{Adds, AddsPrefix};
 ghost use Rattle.ats_io.specs.Faults.{Rose};
-ghost use Rattle.planner_run.specs.Answered.{IsTextFor, AsksForRemarks, code_of, shown_text};
+ghost use Rattle.planner_run.specs.Answered.{IsTextFor, AsksForRemarks, Tells, code_of, shown_text};
 
 use crate::Answer;
 use crate::answer::answer_to;
@@ -92,6 +92,9 @@ pub fn serve<S: Source, K: Sink, E: Sink>(
     ensures quiet { result ≡ Status.Done → E.taken err.new ≡ E.taken err.old }
     // Where the input has faults, nothing is written to `out`, except remarks that were asked for.
     ensures faulty { result ≡ Status.Faulty → AsksForRemarks order.now ⊎ (K.taken out.new ≡ K.taken out.old) }
+    // And what is written to `err` is the beginning of lines that say what is wrong: all of them, unless `err` fails.
+    ensures told { result ≡ Status.Faulty → IfSome (S.left source.old) (λ all.
+        AsksForRemarks order.now ⊎ Tells order.now all (E.taken err.old) (E.taken err.new)) }
 {
     match read_all(alloc, source, MOST_BYTES) {
         Ok(input) => respond(alloc, order, &input, former, out, err),
@@ -116,6 +119,7 @@ fn respond<K: Sink, E: Sink>(
     ensures done { result ≡ Status.Done → (text : List ℕ) × IsTextFor order.now former.entry input.now text × Adds (K.taken out.old) (K.taken out.new) text }
     ensures quiet { result ≡ Status.Done → E.taken err.new ≡ E.taken err.old }
     ensures faulty { result ≡ Status.Faulty → AsksForRemarks order.now ⊎ (K.taken out.new ≡ K.taken out.old) }
+    ensures told { result ≡ Status.Faulty → AsksForRemarks order.now ⊎ Tells order.now input.now (E.taken err.old) (E.taken err.new) }
 {
     match answer_to(alloc, order, input, former) {
         Ok(Answer::Text(text)) => print(&text, Status::Done, out, err),

@@ -32,8 +32,8 @@ pub(crate) fn answers(
     Ok(())
 }
 
-// What words are answered on an input.
-fn answer(alloc: Global, line: &str, input: &str) -> Result<String, Fail> {
+/// What words are answered on an input.
+pub(crate) fn answer(alloc: Global, line: &str, input: &str) -> Result<String, Fail> {
     let line = parts(alloc, line)?;
     let order = words(alloc, &line).ok().ok_or("an order")?;
     match answer_to(alloc, &order, input.as_bytes(), None)? {

@@ -1,12 +1,13 @@
 -- Rows of the definitions, computed: command lines, and what clap finds in them.
-use Rattle.std.proofs.Common.{◌≡◌, List, [], ◌∷◌, codes, map, true, false, Some, refl}
+use Rattle.std.proofs.Common.{◌≡◌, List, [], ◌∷◌, codes, map, true, false, Some, None, refl}
 use Rattle.std.specs.Prelude.{◌==◌, option_map}
 use Rattle.std.specs.List.{slice_split}
 use Rattle.clap.specs.Words.{Text, first_of, subcommand_of, takes}
 use Rattle.clap.proofs.OnLiterals.{clap_on_literals}
 use Rattle.command_words.specs.Built.{leaf}
+use Rattle.decimal_number.specs.Decimal.{number_of}
 use Rattle.planner_words.specs.Line.{planner}
-use Rattle.planner_words.specs.Named.{table_in}
+use Rattle.planner_words.specs.Named.{budget_in, table_in}
 
 -- the words of a line, which single spaces part
 abbrev words_of : Text → List Text
@@ -20,6 +21,11 @@ the_train = refl
 the_tables : map (λ line. option_map (λ found. table_in found.1) (subcommand_of planner (words_of line))) (codes "layout" ∷ codes "explain --at 0,1 --table 2" ∷ []) ≡ Some (codes "0") ∷ Some (codes "2") ∷ []
 unfolding clap_on_literals leaf
 the_tables = refl
+
+-- The greatest budget is taken where none is named, and one that is no budget isn't taken.
+the_budgets : map (λ line. option_map (λ found. budget_in found.1) (subcommand_of planner (words_of line))) (codes "certify" ∷ codes "certify --budget 500 --effort small" ∷ codes "certify --budget 0" ∷ []) ≡ Some (Some 1000000) ∷ Some (Some 500) ∷ Some None ∷ []
+unfolding clap_on_literals leaf number_of
+the_budgets = refl
 
 -- clap says of each command but explain which words it takes
 taken : map (λ line. takes planner (words_of line)) (codes "plan" ∷ codes "layout --at 1,0" ∷ codes "timetable --csv" ∷ codes "lint --csv" ∷ codes "help" ∷ codes "explain --at 0,1" ∷ []) ≡ true ∷ true ∷ true ∷ false ∷ false ∷ false ∷ []

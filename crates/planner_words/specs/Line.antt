@@ -40,6 +40,9 @@ explain = leaf (codes "explain") (excluding (codes "at") ∷ valued (codes "tabl
 abbrev pub lint : Shape
 lint = leaf (codes "lint") (valued (codes "before") ∷ [])
 
+abbrev pub certify : Shape
+certify = leaf (codes "certify") (valued (codes "budget") ∷ valued (codes "effort") ∷ [])
+
 abbrev pub timetable : Shape
 timetable = leaf (codes "timetable") (flag (codes "csv") ∷ [])
 
@@ -53,10 +56,14 @@ layout = leaf (codes "layout") (valued (codes "at") ∷ valued (codes "table") �
 abbrev pub documents : List Shape
 documents = plan ∷ explain ∷ lint ∷ []
 
+-- those that make something of a document
+abbrev pub makers : List Shape
+makers = certify ∷ []
+
 -- those that read a run, or draw
 abbrev pub pictures : List Shape
 pictures = timetable ∷ graph ∷ layout ∷ []
 
 -- the whole command
 abbrev pub planner : App
-planner = with_all pictures (with_all documents start)
+planner = with_all pictures (with_all makers (with_all documents start))

@@ -1,9 +1,12 @@
 -- What each command is called, and what it has of the values of its options.
 use Rattle.std.specs.Prelude.{◌≡◌, ℕ, Bool, true, false, List, codes, Option, Some, None, option_map, unwrap_or, IsSomeAnd}
 use Rattle.clap.specs.Words.{Row, Text, first_of, one_of, subcommand_of}
+use Rattle.planner_words.specs.declared.orders.Effort.{Effort}
+use Rattle.planner_words.specs.declared.orders.Effort.TheVariants.{Small, Usual, Great}
+use Rattle.command_words.specs.Options as options
 use Rattle.planner_words.specs.Line.{planner}
 use Rattle.planner_words.specs.declared.orders.Order.{Order}
-use Rattle.planner_words.specs.declared.orders.Order.TheVariants.{Plan, ExplainState, ExplainLine, Lint, Timetable, Graph, Layout}
+use Rattle.planner_words.specs.declared.orders.Order.TheVariants.{Plan, ExplainState, ExplainLine, Lint, Certify, Timetable, Graph, Layout}
 
 -- the word that asks for an order
 abbrev pub name_of : Order → List ℕ
@@ -11,6 +14,7 @@ name_of Plan = codes "plan"
 name_of (ExplainState table at) = codes "explain"
 name_of (ExplainLine line) = codes "explain"
 name_of (Lint before) = codes "lint"
+name_of (Certify budget effort) = codes "certify"
 name_of (Timetable csv) = codes "timetable"
 name_of (Graph train) = codes "graph"
 name_of (Layout table at) = codes "layout"
@@ -18,6 +22,21 @@ name_of (Layout table at) = codes "layout"
 -- the table that is named, or the first one
 abbrev pub table_in : List Row → Text
 table_in given = unwrap_or (first_of (codes "table") given) (codes "0")
+
+-- the number of nodes that is named, if it is one from 1 to 1000000, or the greatest one
+abbrev pub budget_in : List Row → Option ℕ
+budget_in given = options.number options.budget given
+
+-- the word for an effort
+abbrev pub word_of : Effort → Text
+word_of Small = codes "small"
+word_of Usual = codes "usual"
+word_of Great = codes "great"
+
+-- The word is the one for the effort; without a word the effort is the usual one.
+abbrev pub IsEffort : Option Text → Effort → Type 0
+IsEffort (Some word) effort = word ≡ word_of effort
+IsEffort None effort = effort ≡ Usual
 
 -- The flag is up where clap has "true" for it, and down where it has "false".
 abbrev pub IsFlag : Option Text → Bool → Type 0
@@ -29,6 +48,7 @@ HasValues given Plan = Unit {0}
 HasValues given (ExplainState table at) = (table.now ≡ table_in given) × (Some at.now ≡ first_of (codes "at") given)
 HasValues given (ExplainLine line) = (None ≡ first_of (codes "at") given) × (Some line.now ≡ first_of (codes "line") given)
 HasValues given (Lint before) = option_map (λ s. s.now) before ≡ first_of (codes "before") given
+HasValues given (Certify budget effort) = (budget_in given ≡ Some budget) × IsEffort (first_of (codes "effort") given) effort
 HasValues given (Timetable csv) = IsFlag (one_of (codes "csv") given) csv
 HasValues given (Graph train) = option_map (λ s. s.now) train ≡ first_of (codes "train") given
 HasValues given (Layout table at) = (table.now ≡ table_in given) × (option_map (λ s. s.now) at ≡ first_of (codes "at") given)

@@ -8,7 +8,7 @@ ghost use Rattle.planner_words.specs.Line as spec;
 use clap::{Arg, ArgAction, Command};
 use std::alloc::{AllocError, Global};
 
-const ABOUT: &str = "Writes documents of ats from plans, and explains, checks and draws them.
+const ABOUT: &str = "Writes documents of ats from plans, certifies, explains, checks and draws them.
 
 It reads standard input and writes standard output. What is wrong goes to standard error, a line each.";
 
@@ -61,6 +61,18 @@ const BEFORE: Choice = Choice::Value {
     help: "A former document: lists its sections that are gone",
 };
 
+const BUDGET: Choice = Choice::Value {
+    name: "budget",
+    value: "NODES",
+    help: "The most nodes of a table's certificate, 1 to 1000000 (default: 1000000)",
+};
+
+const EFFORT: Choice = Choice::Value {
+    name: "effort",
+    value: "EFFORT",
+    help: "How many ways of searching are tried: small, usual or great (default: usual)",
+};
+
 const CSV: Choice = Choice::Flag {
     name: "csv",
     help: "With commas instead of columns",
@@ -88,6 +100,7 @@ pub(crate) fn command<'a>(alloc: Global) -> Result<Command<'a>, AllocError>
     let command = with_subcommand(alloc, command, "explain", about, &[AT, TABLE, LINE])?;
     let about = "Reads a document and lists what has no effect or is likely a mistake";
     let command = with_subcommand(alloc, command, "lint", about, &[BEFORE])?;
+    let command = with_makers(alloc, command)?;
     with_pictures(alloc, command)
 }
 
@@ -101,6 +114,14 @@ fn start<'a>(alloc: Global) -> Command<'a>
         .no_binary_name(true)
         .subcommand_required(true)
         .disable_help_subcommand(true)
+}
+
+fn with_makers<'a>(alloc: Global, command: Command<'a>) -> Result<Command<'a>, AllocError>
+    requires { IsLocal command }
+    ensures { IfOk result (IsBuiltAs (with_all spec.makers (app_of command.entry))) }
+{
+    let about = "Reads a document and writes it with certificates that are found by search";
+    with_subcommand(alloc, command, "certify", about, &[BUDGET, EFFORT])
 }
 
 fn with_pictures<'a>(alloc: Global, command: Command<'a>) -> Result<Command<'a>, AllocError>

@@ -5,5 +5,5 @@ mod asking;
 mod orders;
 mod reading;
 
-pub use orders::{Order, WordsAnswered};
+pub use orders::{Effort, Order, WordsAnswered};
 pub use reading::words;

@@ -1,5 +1,13 @@
 // What the planner's program can be asked for.
 
+/// How much is tried.
+#[derive(Clone, Copy)]
+pub enum Effort {
+    Small,
+    Usual,
+    Great,
+}
+
 /// What the words ask for, with the values of its options as they were written.
 #[derive(Clone, Copy)]
 pub enum Order<'a> {
@@ -11,6 +19,8 @@ pub enum Order<'a> {
     ExplainLine { line: &'a str },
     /// List what a document says without effect, or what of a former document, in a file, is gone.
     Lint { before: Option<&'a str> },
+    /// Find certificates for the tables of a document by search, each of at most `budget` nodes, 1 to 1,000,000.
+    Certify { budget: u32, effort: Effort },
     /// Write the timetable of a timed run, as columns or with commas.
     Timetable { csv: bool },
     /// Draw a timed run along the route of a train.

@@ -1,17 +1,26 @@
 // Reading the words.
-ghost use Rattle.std.specs.Prelude.{◌≡◌, IfErr, IfOk, IsSomeAnd, Some, codes, map, string_bytes, true};
-ghost use Rattle.clap.specs.Words.{found_of, kind_of, rows_of, subcommand_of, subcommand_rows_of, takes};
+ghost use Rattle.std.specs.Prelude.{◌≡◌, IfErr, IfNone, IfOk, IfSome, IsSomeAnd, Some, codes, map, string_bytes, true};
+ghost use Rattle.clap.specs.Words.{first_of, found_of, kind_of, rows_of, subcommand_of, subcommand_rows_of, takes};
 ghost use Rattle.planner_words.specs.Answered.{AnswersWords, MissesNone};
 ghost use Rattle.planner_words.specs.Line.{planner};
-ghost use Rattle.planner_words.specs.Named.{AsksFor, IsAsked, table_in};
+ghost use Rattle.command_words.specs.Options.{number_between};
+ghost use Rattle.planner_words.specs.Named.{AsksFor, IsAsked, IsEffort, budget_in, table_in, word_of};
+ghost use Rattle.planner_words.specs.declared.orders.Effort as declared;
 
 use crate::asking::command;
-use crate::{Order, WordsAnswered};
+use crate::{Effort, Order, WordsAnswered};
 use clap::error::ErrorKind;
 use clap::{ArgMatches, Error};
+use decimal_number::number_of;
 use std::alloc::Global;
 
 const NO_COMMAND: &str = "planner: no such command\n";
+
+const NO_BUDGET: &str = "planner certify: --budget takes a number of nodes, 1 to 1000000\n";
+
+const NO_EFFORT: &str = "planner certify: --effort takes small, usual or great\n";
+
+const MOST_NODES: u32 = 1_000_000;
 
 /// What the words after the program's name ask for.
 ///
@@ -84,6 +93,7 @@ fn order_called<'a>(
         "lint" => Ok(Order::Lint {
             before: matches.get_str("before"),
         }),
+        "certify" => certify(alloc, matches),
         "timetable" => Ok(Order::Timetable {
             csv: matches.get_flag("csv"),
         }),
@@ -103,6 +113,63 @@ fn table_in<'a>(matches: &ArgMatches<'a>) -> &'a str
     ensures { result.now ≡ table_in (rows_of (found_of matches.now)) }
 {
     matches.get_str("table").unwrap_or("0")
+}
+
+fn certify<'a>(alloc: Global, matches: &ArgMatches<'a>) -> Result<Order<'a>, WordsAnswered>
+    ensures asked { IfOk result (λ order. AsksFor order (codes "certify", rows_of (found_of matches.now))) }
+    ensures answered { IfErr result (MissesNone (Some (codes "certify", rows_of (found_of matches.now)))) }
+{
+    let Some(budget) = budget_in(matches) else {
+        return refused(alloc, NO_BUDGET);
+    };
+    match effort_in(matches) {
+        Some(effort) => Ok(Order::Certify { budget, effort }),
+        None => refused(alloc, NO_EFFORT),
+    }
+}
+
+// The number of nodes that is named, or the greatest one.
+fn budget_in(matches: &ArgMatches<'_>) -> Option<u32>
+    ensures { result ≡ budget_in (rows_of (found_of matches.now)) }
+{
+    match matches.get_str("budget") {
+        Some(text) => budget_of(text),
+        None => Some(MOST_NODES),
+    }
+}
+
+fn budget_of(text: &str) -> Option<u32>
+    ensures { result ≡ number_between 1 1000000 text.now }
+{
+    let number = number_of(text.as_bytes())?;
+    if 1 <= number && number <= MOST_NODES {
+        Some(number)
+    } else {
+        None
+    }
+}
+
+// The effort that is named, or the usual one.
+fn effort_in(matches: &ArgMatches<'_>) -> Option<Effort>
+    ensures named { IfSome result (IsEffort (first_of (codes "effort") (rows_of (found_of matches.now)))) }
+    ensures unnamed { IfNone result ((effort : declared.Effort) → IsEffort (first_of (codes "effort") (rows_of (found_of matches.now))) effort → ⊥) }
+{
+    match matches.get_str("effort") {
+        Some(word) => effort_called(word),
+        None => Some(Effort::Usual),
+    }
+}
+
+fn effort_called(word: &str) -> Option<Effort>
+    ensures named { IfSome result (λ effort. word.now ≡ word_of effort) }
+    ensures unnamed { IfNone result ((effort : declared.Effort) → word.now ≡ word_of effort → ⊥) }
+{
+    match word {
+        "small" => Some(Effort::Small),
+        "usual" => Some(Effort::Usual),
+        "great" => Some(Effort::Great),
+        _ => None,
+    }
 }
 
 fn explain<'a>(alloc: Global, matches: &ArgMatches<'a>) -> Result<Order<'a>, WordsAnswered>

@@ -1,0 +1,84 @@
+// Certificates that are found by search.
+ghost use Rattle.std.specs.Prelude.{◌≡◌, ◌++◌, IfOk, Ok, Err, OnOk, codes, string_bytes};
+ghost use Rattle.document_certificates.specs.Certified.{HasNone};
+ghost use Rattle.layout_json.specs.Reading.{doc_of};
+ghost use Rattle.planner_run.specs.Answered.{IsCertifying, IsWrong};
+ghost use Rattle.planner_run.specs.Certifying.{gave_up_words, uncertified_line};
+
+use crate::Answer;
+use crate::drawing::refusal;
+use cert_search::Effort as Searches;
+use document_certificates::{Uncertified, certified_text};
+use layout_json::{Doc, DocRefused, document};
+use planner_words::Effort;
+use refusal_lines::push_stuck;
+use std::alloc::{AllocError, Global};
+
+/// The document that the input is, with certificates that are found by search, of at most `budget` nodes each.
+#[tactic(auto, using(crate::proofs::Certified::refused_answers))]
+pub(crate) fn certify(
+    alloc: Global,
+    input: &[u8],
+    budget: u32,
+    effort: Effort,
+) -> Result<Answer, AllocError>
+    ensures { IfOk result (IsCertifying input.now budget) }
+{
+    match document(alloc, input) {
+        Ok(doc) => certified(alloc, input, &doc, budget, effort),
+        Err(DocRefused::Memory) => Err(AllocError),
+        Err(refused) => refusal(alloc, &refused),
+    }
+}
+
+// The ways of searching that an effort stands for.
+fn searches_of(effort: Effort) -> Searches {
+    match effort {
+        Effort::Small => Searches::Small,
+        Effort::Usual => Searches::Usual,
+        Effort::Great => Searches::Great,
+    }
+}
+
+// The document with its certificates.
+#[tactic(auto, using(crate::proofs::Certified::certified_answers, crate::proofs::Certified::uncertified_answers))]
+fn certified(
+    alloc: Global,
+    input: &[u8],
+    doc: &Doc,
+    budget: u32,
+    effort: Effort,
+) -> Result<Answer, AllocError>
+    requires read { doc_of input.now ≡ Ok doc.now }
+    ensures { IfOk result (IsCertifying input.now budget) }
+{
+    match certified_text(alloc, doc, budget, searches_of(effort)) {
+        Ok(text) => Ok(Answer::Text(text)),
+        Err(Uncertified::Memory) => Err(AllocError),
+        Err(why) => uncertified(alloc, &why),
+    }
+}
+
+// The line that says why a document gets no certificates.
+fn uncertified(alloc: Global, why: &Uncertified) -> Result<Answer, AllocError>
+    ensures { IfOk result (IsWrong (uncertified_line why.now)) }
+{
+    let mut line = String::new(alloc);
+    match why {
+        Uncertified::Stuck { table, at } => push_stuck(&mut line, *table, at)?,
+        Uncertified::GaveUp { table, nodes } => push_gave_up(&mut line, *table, *nodes)?,
+        Uncertified::Memory => return Err(AllocError),
+    }
+    line.push_str("\n")?;
+    Ok(Answer::Wrong(line))
+}
+
+// Adds that no certificate of a table was found.
+fn push_gave_up(out: &mut String, table: u32, nodes: u32) -> Result<(), AllocError>
+    ensures { OnOk result (string_bytes out.new ≡ string_bytes out.old ++ gave_up_words table nodes) }
+{
+    write!(
+        out,
+        "table {table}: gave up after {nodes} nodes; whether it has a certificate isn't known"
+    )
+}
