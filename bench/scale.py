@@ -134,8 +134,9 @@ class Measuring:
         at, seconds = other_ways.allowed_stuck(document, self.seconds)
         said = "time" if at is None else "stuck" if at else "none"
         row[key] = {"said": said, "seconds": round(seconds, 3)}
-        certified = any("nodes" in row.get(way, {}) for way in ("make", "certify", "other"))
-        if key == "sat" and (at and certified or at == [] and "stuck" in [row.get(way, {}).get("said") for way in ("make", "certify")]):
+        ways = [row.get(way) or {} for way in ("make", "certify", "other")]
+        certified, stuck = any("nodes" in way for way in ways), any(way.get("said") == "stuck" for way in ways)
+        if key == "sat" and (at and certified or at == [] and stuck):
             self.wrong(row["name"], f"the solver says {said}, the commands differ")
 
     def measure(self, row, document, words, columns):
@@ -144,6 +145,8 @@ class Measuring:
             row["make"] = self.certified(row["name"], [*self.ats, "make"], document)
         if "certify" in columns:
             row["certify"] = self.certified(row["name"], [*self.planner, "certify"], document)
+            if "nodes" in row.get("make", {}) and "nodes" not in row["certify"]:
+                self.wrong(row["name"], "make finds a certificate, and certify doesn't")
         if "order" in columns:
             ordered = self.order(row, "order", [*self.planner, "order"], [*self.planner, "certify"], document, words)
         if "other" in columns:
@@ -162,14 +165,14 @@ def number(count):
     return f"{count:,}" if count < 10_000_000 else f"{count / 1e6:,.0f} million"
 
 
-def cell(answer, seconds):
+def cell(answer, seconds, of_run):
     """A cell of the table: nodes and seconds, or what was said."""
     if not answer:
         return ""
     if "states" in answer:
         return f"{'' if answer['whole'] else '> '}{number(answer['states'])} / {answer['seconds']:.1f}"
     time_taken = f" / {answer['seconds'] + answer.get('order-seconds', 0):.2f}"
-    added = f"{answer['sections']} S: " if "sections" in answer else ""
+    added = f"{answer['sections']} S{' of a run' if of_run else ''}: " if "sections" in answer else ""
     if "nodes" in answer:
         return added + number(answer["nodes"]) + time_taken
     return added + (f"> {seconds} s" if answer["said"] == "time" else answer["said"] + time_taken)
@@ -186,17 +189,28 @@ def table(rows, seconds):
     lines.append("|" + "|".join(["---", "--:", "--:"] + ["--:"] * len(shown)) + "|")
     for row in rows:
         first = [row["family"] + (", in blocks" if row["blocks"] else ""), str(row["trains"]), str(row["places"])]
-        lines.append("| " + " | ".join(first + [cell(row.get(column), seconds) for column in shown]) + " |")
+        lines.append("| " + " | ".join(first + [cell(row.get(column), seconds, row["of-run"]) for column in shown]) + " |")
     return "\n".join(lines)
 
 
-def row_of(family, name, document, words):
-    missions, exits = document["tables"][0]["missions"], document["tables"][0]["exits"]
+def row_of(family, builder, sizes, document, words):
+    table = document["tables"][0]
     return {
-        "family": family, "name": name, "trains": len(missions), "of-run": bool(words),
-        "blocks": len(document["tables"][0]["sections"]) > 0 and "metro" not in name or "entered" in name,
-        "places": max(len(mission) + leaves for mission, leaves in zip(missions, exits)),
+        "family": family, "name": " ".join([builder, *map(str, sizes)]), "trains": len(document["trains"]), "of-run": bool(words),
+        "blocks": bool(table["sections"]) and builder != "metro",
+        "places": max(len(mission) + leaves for mission, leaves in zip(table["missions"], table["exits"])),
     }
+
+
+def ratios(rows):
+    """How often the nodes and the seconds of certify are those of the other finder: the greatest ratio, and its row."""
+    lines = []
+    for mine, other in (("certify", "other"), ("order", "other-order")):
+        both = [row for row in rows if "nodes" in (row.get(mine) or {}) and "nodes" in (row.get(other) or {})]
+        for what in ("nodes", "seconds") if both else ():
+            ratio, name = max((row[mine][what] / max(row[other][what], 0.01), row["name"]) for row in both)
+            lines.append(f"{what} of {mine} by those of {other}, in {len(both)} rows: at most {ratio:.2f} ({name})")
+    return lines
 
 
 def main():
@@ -222,20 +236,21 @@ def main():
         for builder, *sizes in FAMILIES[family]:
             words = ["--of-run", "0"] if sizes[-1] == "run" else []
             sizes = [size for size in sizes if size != "run"]
-            name = " ".join([builder, *map(str, sizes)])
             document = getattr(families, builder)(*sizes)
-            row = known.setdefault(name, {})
-            row.update(row_of(family, name, document, words))
+            about = row_of(family, builder, sizes, document, words)
+            row = known.setdefault(about["name"], {})
+            row.update(about)
             measuring.measure(row, document, words, [it for it in COLUMNS if it not in measuring.left_out and not row.get(it)])
             rows.append(row)
-            print(name, {column: row[column] for column in COLUMNS if row.get(column)}, file=sys.stderr, flush=True)
+            print(row["name"], {column: row[column] for column in COLUMNS if row.get(column)}, file=sys.stderr, flush=True)
             if kept:
                 kept.write_text(json.dumps(known, indent=1))
     print(table(rows, asked.seconds))
+    print("\n".join(ratios(rows)))
     if asked.picture:
         Path(asked.picture).write_text(picture(rows))
     if not (program("ats")[1] and program("planner")[1]):
-        print("\nThe times are of trial builds with run-time checks.")
+        print("The times are of trial builds with run-time checks.")
     return 1 if measuring.faults else 0
 
 

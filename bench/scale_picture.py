@@ -1,4 +1,4 @@
-"""A picture of what scale.py measured, as SVG: for each family, nodes by trains on a log scale. It follows the reader's light or dark mode."""
+"""A picture of what scale.py measured, as SVG: for each family, nodes by trains on a log scale. It is light or dark as its reader is."""
 import math
 from html import escape
 
@@ -33,8 +33,8 @@ def text(x, y, words, names=""):
     return f'<text x="{x:.1f}" y="{y:.1f}" class="{names}">{escape(words)}</text>'
 
 
-def stroke(x, y, across, down, names):
-    return f'<path class="{names}" d="M{x:.1f} {y:.1f}h{across:.1f}v{down:.1f}"/>' if across else f'<path class="{names}" d="M{x:.1f} {y:.1f}v{down:.1f}"/>'
+def stroke(x, y, across, names):
+    return f'<path class="{names}" d="M{x:.1f} {y:.1f}h{across:.1f}"/>'
 
 
 class Panel:
@@ -56,9 +56,9 @@ class Panel:
         drawn = [text(self.x, self.y - 8, family, "head")]
         for power in range(1, 7):
             y = self.down(10**power)
-            drawn.append(stroke(self.x, y, INNER[0], 0, "grid"))
+            drawn.append(stroke(self.x, y, INNER[0], "grid"))
             drawn.append(text(self.x - 5, y + 4, f"{10**power:,}", "end") if power % 2 == 0 else "")
-        drawn.append(stroke(self.x, self.y + INNER[1], INNER[0], 0, "axis"))
+        drawn.append(stroke(self.x, self.y + INNER[1], INNER[0], "axis"))
         for trains in range(0, TRAINS + 1, 8):
             drawn.append(text(self.across(trains), self.y + INNER[1] + 14, str(trains), "mid"))
         return drawn

@@ -26,11 +26,12 @@ import tempfile
 import time
 
 import agree
-import states
 from model import Yard, line_of
 from programs import called, command_of, compact
+from states import States, count
 
-STATES, BUDGET = 2000, 100_000
+MOST_STATES, BUDGET = 2000, 100_000
+LEADS, LEADS_NOT = "A run from the start leads there:\n", "No run from the start leads there."
 COMMANDS = ["certify", "explain", "order", "protect"]
 
 
@@ -54,7 +55,8 @@ def on_one_way(draw):
         start.append(min(begun, len(missions[-1]) - 1))
     all_leave = draw.random() < 0.7
     exits = [all_leave or draw.random() < 0.5 for _ in missions]
-    table = {"missions": missions, "exits": exits, "sections": [agree.section(draw, 3, missions, exits) for _ in range(draw.choice([0, 0, 1, 2]))]}
+    sections = [agree.section(draw, 3, missions, exits) for _ in range(draw.choice([0, 0, 1, 2]))]
+    table = {"missions": missions, "exits": exits, "sections": sections}
     if draw.random() < 0.2:
         table["connections"] = [agree.connection(draw, missions, exits)]
     tables = [table]
@@ -89,7 +91,7 @@ def drawn(number):
         document = on_one_way(draw) if draw.random() < 0.7 else agree.document(draw)
         if document and draw.random() < 0.02:
             document = first_trains(document, draw.randint(0, 1))
-        if document and states.count(document) <= STATES:
+        if document and count(document) <= MOST_STATES:
             return document
 
 
@@ -134,19 +136,21 @@ class Case:
 
     def refused(self, command, line):
         code, written, said = self.run("planner", [command])
-        self.expect(code == 1 and not written and line.removeprefix("ats: ") in said, f"{command} ended with {code} where ats refuses: {said}")
+        same = code == 1 and not written and line.removeprefix("ats: ") in said
+        self.expect(same, f"{command} ended with {code} where ats says {line}: {said}")
         self.counts[f"{command} refuses"] += 1
 
     def named(self, command, said, table):
         """The stuck state of the line `206 Stuck`, which has to be one of the first table that has any."""
         words = dict(word.split("=", 1) for word in said.split() if "=" in word)
         at = tuple(int(place) for place in words.get("at", "").split(",") if place.isdigit())
-        if self.expect(len(at) == len(self.states.trains) and words.get("table", "").isdigit(), f"{command} names no state: {said}"):
-            number = int(words["table"])
-            self.expect(number < len(self.states.tables) and self.states.is_stuck(number, at), f"{command} names a state that isn't stuck: {said}")
-            self.expect(number == table, f"{command} names a stuck state of table {number}; the first is of table {table}")
-            return number, at
-        return None
+        number = words.get("table", "")
+        if not self.expect(len(at) == len(self.states.trains) and number.isdigit(), f"{command} names no state: {said}"):
+            return None
+        number = int(number)
+        if self.expect(number == table, f"{command} names a state of table {number}; the first stuck one is of table {table}"):
+            self.expect(self.states.is_stuck(number, at), f"{command} names a state that isn't stuck: {said}")
+        return number, at
 
     def accepted(self, command, written):
         checked = self.run("ats", ["check"], written)
@@ -180,37 +184,46 @@ class Case:
                 self.explained(number, at, (number, at) in reached)
 
     def explained(self, number, at, is_reached):
-        places = ",".join(map(str, at))
-        code, written, said = self.run("planner", ["explain", "--at", places, "--table", str(number), "--run"])
-        yard = Yard(self.document)
-        lines = [found for line in written.splitlines() if (found := line_of(line, yard)) and found[0] != "end"]
-        about = f"explain --at {places} --table {number} --run"
+        yard, words = Yard(self.document), ["explain", "--at", ",".join(map(str, at)), "--table", str(number), "--run"]
+        code, written, said = self.run("planner", words)
+        about = " ".join(words)
         self.expect(code == 0, f"{about} ended with {code}: {said}")
-        if lines:
+        _, leads, text = written.partition(LEADS)
+        if leads:
             self.counts["explain: a run"] += 1
-            faults = [yard.fault(words.pop("n"), form, words) for form, words in lines]
+            right = self.is_right(yard, text.splitlines())
             ends = yard.table is yard.tables[number] and tuple(yard.state) == at
-            self.expect(not any(faults) and ends, f"{about} wrote a run that {'is wrong' if any(faults) else 'ends elsewhere'}")
-        elif at == self.states.start and number == 0:
-            self.counts["explain: the start"] += 1
-        elif any(words in written.lower() for words in ("no run ", "can't be reached")):
+            self.expect(right and ends, f"{about} wrote a run that {'ends elsewhere' if right else 'is wrong'}")
+        elif LEADS_NOT in written:
             self.counts["explain: no run"] += 1
             self.expect(not is_reached, f"{about} says that there is no run, and there is one")
         else:
             self.counts["explain: not known"] += 1
+            self.expect("were searched, and neither" in written, f"{about} says nothing of a run")
 
-    def kept(self, command, written, *members):
-        """The states of what was written, if that is the document with further sections."""
-        after = json.loads(written)
-        former = json.loads(self.run("ats", ["migrate"])[1]) if self.document["version"] == 1 else self.document
+    @staticmethod
+    def is_right(yard, lines):
+        """Whether these are the first lines of a right journal; the yard is then in the state that they lead to."""
+        for number, line in enumerate(lines, 1):
+            found = line_of(line, yard)
+            if not found or found[1].pop("n", None) != number or yard.fault(number, *found):
+                return False
+        return True
+
+    def whole(self, text):
+        """A document with all its members, as `migrate` writes it."""
+        return json.loads(self.run("ats", ["migrate"], text)[1])
+
+    def kept(self, command, written):
+        """The states of what was written, if that is the document with further sections, behind its own."""
+        former, after = self.whole(self.text), self.whole(written)
+        same = without(former, "sections", "certificate") == without(after, "sections", "certificate")
+        self.expect(same, f"{command} changed more than sections and certificates")
         for old, new in zip(former["tables"], after["tables"]):
-            sections = old.get("sections", [])
-            self.expect(new["sections"][: len(sections)] == sections, f"{command} changed or moved a section")
-            self.expect(len(new["sections"]) <= 64, f"{command} wrote {len(new['sections'])} sections")
-        self.counts[f"{command}: sections"] += sum(len(new["sections"]) - len(old.get("sections", [])) for old, new in zip(former["tables"], after["tables"]))
-        migrated = [json.loads(self.run("ats", ["migrate"], text)[1]) for text in (self.text, written)]
-        first, second = (without(one, *members) for one in migrated)
-        self.expect(first == second, f"{command} changed more than {' and '.join(members)}")
+            own, some = old["sections"], new["sections"]
+            self.expect(some[: len(own)] == own, f"{command} changed or moved a section")
+            self.expect(len(some) <= 64, f"{command} wrote {len(some)} sections")
+            self.counts[f"{command}: sections"] += len(some) - len(own)
         return States(after)
 
     def order(self):
@@ -220,7 +233,7 @@ class Case:
         if code != 0:
             self.expect(code == 1 and not written and said, f"{' '.join(words)} ended with {code}: {said}")
             return
-        after = self.kept("order", written, "sections", "certificate")
+        after = self.kept("order", written)
         if len(words) == 1:
             reached = self.states.reached()
             forbidden = sorted((number, state) for number, state in reached if state not in after.legal[number])
@@ -239,14 +252,11 @@ class Case:
         if code != 0:
             self.expect(code == 1 and not written and said, f"protect ended with {code}: {said}")
             return
-        after = self.kept("protect", written, "sections", "certificate")
+        after = self.kept("protect", written)
         self.accepted("protect", written)
         completing = [self.states.completing(number) for number in range(len(self.states.tables))]
         lost = sorted((number, at) for number, at in self.states.reached() if at in completing[number] and at not in after.legal[number])
         self.expect(not lost, f"protect forbids states that can be completed: {lost[:3]}")
-
-
-States = states.States
 
 
 def case(task):
