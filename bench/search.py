@@ -49,13 +49,13 @@ def on_one_way(draw):
     for first in sorted(draw.sample(range(len(names)), min(trains, len(names))), reverse=True):
         begun = draw.randint(0, min(2, first))
         mission = names[first - begun : len(names) - draw.choice([0, 0, 0, 1])]
-        if draw.random() < 0.15:
+        if draw.random() < 0.05:
             mission, begun = names[first::-1], 0
         missions.append(mission or names[first : first + 1])
         start.append(min(begun, len(missions[-1]) - 1))
-    all_leave = draw.random() < 0.7
+    all_leave = draw.random() < 0.8
     exits = [all_leave or draw.random() < 0.5 for _ in missions]
-    sections = [agree.section(draw, 3, missions, exits) for _ in range(draw.choice([0, 0, 1, 2]))]
+    sections = [agree.section(draw, 3, missions, exits) for _ in range(draw.choice([0, 0, 0, 1, 2]))]
     table = {"missions": missions, "exits": exits, "sections": sections}
     if draw.random() < 0.2:
         table["connections"] = [agree.connection(draw, missions, exits)]
