@@ -9,19 +9,23 @@ from pathlib import Path
 ROOT = Path(__file__).resolve().parent.parent
 
 
+def proved(name):
+    return ROOT / "crates" / name / "out" / name
+
+
 def program(name):
-    """The command of `ats` or of `planner`, and whether it is proved."""
-    built, trial = ROOT / "crates" / name / "out" / name, ROOT / "out" / "trial" / name
-    if built.exists():
-        return [str(built)], True
+    """The command of `ats` or of `planner`."""
+    trial = ROOT / "out" / "trial" / name
+    if proved(name).exists():
+        return [str(proved(name))]
     if not trial.exists():
         subprocess.run([ROOT / name], stdin=subprocess.DEVNULL, stdout=subprocess.DEVNULL)
-    return [str(trial)], False
+    return [str(trial)]
 
 
 def command_of(text, name):
     """The command of an option, or else the program of that name."""
-    return shlex.split(text) if text else program(name)[0]
+    return shlex.split(text) if text else program(name)
 
 
 def spent():

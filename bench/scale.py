@@ -21,7 +21,7 @@ from pathlib import Path
 import families
 import other_ways
 from model import Yard
-from programs import called, command_of, compact, program
+from programs import called, command_of, compact, proved
 from scale_picture import picture
 
 # Each family: its function and sizes; with "run", the order of the trains is taken from a run, since the tracks force none.
@@ -246,10 +246,11 @@ def main():
             if kept:
                 kept.write_text(json.dumps(known, indent=1))
     print(table(rows, asked.seconds))
-    print("\n".join(ratios(rows)))
+    for line in ratios(rows):
+        print(line)
     if asked.picture:
         Path(asked.picture).write_text(picture(rows))
-    if not (program("ats")[1] and program("planner")[1]):
+    if any(not asked_for and not proved(name).exists() for name, asked_for in (("ats", asked.ats), ("planner", asked.planner))):
         print("The times are of trial builds with run-time checks.")
     return 1 if measuring.faults else 0
 
