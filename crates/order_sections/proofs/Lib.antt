@@ -1,0 +1,9 @@
+pub mod Added
+pub mod Asked
+pub mod Completing
+pub mod Extending
+pub mod Journals
+pub mod Reaching
+pub mod Rows
+pub mod Sums
+pub mod Tested

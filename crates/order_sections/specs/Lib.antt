@@ -1,0 +1,4 @@
+pub mod Found
+pub mod Grids
+pub mod Orders
+pub mod Pairs

@@ -1,0 +1,24 @@
+//! Sections that forbid only what no run from the start reaches: the order in which the tracks keep two trains.
+#![tactic(auto)]
+
+mod choosing;
+mod closed;
+mod grid;
+mod keeping;
+mod laws;
+mod making;
+mod ordering;
+mod orders;
+mod pairs;
+mod refused;
+mod search;
+mod stairs;
+
+pub use grid::Grid;
+pub use laws::{live_orders_complete_runs, orders_keep_runs, reached_pairs_are_in_closed_sets};
+pub use making::Reason;
+pub use ordering::{Ordered, order};
+pub use orders::Order;
+pub use refused::OrderRefused;
+pub use search::Two;
+pub use stairs::Step;
