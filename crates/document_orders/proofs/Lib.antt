@@ -1,0 +1,5 @@
+pub mod Adding
+pub mod Certificates
+pub mod Offering
+pub mod Rows
+pub mod Taking

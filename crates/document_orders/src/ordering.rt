@@ -1,0 +1,66 @@
+// A document with orders.
+ghost use Rattle.std.specs.Prelude.{IfOk};
+ghost use Rattle.document_orders.specs.Ordered.{IsOrdered};
+
+use crate::NotOrdered;
+use crate::keeping::with_certs;
+use layout_json::{Doc, migrate, tables_apart, version, write_replaced};
+use order_sections::{Order, Ordered, Reason, Two, order};
+use rail_model::{Table, sections_of};
+use std::alloc::Global;
+
+// The most sections of a table.
+const MOST_SECTIONS: u32 = 64;
+
+/// The text of a document with orders. For each table, and each section that was added to it, in their order, `reasons` says why;
+/// `left_out` has the trains of the orders for which there was no room, as the one that leads and the one that follows.
+#[derive(Drop)]
+pub struct OrderedDoc {
+    pub text: Vec<u8>,
+    pub orders: Vec<Order>,
+    pub reasons: Vec<Vec<Reason>>,
+    pub left_out: Vec<Two>,
+}
+
+// Whether nothing could be added for want of room.
+fn is_full(tables: &[Table], found: &Ordered) -> bool {
+    found.orders.is_empty()
+        && (!found.left_out.is_empty()
+            || tables
+                .iter()
+                .all(|table| sections_of(table) >= MOST_SECTIONS))
+}
+
+/// The document with sections behind its own that keep trains in the order that the tracks force: they forbid only what no run from the
+/// start reaches. It is in version 2 if it was in version 1. A certificate that isn't a tree is replaced by the smallest one; otherwise
+/// nothing but the sections changes.
+///
+/// # Errors
+///
+/// There is no room for a section, or no memory.
+pub fn ordered(alloc: Global, doc: &Doc) -> Result<OrderedDoc, NotOrdered>
+    ensures { IfOk result (λ made. IsOrdered doc.now made.text.items) }
+{
+    let later = migrate(alloc, doc)?;
+    let is_later = version(&later) > 1;
+    prove!(is_later);
+    let (frame, tables) = tables_apart(alloc, later)?;
+    let found = order(alloc, &tables, frame.start())?;
+    if is_full(&tables, &found) {
+        return Err(NotOrdered::NoRoom);
+    }
+    let parts = with_certs(alloc, doc, &found.tables)?;
+    let text = write_replaced(alloc, &frame, &parts)?;
+    let Ordered {
+        orders,
+        reasons,
+        left_out,
+        ..
+    } = found;
+    Ok(OrderedDoc {
+        text,
+        orders,
+        reasons,
+        left_out,
+    })
+}
