@@ -32,6 +32,7 @@ from states import States, count
 
 MOST_STATES, BUDGET = 2000, 100_000
 LEADS, LEADS_NOT = "A run from the start leads there:\n", "No run from the start leads there."
+STARTS = "The trains are there at the start: no move is needed."
 COMMANDS = ["certify", "explain", "order", "protect"]
 
 
@@ -194,6 +195,9 @@ class Case:
             right = self.is_right(yard, text.splitlines())
             ends = yard.table is yard.tables[number] and tuple(yard.state) == at
             self.expect(right and ends, f"{about} wrote a run that {'ends elsewhere' if right else 'is wrong'}")
+        elif STARTS in written:
+            self.counts["explain: a run"] += 1
+            self.expect(number == 0 and tuple(yard.state) == at, f"{about} says that no move is needed, and the trains are elsewhere")
         elif LEADS_NOT in written:
             self.counts["explain: no run"] += 1
             self.expect(not is_reached, f"{about} says that there is no run, and there is one")

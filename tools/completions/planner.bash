@@ -2,7 +2,7 @@
 _planner() {
   local word=${COMP_WORDS[COMP_CWORD]} options
   if [ "$COMP_CWORD" -eq 1 ]; then
-    COMPREPLY=($(compgen -W "plan explain lint certify timetable graph layout --help --version" -- "$word"))
+    COMPREPLY=($(compgen -W "plan explain lint certify order timetable graph layout --help --version" -- "$word"))
     return
   fi
   if [ "${COMP_WORDS[COMP_CWORD-1]}" = --before ]; then
@@ -14,7 +14,7 @@ _planner() {
     return
   fi
   case ${COMP_WORDS[1]} in
-    explain) options="--at --table --line" ;;
+    explain) options="--at --table --run --line" ;;
     lint) options="--before" ;;
     certify) options="--budget --effort" ;;
     timetable) options="--csv" ;;

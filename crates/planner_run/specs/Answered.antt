@@ -1,5 +1,5 @@
 -- What the answers to orders are.
-use Rattle.std.specs.Prelude.{◌≡◌, ℕ, List, [], Ok, Option, Some, None, string_bytes}
+use Rattle.std.specs.Prelude.{◌≡◌, ℕ, ◌++◌, Bool, true, false, List, [], Ok, Option, Some, None, string_bytes}
 use Rattle.ats_io.specs.Bytes.{AddsPrefix}
 use Rattle.decimal_number.specs.Decimal.{number_of}
 use Rattle.document_shapes.specs.Written.{text_of}
@@ -15,6 +15,7 @@ use Rattle.refusal_sentences.specs.Explains.{ExplainsState}
 use Rattle.refusal_sentences.specs.ExplainedLines.{ExplainsLine}
 use Rattle.refusal_sentences.specs.declared.explained.Explained.{Explained}
 use Rattle.refusal_sentences.specs.declared.explained.Explained.TheVariants.{State, Refusal, NotLegal, NoTable, NoDocument, NoLine}
+use Rattle.run_sentences.specs.Told.{TellsRun}
 use Rattle.run_timetable.specs.declared.run.Run.{Run}
 use Rattle.timed_reading.specs.Runs.{IsToldRun}
 use Rattle.train_graph.specs.Marks.{IsGraph}
@@ -23,12 +24,13 @@ use Rattle.document_lint.specs.Told.{LosesNoSection}
 use Rattle.svg_text.specs.Tree.{Picture}
 use Rattle.svg_text.specs.Text.{svg_text}
 use Rattle.planner_words.specs.declared.orders.Order.{Order}
-use Rattle.planner_words.specs.declared.orders.Order.TheVariants.{Plan as OfPlan, ExplainState, ExplainLine, Lint, Certify, Timetable, Graph, Layout}
+use Rattle.planner_words.specs.declared.orders.Order.TheVariants.{Plan as OfPlan, ExplainState, ExplainLine, Lint, Certify, AddOrders, Timetable, Graph, Layout}
 use Rattle.planner_words.specs.declared.orders.WordsAnswered.{WordsAnswered}
 use Rattle.planner_words.specs.declared.orders.WordsAnswered.TheVariants.{Shown, Refused, Memory}
 use Rattle.planner_run.specs.Certifying.{IsCertifiedInput, IsCertifyingFault}
+use Rattle.planner_run.specs.Ordering.{IsOrderedInput}
 use Rattle.planner_run.specs.declared.answer.Answer.{Answer}
-use Rattle.planner_run.specs.declared.answer.Answer.TheVariants.{Text, Remarks, Wrong}
+use Rattle.planner_run.specs.declared.answer.Answer.TheVariants.{Text, Remarks, Noted, Wrong}
 use Rattle.planner_run.specs.declared.top.Status.{Status}
 use Rattle.planner_run.specs.declared.top.Status.TheVariants.{Done, Faulty, Failed}
 use denote.Ref.{Bor}
@@ -53,15 +55,37 @@ ExplainsAs (NoTable tables words) text = ⊥
 ExplainsAs (NoDocument refused words) text = ⊥
 ExplainsAs (NoLine words) text = ⊥
 
--- The text explains the positions that the words name, under the table that they name.
-pub record ExplainsPlaces (input table_words place_words text : List ℕ) : Type 0 where
+-- The text is these words on a state, and behind them what is known of runs from the start of the document to it.
+pub record IsToldWithRun (input : List ℕ) (t : ℕ) (p words text : List ℕ) : Type 0 where
+  pub document : Doc
+  pub run : List ℕ
+  pub is_read : doc_of input ≡ Ok document
+  pub tells : TellsRun document t p run
+  pub is_text : text ≡ words ++ run
+
+-- The text is these words on a state, and tells of runs to it if this is asked for.
+abbrev pub IsStateText : List ℕ → ℕ → List ℕ → Bool → List ℕ → List ℕ → Type 0
+IsStateText input t p true words text = IsToldWithRun input t p words text
+IsStateText input t p false words text = text ≡ words
+
+-- the text of an explanation, and of the runs to its state if these are asked for
+abbrev pub TellsState : List ℕ → ℕ → List ℕ → Bool → Explained → List ℕ → Type 0
+TellsState input t p run (State words) text = IsStateText input t p run (string_bytes words) text
+TellsState input t p run (Refusal words) text = text ≡ string_bytes words
+TellsState input t p run (NotLegal cause words) text = text ≡ string_bytes words
+TellsState input t p run (NoTable tables words) text = ⊥
+TellsState input t p run (NoDocument refused words) text = ⊥
+TellsState input t p run (NoLine words) text = ⊥
+
+-- The text explains the positions that the words name, under the table that they name, and tells of runs to them if this is asked for.
+pub record ExplainsPlaces (input table_words place_words : List ℕ) (run : Bool) (text : List ℕ) : Type 0 where
   pub table : ℕ
   pub places : List ℕ
   pub told : Explained
   pub is_table : number_of table_words ≡ Some table
   pub are_places : place_words ≡ places_words places
   pub explains : ExplainsState input table places told
-  pub tells : ExplainsAs told text
+  pub tells : TellsState input table places run told text
 
 -- The text explains a line of ats.
 pub record ExplainsWords (input line text : List ℕ) : Type 0 where
@@ -120,10 +144,11 @@ HasNoRemarks former input text = (text ≡ []) × NeedsNoRemark former input
 -- The text is what an order comes to on an input, with a former one for remarks.
 abbrev pub IsTextFor : Order → Option (Bor (List ℕ)) → List ℕ → List ℕ → Type 0
 IsTextFor OfPlan former input text = IsPlanned input text
-IsTextFor (ExplainState table at) former input text = ExplainsPlaces input table.now at.now text
+IsTextFor (ExplainState table at run) former input text = ExplainsPlaces input table.now at.now run text
 IsTextFor (ExplainLine line) former input text = ExplainsWords input line.now text
 IsTextFor (Lint before) former input text = HasNoRemarks former input text
 IsTextFor (Certify budget effort) former input text = IsCertifiedInput input budget text
+IsTextFor AddOrders former input text = IsOrderedInput input text
 IsTextFor (Timetable csv) former input text = Unit {0}
 IsTextFor (Graph train) former input text = IsGraphText text
 IsTextFor (Layout table at) former input text = IsLayoutText input table.now at text
@@ -132,9 +157,10 @@ IsTextFor (Layout table at) former input text = IsLayoutText input table.now at 
 abbrev pub AreWrongFor : Order → List ℕ → List ℕ → Type 0
 AreWrongFor (Certify budget effort) input lines = IsCertifyingFault input budget lines
 AreWrongFor OfPlan input lines = Unit {0}
-AreWrongFor (ExplainState table at) input lines = Unit {0}
+AreWrongFor (ExplainState table at run) input lines = Unit {0}
 AreWrongFor (ExplainLine line) input lines = Unit {0}
 AreWrongFor (Lint before) input lines = Unit {0}
+AreWrongFor AddOrders input lines = Unit {0}
 AreWrongFor (Timetable csv) input lines = Unit {0}
 AreWrongFor (Graph train) input lines = Unit {0}
 AreWrongFor (Layout table at) input lines = Unit {0}
@@ -149,41 +175,66 @@ pub record Tells (order : Order) (input : List ℕ) (old new : Option (List ℕ)
 abbrev pub AsksForRemarks : Order → Type 0
 AsksForRemarks (Lint before) = Unit {0}
 AsksForRemarks OfPlan = ⊥
-AsksForRemarks (ExplainState table at) = ⊥
+AsksForRemarks (ExplainState table at run) = ⊥
 AsksForRemarks (ExplainLine line) = ⊥
 AsksForRemarks (Certify budget effort) = ⊥
+AsksForRemarks AddOrders = ⊥
 AsksForRemarks (Timetable csv) = ⊥
 AsksForRemarks (Graph train) = ⊥
 AsksForRemarks (Layout table at) = ⊥
 
--- The answer has no remarks, and where it is a text, this holds of it.
+-- The order asks for a text with notes.
+abbrev pub AsksForNotes : Order → Type 0
+AsksForNotes AddOrders = Unit {0}
+AsksForNotes OfPlan = ⊥
+AsksForNotes (ExplainState table at run) = ⊥
+AsksForNotes (ExplainLine line) = ⊥
+AsksForNotes (Lint before) = ⊥
+AsksForNotes (Certify budget effort) = ⊥
+AsksForNotes (Timetable csv) = ⊥
+AsksForNotes (Graph train) = ⊥
+AsksForNotes (Layout table at) = ⊥
+
+-- The answer has no remarks and no notes, and where it is a text, this holds of it.
 abbrev pub IfText : (List ℕ → Type 0) → Answer → Type 0
 IfText Holds (Text text) = Holds text.items
 IfText Holds (Remarks lines) = ⊥
+IfText Holds (Noted text lines) = ⊥
 IfText Holds (Wrong lines) = Unit {0}
 
 -- The answer says with these lines what is wrong.
 abbrev pub IsWrong : List ℕ → Answer → Type 0
 IsWrong words (Text text) = ⊥
 IsWrong words (Remarks lines) = ⊥
+IsWrong words (Noted text lines) = ⊥
 IsWrong words (Wrong lines) = string_bytes lines ≡ words
 
--- The answer is what an order comes to on an input, with remarks only where it asks for them, or what is wrong with the input.
+-- The answer is what an order comes to on an input, with remarks or notes only where it asks for them, or what is wrong with the input.
 abbrev pub IsAnswerTo : Order → Option (Bor (List ℕ)) → List ℕ → Answer → Type 0
 IsAnswerTo order former input (Text text) = IsTextFor order former input text.items
 IsAnswerTo order former input (Remarks lines) = AsksForRemarks order
+IsAnswerTo order former input (Noted text lines) = AsksForNotes order × IsTextFor order former input text.items
 IsAnswerTo order former input (Wrong lines) = AreWrongFor order input (string_bytes lines)
 
 -- The answer is the document with certificates, or the line that says why it has none.
 abbrev pub IsCertifying : List ℕ → ℕ → Answer → Type 0
 IsCertifying input budget (Text text) = IsCertifiedInput input budget text.items
 IsCertifying input budget (Remarks lines) = ⊥
+IsCertifying input budget (Noted text lines) = ⊥
 IsCertifying input budget (Wrong lines) = IsCertifyingFault input budget (string_bytes lines)
+
+-- The answer is the document with orders and notes on them, or what is wrong.
+abbrev pub IsOrdering : List ℕ → Answer → Type 0
+IsOrdering input (Text text) = ⊥
+IsOrdering input (Remarks lines) = ⊥
+IsOrdering input (Noted text lines) = IsOrderedInput input text.items
+IsOrdering input (Wrong lines) = Unit {0}
 
 -- The answer is remarks, or an empty text where there are none.
 abbrev pub IsLinted : Option (Bor (List ℕ)) → List ℕ → Answer → Type 0
 IsLinted former input (Text text) = HasNoRemarks former input text.items
 IsLinted former input (Remarks lines) = Unit {0}
+IsLinted former input (Noted text lines) = ⊥
 IsLinted former input (Wrong lines) = ⊥
 
 -- the text that words get that ask for help or for the version

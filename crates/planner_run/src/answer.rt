@@ -6,6 +6,7 @@ use crate::certifying::certify;
 use crate::drawing::layout;
 use crate::explaining::{line as explain_line, state as explain_state};
 use crate::linting::remarks;
+use crate::ordering::add_orders;
 use crate::planning::plan;
 use crate::timing::{graph, timetable};
 use planner_words::Order;
@@ -18,12 +19,14 @@ pub enum Answer {
     Text(Vec<u8>),
     /// Remarks on the input, in lines.
     Remarks(String),
+    /// The text that was asked for, and notes on it, in lines.
+    Noted(Vec<u8>, String),
     /// What is wrong with the input, in lines, each of which ends with a newline.
     Wrong(String),
 }
 
 /// What an order comes to on this input. `former` is the former document, where the order names one.
-#[tactic(auto, using(crate::proofs::Suits::if_text_answers, crate::proofs::Suits::lint_answers, crate::proofs::Suits::certifying_answers))]
+#[tactic(auto, using(crate::proofs::Suits::if_text_answers, crate::proofs::Suits::lint_answers, crate::proofs::Suits::certifying_answers, crate::proofs::Suits::ordering_answers))]
 pub fn answer_to(
     alloc: Global,
     order: &Order<'_>,
@@ -34,10 +37,11 @@ pub fn answer_to(
 {
     match order {
         Order::Plan => plan(alloc, input),
-        Order::ExplainState { table, at } => explain_state(alloc, input, table, at),
+        Order::ExplainState { table, at, run } => explain_state(alloc, input, table, at, *run),
         Order::ExplainLine { line } => explain_line(alloc, input, line),
         Order::Lint { .. } => remarks(alloc, input, former),
         Order::Certify { budget, effort } => certify(alloc, input, *budget, *effort),
+        Order::AddOrders => add_orders(alloc, input),
         Order::Timetable { csv } => timetable(alloc, input, *csv),
         Order::Graph { train } => graph(alloc, input, *train),
         Order::Layout { table, at } => layout(alloc, input, table, *at),

@@ -6,6 +6,7 @@ mod certifying;
 mod drawing;
 mod explaining;
 mod linting;
+mod ordering;
 mod planning;
 mod timing;
 mod top;

@@ -26,6 +26,40 @@ T0 is at A, place 0 of 1, and wants B: connection 0 holds it until T1 has come t
 T1 is at C, place 0 of 1, and wants D: it may
 The state isn't stuck: a train may move.
 ====
+explain|--at|1,1|--run
+{"version":1,"points":[["A",0],["M",0],["N",0],["B",0],["C",0],["D",0]],"links":[["A","M"],["M","N"],["N","B"],["C","N"],["M","D"]],"zones":1,"trains":["T0","T1"],"start":[0,0],"tables":[{"missions":[["A","M","N","B"],["C","N","M","D"]],"sections":[],"certificate":[]}]}
+----
+T0 is at M, place 1 of 3, and wants N: T1 is there
+T1 is at N, place 1 of 3, and wants M: T0 is there
+A circle: T0 waits for T1. T1 waits for T0.
+No train can move, so the state is stuck. The sections of table 0 allow it, whether or not trains can come to it from the start.
+A section keeps it out: write one that these places overfill, or let ats repair make one.
+A run from the start leads there:
+1 move T1 C N
+2 move T0 A M
+====
+explain|--at|2,2|--run
+{"version":1,"points":[["W",0],["L",0],["E",0]],"links":[["W","L"],["L","E"]],"zones":1,"trains":["T0","T1"],"start":[0,0],"tables":[{"missions":[["W","L","E"],["E","L","W"]],"sections":[],"certificate":[]}]}
+----
+T0 is at E, place 2 of 2, and has arrived
+T1 is at W, place 2 of 2, and has arrived
+All trains have arrived.
+No run from the start leads there.
+====
+explain|--at|3,2|--table|1|--run
+{"version":1,"points":[["W",0],["L1",0],["L2",0],["E",0],["S",0]],"links":[["W","L1"],["W","L2"],["L1","E"],["L2","E"],["E","S"]],"zones":1,"trains":["T0","T1"],"start":[0,0],"tables":[{"missions":[["W","L1","E"],["E","L2","W"]],"sections":[],"certificate":[]},{"after":1,"missions":[["W","L1","E","S"],["E","L2","W"]],"sections":[],"certificate":[]}]}
+----
+T0 is at S, place 3 of 3, and has arrived
+T1 is at W, place 2 of 2, and has arrived
+All trains have arrived.
+A run from the start leads there:
+1 move T1 E L2
+2 move T0 W L1
+3 move T1 L2 W
+4 move T0 L1 E
+5 table 1
+6 move T0 E S
+====
 explain|--line|ats: 57 MoveRoom table=0 index=4 train=0 section=0
 {"version":1,"points":[["A",0],["M",0],["N",0],["B",0],["C",0],["D",0]],"links":[["A","M"],["M","N"],["N","B"],["C","N"],["M","D"]],"zones":1,"trains":["T0","T1"],"start":[0,0],"tables":[{"missions":[["A","M","N","B"],["C","N","M","D"]],"sections":[{"limit":1,"changes":[[0,1,0,-1],[0,1,0,-1]]}],"certificate":[[0,0,0],[0,1,0],[4,0],[0,1,2],[4,1],[4,0],[0,0,2],[0,1,0],[4,0],[0,1,2],[2,0],[4,0],[0,1,2],[4,1],[3]]}]}
 ----

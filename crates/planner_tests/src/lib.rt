@@ -6,6 +6,8 @@ mod certificates;
 #[cfg(test)]
 mod documents;
 #[cfg(test)]
+mod orders;
+#[cfg(test)]
 mod plans;
 #[cfg(test)]
 mod rows;

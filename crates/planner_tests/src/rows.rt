@@ -39,6 +39,11 @@ pub(crate) fn answer(alloc: Global, line: &str, input: &str) -> Result<String, F
     match answer_to(alloc, &order, input.as_bytes(), None)? {
         Answer::Text(text) => Ok(String::from_utf8(text).ok().ok_or("a text")?),
         Answer::Remarks(lines) => Ok(lines),
+        Answer::Noted(text, lines) => {
+            let mut said = String::from_utf8(text).ok().ok_or("a text")?;
+            said.push_str(lines.as_str())?;
+            Ok(said)
+        }
         Answer::Wrong(lines) => Ok(lines),
     }
 }

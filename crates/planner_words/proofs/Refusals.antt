@@ -8,7 +8,7 @@ use Rattle.planner_words.specs.declared.orders.Effort.{Effort}
 use Rattle.planner_words.specs.declared.orders.Effort.TheVariants.{Small, Usual, Great}
 use Rattle.planner_words.specs.Answered.{AnswersWords, AsksForNone, MissesNone}
 use Rattle.planner_words.specs.Named.{IsEffort, budget_in, word_of}
-use Rattle.planner_words.specs.declared.orders.Order.TheVariants.{Plan, ExplainState, ExplainLine, Lint, Certify, Timetable, Graph, Layout}
+use Rattle.planner_words.specs.declared.orders.Order.TheVariants.{Plan, ExplainState, ExplainLine, Lint, Certify, AddOrders, Timetable, Graph, Layout}
 use Rattle.planner_words.specs.declared.orders.WordsAnswered.{WordsAnswered}
 use Rattle.planner_words.specs.declared.orders.WordsAnswered.TheVariants.{Shown, Refused, Memory}
 
@@ -33,10 +33,11 @@ other_name same = let first : 101 ≡ 99 = ap (λ word. get_or word 0 0) same in
 -- the command `explain` asks for nothing without places and without a line
 pub none_explained : (given : List Row) → None ≡ first_of (codes "at") given → None ≡ first_of (codes "line") given → AsksForNone (Some (codes "explain", given))
 none_explained given no_places no_line Plan asked = cc
-none_explained given no_places no_line (ExplainState table at) asked = let found : Some at.now ≡ None = asked.1.1 ∙ sym no_places in cc
+none_explained given no_places no_line (ExplainState table at run) asked = let found : Some at.now ≡ None = asked.1.1 ∙ sym no_places in cc
 none_explained given no_places no_line (ExplainLine line) asked = let found : Some line.now ≡ None = asked.1.1 ∙ sym no_line in cc
 none_explained given no_places no_line (Lint before) asked = cc
 none_explained given no_places no_line (Certify budget effort) asked = other_name (sym asked.0)
+none_explained given no_places no_line AddOrders asked = cc
 none_explained given no_places no_line (Timetable csv) asked = cc
 none_explained given no_places no_line (Graph train) asked = cc
 none_explained given no_places no_line (Layout table at) asked = cc
@@ -44,10 +45,11 @@ none_explained given no_places no_line (Layout table at) asked = cc
 -- the command `certify` asks for nothing with a number that is no budget
 pub none_certified : (given : List Row) → budget_in given ≡ None → AsksForNone (Some (codes "certify", given))
 none_certified given no_budget Plan asked = cc
-none_certified given no_budget (ExplainState table at) asked = other_name asked.0
+none_certified given no_budget (ExplainState table at run) asked = other_name asked.0
 none_certified given no_budget (ExplainLine line) asked = other_name asked.0
 none_certified given no_budget (Lint before) asked = cc
 none_certified given no_budget (Certify budget effort) asked = let found : Some budget ≡ None = sym asked.1.0 ∙ no_budget in cc
+none_certified given no_budget AddOrders asked = cc
 none_certified given no_budget (Timetable csv) asked = cc
 none_certified given no_budget (Graph train) asked = cc
 none_certified given no_budget (Layout table at) asked = cc
@@ -55,10 +57,11 @@ none_certified given no_budget (Layout table at) asked = cc
 -- nor with a word that is no effort
 pub none_tried : (given : List Row) → ((effort : Effort) → IsEffort (first_of (codes "effort") given) effort → ⊥) → AsksForNone (Some (codes "certify", given))
 none_tried given no_effort Plan asked = cc
-none_tried given no_effort (ExplainState table at) asked = other_name asked.0
+none_tried given no_effort (ExplainState table at run) asked = other_name asked.0
 none_tried given no_effort (ExplainLine line) asked = other_name asked.0
 none_tried given no_effort (Lint before) asked = cc
 none_tried given no_effort (Certify budget effort) asked = no_effort effort asked.1.1
+none_tried given no_effort AddOrders asked = cc
 none_tried given no_effort (Timetable csv) asked = cc
 none_tried given no_effort (Graph train) asked = cc
 none_tried given no_effort (Layout table at) asked = cc

@@ -4,7 +4,7 @@ use Rattle.clap.specs.Words.{App, Rule, Shape, Text, new_app}
 use Rattle.clap.specs.declared.builder.action.ArgAction.TheVariants.{Set, SetTrue}
 use Rattle.command_words.specs.Built.{leaf, long_option, with_all}
 use Rattle.planner_words.specs.declared.asking.Choice.{Choice}
-use Rattle.planner_words.specs.declared.asking.Choice.TheVariants.{Flag, Value, Excluding}
+use Rattle.planner_words.specs.declared.asking.Choice.TheVariants.{Flag, ExcludingFlag, Value, Excluding}
 
 -- an option with one value
 abbrev pub valued : Text → Rule
@@ -18,9 +18,14 @@ excluding name = record (valued name) { is_free = false }
 abbrev pub flag : Text → Rule
 flag name = record (long_option name) { action = Some SetTrue }
 
+-- the same, which can't go with some other one
+abbrev pub excluding_flag : Text → Rule
+excluding_flag name = record (flag name) { is_free = false }
+
 -- what clap takes an option for
 abbrev pub rule_for : Choice → Rule
 rule_for (Flag name help) = flag name.now
+rule_for (ExcludingFlag name help without) = excluding_flag name.now
 rule_for (Value name value help) = valued name.now
 rule_for (Excluding name value help without) = excluding name.now
 
@@ -35,7 +40,7 @@ abbrev pub plan : Shape
 plan = leaf (codes "plan") []
 
 abbrev pub explain : Shape
-explain = leaf (codes "explain") (excluding (codes "at") ∷ valued (codes "table") ∷ excluding (codes "line") ∷ [])
+explain = leaf (codes "explain") (excluding (codes "at") ∷ valued (codes "table") ∷ excluding_flag (codes "run") ∷ excluding (codes "line") ∷ [])
 
 abbrev pub lint : Shape
 lint = leaf (codes "lint") (valued (codes "before") ∷ [])
@@ -56,9 +61,12 @@ layout = leaf (codes "layout") (valued (codes "at") ∷ valued (codes "table") �
 abbrev pub documents : List Shape
 documents = plan ∷ explain ∷ lint ∷ []
 
+abbrev pub order : Shape
+order = leaf (codes "order") []
+
 -- those that make something of a document
 abbrev pub makers : List Shape
-makers = certify ∷ []
+makers = certify ∷ order ∷ []
 
 -- those that read a run, or draw
 abbrev pub pictures : List Shape

@@ -20,13 +20,19 @@ enum Choice {
         name: &'static str,
         help: &'static str,
     },
+    // The same, and it can't go with the option `without`.
+    ExcludingFlag {
+        name: &'static str,
+        help: &'static str,
+        without: &'static str,
+    },
     // It takes a value, which help calls `value`.
     Value {
         name: &'static str,
         value: &'static str,
         help: &'static str,
     },
-    // The same, and it can't go with the option `without`.
+    // The same as `Value`, and it can't go with the option `without`.
     Excluding {
         name: &'static str,
         value: &'static str,
@@ -53,6 +59,12 @@ const LINE: Choice = Choice::Excluding {
     value: "LINE",
     help: "A line that `ats` wrote to standard error",
     without: "table",
+};
+
+const RUN: Choice = Choice::ExcludingFlag {
+    name: "run",
+    help: "Adds a run from the start that leads there, or that there is none",
+    without: "line",
 };
 
 const BEFORE: Choice = Choice::Value {
@@ -97,7 +109,7 @@ pub(crate) fn command<'a>(alloc: Global) -> Result<Command<'a>, AllocError>
     let about = "Reads a plan (TOML) and writes its document, for `ats make`";
     let command = with_subcommand(alloc, start(alloc), "plan", about, &[])?;
     let about = "Reads a document and explains a state, or a line of `ats`, by names";
-    let command = with_subcommand(alloc, command, "explain", about, &[AT, TABLE, LINE])?;
+    let command = with_subcommand(alloc, command, "explain", about, &[AT, TABLE, RUN, LINE])?;
     let about = "Reads a document and lists what has no effect or is likely a mistake";
     let command = with_subcommand(alloc, command, "lint", about, &[BEFORE])?;
     let command = with_makers(alloc, command)?;
@@ -109,7 +121,7 @@ fn start<'a>(alloc: Global) -> Command<'a>
     ensures { IsBuiltAs spec.start result }
 {
     Command::new(alloc, "planner")
-        .version("1.1.0")
+        .version("1.2.0")
         .about(ABOUT)
         .no_binary_name(true)
         .subcommand_required(true)
@@ -121,7 +133,10 @@ fn with_makers<'a>(alloc: Global, command: Command<'a>) -> Result<Command<'a>, A
     ensures { IfOk result (IsBuiltAs (with_all spec.makers (app_of command.entry))) }
 {
     let about = "Reads a document and writes it with certificates that are found by search";
-    with_subcommand(alloc, command, "certify", about, &[BUDGET, EFFORT])
+    let command = with_subcommand(alloc, command, "certify", about, &[BUDGET, EFFORT])?;
+    let about =
+        "Reads a document and writes it with sections for the order that its tracks force on trains";
+    with_subcommand(alloc, command, "order", about, &[])
 }
 
 fn with_pictures<'a>(alloc: Global, command: Command<'a>) -> Result<Command<'a>, AllocError>
@@ -171,9 +186,12 @@ fn option<'a>(alloc: Global, choice: &Choice) -> Result<Arg<'a>, AllocError>
     ensures { IfOk result (λ arg. (rule_of arg ≡ spec.rule_for choice.now) × (arg.global ≡ false)) }
 {
     match *choice {
-        Choice::Flag { name, help } => Ok(long_option(alloc, name, help).action(
-            ArgAction::SetTrue,
-        )),
+        Choice::Flag { name, help } => Ok(flag(alloc, name, help)),
+        Choice::ExcludingFlag {
+            name,
+            help,
+            without,
+        } => flag(alloc, name, help).conflicts_with(without),
         Choice::Value { name, value, help } => Ok(valued(alloc, name, value, help)),
         Choice::Excluding {
             name,
@@ -182,6 +200,15 @@ fn option<'a>(alloc: Global, choice: &Choice) -> Result<Arg<'a>, AllocError>
             without,
         } => valued(alloc, name, value, help).conflicts_with(without),
     }
+}
+
+// An option without a value.
+fn flag<'a>(alloc: Global, name: &'static str, help: &'static str) -> Arg<'a>
+    ensures rule { rule_of result ≡ spec.flag name.entry.now }
+    ensures local { result.global ≡ false }
+    ensures plain { IsPlainArg result }
+{
+    long_option(alloc, name, help).action(ArgAction::SetTrue)
 }
 
 // An option with one value.

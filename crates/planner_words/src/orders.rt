@@ -13,20 +13,40 @@ pub enum Effort {
 pub enum Order<'a> {
     /// Make the document of a plan.
     Plan,
-    /// Explain a state of a document's table, given by the positions of its trains.
-    ExplainState { table: &'a str, at: &'a str },
+    /// Explain a state of a document's table, given by the positions of its trains; with `run`, also whether a run from the start leads there.
+    ExplainState {
+        table: &'a str,
+        at: &'a str,
+        run: bool,
+    },
     /// Explain a line that `ats` printed.
-    ExplainLine { line: &'a str },
+    ExplainLine {
+        line: &'a str,
+    },
     /// List what a document says without effect, or what of a former document, in a file, is gone.
-    Lint { before: Option<&'a str> },
+    Lint {
+        before: Option<&'a str>,
+    },
     /// Find certificates for the tables of a document by search, each of at most `budget` nodes, 1 to 1,000,000.
-    Certify { budget: u32, effort: Effort },
+    Certify {
+        budget: u32,
+        effort: Effort,
+    },
+    /// Add sections to a document that keep trains in the order that its tracks force.
+    AddOrders,
     /// Write the timetable of a timed run, as columns or with commas.
-    Timetable { csv: bool },
+    Timetable {
+        csv: bool,
+    },
     /// Draw a timed run along the route of a train.
-    Graph { train: Option<&'a str> },
+    Graph {
+        train: Option<&'a str>,
+    },
     /// Draw the layout of a document, with its trains at the start of a table or at these positions.
-    Layout { table: &'a str, at: Option<&'a str> },
+    Layout {
+        table: &'a str,
+        at: Option<&'a str>,
+    },
 }
 
 /// Why there is no order for the words.

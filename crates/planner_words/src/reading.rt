@@ -94,6 +94,7 @@ fn order_called<'a>(
             before: matches.get_str("before"),
         }),
         "certify" => certify(alloc, matches),
+        "order" => Ok(Order::AddOrders),
         "timetable" => Ok(Order::Timetable {
             csv: matches.get_flag("csv"),
         }),
@@ -180,6 +181,7 @@ fn explain<'a>(alloc: Global, matches: &ArgMatches<'a>) -> Result<Order<'a>, Wor
         (Some(at), _) => Ok(Order::ExplainState {
             table: table_in(matches),
             at,
+            run: matches.get_flag("run"),
         }),
         (None, Some(line)) => Ok(Order::ExplainLine { line }),
         (None, None) => refused(

@@ -1,20 +1,20 @@
 use Rattle.std.proofs.Common.{◌≡◌, Some, rules}
 use Rattle.decimal_number.specs.Decimal.{number_of}
-use Rattle.planner_run.proofs.Weaker.{if_text-weaker}
+use Rattle.planner_run.proofs.Weaker.{if_ok-weaker}
 use Rattle.planner_run.proofs.explaining.state.Goals as goal
 
-pub returns-in_ok-explain_state-in-Some-2 : goal.returns-in_ok-explain_state-in-Some-2
-returns-in_ok-explain_state-in-Some-2 c =
+pub returns-in_ok-explained-in-Some-2 : goal.returns-in_ok-explained-in-Some-2
+returns-in_ok-explained-in-Some-2 c =
     let is_table : number_of c.args.table.now ≡ Some c.in-Some.table = cc in
-    let told = c.in_ok-explain_state-in-Some-2 in
-    if_text-weaker c.answer_of.result
+    let told = c.in_ok-explained-in-Some-2 in
+    if_ok-weaker c.with_run.result
     (λ text tells. record {
       table = c.in-Some.table;
       places = c.in-Some-2.places.items;
-      told = told.field-0;
+      told = told.explained;
       is_table = is_table;
       are_places = search rules;
       explains = search rules;
       tells = tells;
     })
-    c.answer_of.ensures
+    c.with_run.ensures

@@ -1,12 +1,19 @@
 use Rattle.std.proofs.Common.{◌∙◌, codes, refl, Some}
 use Rattle.clap.specs.Words.{found_of, rows_of}
-use Rattle.clap.proofs.WalkLemmas.{first_value-rows}
+use Rattle.clap.proofs.WalkLemmas.{first_value-rows, one_text-rows}
 use Rattle.planner_words.proofs.Refusals.{none_explained, none_missed}
 use Rattle.planner_words.proofs.reading.explain.Goals as goal
 
 pub returns-in-Some-default-clause-asked : goal.returns-in-Some-default-clause-asked
 returns-in-Some-default-clause-asked c =
-    (refl, (c.table_in.ensures, c.in-Some-default.ensures ∙ first_value-rows (found_of c.args.matches.now) (codes "at")))
+    let found = one_text-rows (found_of c.args.matches.now) (codes "run") in (
+      refl,
+      (
+        c.table_in.ensures,
+        c.in-Some-default.ensures ∙ first_value-rows (found_of c.args.matches.now) (codes "at"),
+        (λ up. c.get_flag.ensures.value (found ∙ up), λ down. c.get_flag.ensures.other (found ∙ down)),
+      ),
+    )
 
 pub returns-in-None-Some-clause-asked : goal.returns-in-None-Some-clause-asked
 returns-in-None-Some-clause-asked c =
