@@ -3,7 +3,7 @@ import math
 from html import escape
 
 WIDTH, HEIGHT, ACROSS = 250, 190, 3
-LEFT, TOP, HEAD = 46, 24, 58
+LEFT, TOP, HEAD = 62, 24, 58
 INNER = (WIDTH - LEFT - 14, HEIGHT - TOP - 30)
 LEAST, MOST, TRAINS = 10, 1_000_000, 32
 WAYS = [("make", "ats make", "circle"), ("certify", "planner certify", "square"), ("order", "planner order, then certify", "triangle")]
@@ -83,12 +83,13 @@ class Panel:
 
 
 def legend():
-    drawn = [text(LEFT, 18, "Nodes of a certificate (log scale) by trains", "head")]
+    left = 16
+    drawn = [text(left, 18, "Nodes of a certificate (log scale) by trains", "head")]
     for number, (way, words, shape) in enumerate(WAYS):
-        x = LEFT + (0, 90, 205)[number]
+        x = left + (0, 90, 205)[number]
         drawn += [mark(shape, x + 4, 34, f"{way} full"), text(x + 12, 38, words)]
-    drawn += [mark("circle", LEFT + 394, 34, "axis hollow"), text(LEFT + 402, 38, "hollow: none found"), cross(LEFT + 522, 34, "axis")]
-    return drawn + [text(LEFT + 530, 38, "cross: a stuck state is named")]
+    drawn += [mark("circle", left + 394, 34, "axis hollow"), text(left + 402, 38, "hollow: none found"), cross(left + 522, 34, "axis")]
+    return drawn + [text(left + 530, 38, "cross: a stuck state is named")]
 
 
 def picture(rows):
