@@ -24,25 +24,25 @@ from model import Yard
 from programs import called, command_of, compact, proved
 from scale_picture import picture
 
-# Each family: its function and sizes; with "run", the order of the trains is taken from a run, since the tracks force none.
+# Each family: its function and sizes.
 FAMILIES = {
-    "line": [("line", 4, 16), ("line", 6, 20), ("line", 8, 30), ("line", 12, 40), ("line", 20, 30), ("entered_line", 32, 96, 24, "run")],
+    "line": [("line", 4, 16), ("line", 6, 20), ("line", 8, 30), ("line", 12, 40), ("line", 20, 30), ("entered_line", 32, 96, 24)],
     "two lines": [
-        ("two_lines", 8, 16), ("two_lines", 12, 20), ("two_lines", 16, 30), ("two_lines", 24, 40), ("two_entered_lines", 32, 64, 16, "run"),
+        ("two_lines", 8, 16), ("two_lines", 12, 20), ("two_lines", 16, 30), ("two_lines", 24, 40), ("two_entered_lines", 32, 64, 16),
     ],
     "metro": [
-        ("metro", 4, 4), ("metro", 8, 6), ("metro", 12, 10), ("metro", 14, 12), ("metro", 16, 12), ("entered_metro", 32, 40, 40, "run"),
+        ("metro", 4, 4), ("metro", 8, 6), ("metro", 12, 10), ("metro", 14, 12), ("metro", 16, 12), ("entered_metro", 32, 40, 40),
     ],
     "single track": [
-        ("single_track", 4, 3), ("single_track", 6, 3, "run"), ("single_track", 16, 3, "run"), ("single_track", 32, 3, "run"),
+        ("single_track", 4, 3), ("single_track", 6, 3), ("single_track", 16, 3), ("single_track", 32, 3),
     ],
-    "ladder": [("ladder", 4, 4), ("ladder", 8, 8), ("ladder", 12, 12), ("ladder", 14, 14), ("ladder", 24, 24, "run")],
-    "yard": [("yard", 4, 4), ("yard", 8, 4), ("yard", 12, 6), ("entered_yard", 32, 32, "run")],
+    "ladder": [("ladder", 4, 4), ("ladder", 8, 8), ("ladder", 12, 12), ("ladder", 14, 14), ("ladder", 24, 24)],
+    "yard": [("yard", 4, 4), ("yard", 8, 4), ("yard", 12, 6), ("entered_yard", 32, 32)],
     "depot": [
-        ("depot", 4, 8), ("depot", 8, 10), ("depot", 12, 10), ("depot", 16, 28, 15, "run"), ("depot", 24, 58, 30, "run"),
-        ("depot", 32, 58, 30, "run"),
+        ("depot", 4, 8), ("depot", 8, 10), ("depot", 12, 10), ("depot", 16, 28, 15), ("depot", 24, 58, 30),
+        ("depot", 32, 58, 30),
     ],
-    "junction": [("junction", 8, 6), ("junction", 12, 8), ("junction", 16, 10), ("entered_junction", 32, 48, 48, "run")],
+    "junction": [("junction", 8, 6), ("junction", 12, 8), ("junction", 16, 10), ("entered_junction", 32, 48, 48)],
     "circle": [("circle", 4, 12, 1), ("circle", 8, 16, 1), ("circle", 8, 24, 3), ("circle", 12, 36, 2)],
 }
 COLUMNS = ["make", "certify", "order", "other", "other-order", "spin", "sat", "sat-order"]
@@ -115,16 +115,16 @@ class Measuring:
                 self.wrong(name, f"{command[-1]}: a state that isn't stuck: {said}")
         return {**answer, "seconds": round(seconds, 3)}
 
-    def ordered(self, command, words, document):
+    def ordered(self, command, document):
         """The document that an order command writes, or None; and its answer so far."""
-        code, written, said, seconds = called([*command, *words], compact(document), self.seconds)
+        code, written, said, seconds = called(command, compact(document), self.seconds)
         if code != 0:
             return None, {"said": told(code, said), "seconds": round(seconds, 3)}
         ordered = json.loads(written)
         return ordered, {"order-seconds": round(seconds, 3), "sections": len(ordered["tables"][0]["sections"])}
 
-    def order(self, row, key, order, certify, document, words):
-        ordered, answer = self.ordered(order, words, document)
+    def order(self, row, key, order, certify, document):
+        ordered, answer = self.ordered(order, document)
         if ordered is not None:
             answer.update(self.certified(row["name"], certify, ordered))
         row[key] = answer
@@ -139,7 +139,7 @@ class Measuring:
         if key == "sat" and (at and certified or at == [] and stuck):
             self.wrong(row["name"], f"the solver says {said}, the commands differ")
 
-    def measure(self, row, document, words, columns):
+    def measure(self, row, document, columns):
         ordered = None
         if "make" in columns:
             row["make"] = self.certified(row["name"], [*self.ats, "make"], document)
@@ -148,11 +148,11 @@ class Measuring:
             if "nodes" in row.get("make", {}) and "nodes" not in row["certify"]:
                 self.wrong(row["name"], "make finds a certificate, and certify doesn't")
         if "order" in columns:
-            ordered = self.order(row, "order", [*self.planner, "order"], [*self.planner, "certify"], document, words)
+            ordered = self.order(row, "order", [*self.planner, "order"], [*self.planner, "certify"], document)
         if "other" in columns:
             row["other"] = self.certified(row["name"], self.other, document)
         if "other-order" in columns:
-            ordered = self.order(row, "other-order", self.other_order, self.other, document, words) or ordered
+            ordered = self.order(row, "other-order", self.other_order, self.other, document) or ordered
         if "spin" in columns:
             row["spin"] = other_ways.reached(document, self.seconds)
         if "sat" in columns:
@@ -165,14 +165,14 @@ def number(count):
     return f"{count:,}" if count < 10_000_000 else f"{count / 1e6:,.0f} million"
 
 
-def cell(answer, seconds, of_run):
+def cell(answer, seconds):
     """A cell of the table: nodes and seconds, or what was said."""
     if not answer:
         return ""
     if "states" in answer:
         return f"{'' if answer['whole'] else '> '}{number(answer['states'])} / {answer['seconds']:.1f}"
     time_taken = f" / {answer['seconds'] + answer.get('order-seconds', 0):.2f}"
-    added = f"{answer['sections']} S{' of a run' if of_run else ''}: " if "sections" in answer else ""
+    added = f"{answer['sections']} S: " if "sections" in answer else ""
     if "nodes" in answer:
         return added + number(answer["nodes"]) + time_taken
     return added + (f"> {seconds} s" if answer["said"] == "time" else answer["said"] + time_taken)
@@ -189,14 +189,14 @@ def table(rows, seconds):
     lines.append("|" + "|".join(["---", "--:", "--:"] + ["--:"] * len(shown)) + "|")
     for row in rows:
         first = [row["family"] + (", in blocks" if row["blocks"] else ""), str(row["trains"]), str(row["places"])]
-        lines.append("| " + " | ".join(first + [cell(row.get(column), seconds, row["of-run"]) for column in shown]) + " |")
+        lines.append("| " + " | ".join(first + [cell(row.get(column), seconds) for column in shown]) + " |")
     return "\n".join(lines)
 
 
-def row_of(family, builder, sizes, document, words):
+def row_of(family, builder, sizes, document):
     table = document["tables"][0]
     return {
-        "family": family, "name": " ".join([builder, *map(str, sizes)]), "trains": len(document["trains"]), "of-run": bool(words),
+        "family": family, "name": " ".join([builder, *map(str, sizes)]), "trains": len(document["trains"]),
         "blocks": bool(table["sections"]) and builder != "metro",
         "places": max(len(mission) + leaves for mission, leaves in zip(table["missions"], table["exits"])),
     }
@@ -234,13 +234,11 @@ def main():
     rows = []
     for family in asked.families or FAMILIES:
         for builder, *sizes in FAMILIES[family]:
-            words = ["--of-run", "0"] if sizes[-1] == "run" else []
-            sizes = [size for size in sizes if size != "run"]
             document = getattr(families, builder)(*sizes)
-            about = row_of(family, builder, sizes, document, words)
+            about = row_of(family, builder, sizes, document)
             row = known.setdefault(about["name"], {})
             row.update(about)
-            measuring.measure(row, document, words, [it for it in COLUMNS if it not in measuring.left_out and not row.get(it)])
+            measuring.measure(row, document, [it for it in COLUMNS if it not in measuring.left_out and not row.get(it)])
             rows.append(row)
             print(row["name"], {column: row[column] for column in COLUMNS if row.get(column)}, file=sys.stderr, flush=True)
             if kept:

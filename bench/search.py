@@ -8,8 +8,8 @@ Of each document it asks:
   certify   ends as `ats make` does, if that ends: with certificates that `ats check` accepts where no state of any table is stuck, else
             with a state that is stuck; a document that `ats` refuses gets the same cause
   explain   `--at .. --run` of the stuck state, and of a drawn legal one: a run that is right and ends there, or no run where there is none
-  order     keeps the document but for sections, and its sections, first; forbids no state that a run from the start reaches. With
-            `--of-run`, the trains can still all arrive
+  order     keeps the document but for sections, and its sections, first; forbids no state that a run from the start reaches, and leaves
+            the same states reached
   protect   keeps the document but for sections and certificates, and its sections, first; forbids no reached state that can be completed;
             `ats check` accepts the certificates
 
@@ -231,24 +231,15 @@ class Case:
         return States(after)
 
     def order(self):
-        words = ["order"] if self.draw.random() < 0.8 else ["order", "--of-run", str(self.draw.randrange(100))]
-        code, written, said = self.run("planner", words)
-        self.counts[f"{' '.join(words[:2])} {code}"] += 1
+        code, written, said = self.run("planner", ["order"])
+        self.counts[f"order {code}"] += 1
         if code != 0:
-            self.expect(code == 1 and not written and said, f"{' '.join(words)} ended with {code}: {said}")
+            self.expect(code == 1 and not written and said, f"order ended with {code}: {said}")
             return
-        after = self.kept("order", written)
-        if len(words) == 1:
-            reached = self.states.reached()
-            forbidden = sorted((number, state) for number, state in reached if state not in after.legal[number])
-            self.expect(not forbidden, f"order forbids states that are reached: {forbidden[:3]}")
-            self.expect(forbidden or after.reached() == reached, "order changed which states are reached")
-        else:
-            self.expect(self.arrives(after), f"{' '.join(words)} left no run in which all arrive")
-
-    @staticmethod
-    def arrives(some):
-        return any(state == some.last(number) for number, state in some.reached())
+        after, reached = self.kept("order", written), self.states.reached()
+        forbidden = sorted((number, state) for number, state in reached if state not in after.legal[number])
+        self.expect(not forbidden, f"order forbids states that are reached: {forbidden[:3]}")
+        self.expect(forbidden or after.reached() == reached, "order changed which states are reached")
 
     def protect(self):
         code, written, said = self.run("planner", ["protect"])
