@@ -1,0 +1,7 @@
+pub mod Doomed
+pub mod Holding
+pub mod Rows
+pub mod Stays
+pub mod Tables
+pub mod Tests
+pub mod Waiting
