@@ -3,7 +3,7 @@ use Rattle.std.proofs.Common.{◌≡◌, ◌↔◌, ℕ, ◌+◌, ◌-◌, ◌<�
 use Rattle.std.specs.Prelude.{All, slice_get, slice_index_or}
 use Rattle.std.specs.Int.Signed.{<ℤ_irrefl, <ℤ-≤ℤ_trans}
 use Rattle.std.proofs.lemmas.List.{length-append, length-map}
-use Rattle.std.proofs.lemmas.Bool.Decides.{ltb_tells}
+use Rattle.std.proofs.lemmas.Bool.Decides.{leb_tells}
 use Rattle.std.proofs.lemmas.Option.{get_or_from_slice_get, slice_get-get_or, slice_get_within}
 use Rattle.std.proofs.lemmas.Int.{by_lt_z}
 use Rattle.rail_model.specs.Table.{Table, Section, trains, section, limit, place, count}
@@ -63,12 +63,12 @@ module _ (T : Table) (guards : List (List Stay)) (all : All (IsGuard T) guards) 
   permits : (r : List ℕ) (s : ℕ) → Legal T r → CanArrive T r → IsOver (guarded T guards) r s → ⊥
   permits r s legal run over =
       let n = sections_and_guards T guards in
-      elim (ltb_tells s (length T.sections)) [
-        | inl own ↦ (
+      elim (leb_tells (length T.sections) s) [
+        | inr own ↦ (
             let above : pos (limit T s) <ℤ count T s r = subst (Exceeds T r) (own_section T guards s own.1) over.1 in
             let fits : count T s r ≤ℤ pos (limit T s) = legal.within s own.1 in
             <ℤ_irrefl (<ℤ-≤ℤ_trans above fits))
-        | inr later ↦ (
+        | inl later ↦ (
             let g : IsGuardSection T guards s = guard_of T guards s later.1 (omega (arith, n, over.0)) in
             let guard : IsGuard T g.stays = guard_at T guards g.number g.stays all g.get in
             guard.lost r legal

@@ -59,7 +59,7 @@ module _ (T : Table) (p group : List ℕ) (table : IsTable T) (core : IsCore T p
         let rises : change T i s (place r i + 1) ≡ change T i s (place p i + 1) = ap (λ k. change T i s (k + 1)) here in
         let part : count_within T group s r ≤ℤ count T s r = within_count T group s r table w.1 move.before in
         let same : count_within T group s r ≡ count_within T group s p = count_alike T group s p r alike in
-        let over : pos (limit T s) <ℤ count_within T group s p +ℤ change T i s (place p i + 1) = w.3 in
+        let over : pos (limit T s) <ℤ (count_within T group s p +ℤ change T i s (place p i + 1)) = w.3 in
         let fits : count T s m ≤ℤ pos (limit T s) = move.after.within s w.1 in
         omega (arith, ints, counted, rises, part, same, over, fits)
 
@@ -79,7 +79,7 @@ module _ (T : Table) (p group : List ℕ) (table : IsTable T) (core : IsCore T p
         ]
 
   pub alike_run : (r l q : List ℕ) → StandAlike T group p r → Run T r l q → StandAlike T group p q
-  alike_run r [] q alike run i lt member = ap (λ v. place v i) run ∙ alike i lt member
+  alike_run r [] q alike run = λ i lt member. ap (λ v. place v i) run ∙ alike i lt member
   alike_run r (j ∷ later) q alike run =
       let m : List ℕ = run.0 in
       let move : Move T r j m = run.1 in

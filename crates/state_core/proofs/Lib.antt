@@ -1,5 +1,6 @@
 pub mod Doomed
 pub mod Holding
+pub mod Listing
 pub mod Rows
 pub mod Stays
 pub mod Tables

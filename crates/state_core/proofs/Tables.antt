@@ -2,7 +2,7 @@
 use Rattle.std.proofs.Common.{◌≡◌, ℕ, suc, ◌+◌, ◌-◌, ◌<◌, ◌≤◌, ℤ, pos, ◌≤ℤ◌, List, [], ◌++◌, map, length, arith, ap, ◌∙◌, inl, inr, subst, sym}
 use Rattle.std.specs.Prelude.{All, slice_index_or}
 use Rattle.std.proofs.lemmas.List.{get_or_append_left, get_or-append-add, length-append, length-map}
-use Rattle.std.proofs.lemmas.Bool.Decides.{ltb_tells}
+use Rattle.std.proofs.lemmas.Bool.Decides.{leb_tells}
 use Rattle.rail_model.specs.Sums.{total_below}
 use Rattle.rail_model.specs.Table.{Table, Mission, Section, Connection, IsTable, IsSection, AreMissions, trains, last, section, place, count}
 use Rattle.forbidden_states.specs.Forbid.{Stay, AreStays, forbidding, marked}
@@ -41,9 +41,9 @@ module _ (T : Table) (guards : List (List Stay)) (table : IsTable T) (few : leng
   both = length-append T.sections (map (forbidding T.missions) guards) ∙ ap (λ n. length T.sections + n) (length-map guards (forbidding T.missions))
 
   each_section : (s : ℕ) → s < length T.sections + length guards → IsSection (guarded T guards) s
-  each_section s lt = elim (ltb_tells s (length T.sections)) [
-    | inl own ↦ section_again T.missions T.sections _ T.connections T.connections s s (sym (own_section T guards s own.1)) (table.sections s own.1)
-    | inr later ↦
+  each_section s lt = elim (leb_tells (length T.sections) s) [
+    | inr own ↦ section_again T.missions T.sections _ T.connections T.connections s s (sym (own_section T guards s own.1)) (table.sections s own.1)
+    | inl later ↦
         let k : ℕ = s - length T.sections in
         let at : length T.sections + k ≡ s = omega (arith, later.1) in
         subst (IsSection (guarded T guards)) at

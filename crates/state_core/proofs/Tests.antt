@@ -3,7 +3,7 @@ use Rattle.std.proofs.Common.{◌≡◌, ◌≢◌, ℕ, ◌+◌, ◌<◌, Bool,
 use Rattle.std.specs.Prelude.{IsTrue, Decides, ◌⊎◌, nat_lt}
 use Rattle.std.specs.List.{list_any}
 use Rattle.std.proofs.lemmas.Bool.{cases_Bool}
-use Rattle.std.proofs.lemmas.Bool.Decides.{Decides-and, Decides-or, Decides-not, Decides-ltb, Decides-like, ltb_tells}
+use Rattle.std.proofs.lemmas.Bool.Decides.{Decides-and, Decides-or, Decides-not, Decides-ltb, Decides-like}
 use Rattle.rail_model.specs.Table.{Table, Connection, trains, last, limit, change, point, place}
 use Rattle.rail_model.specs.State.{StandsAt}
 use Rattle.rail_model.specs.Checks.{below, blocks, is_held_by}
@@ -41,7 +41,7 @@ Decides-shut T p group i =
     Decides-like (is_shut_within T p group i)
     (λ h. (h.0, h.1, h.2.0, h.2.1))
     (λ h. (h.0, h.1, (h.2, h.3)))
-    (Decides-any_below _ (λ s. (pos 0 <ℤ change T i s (place p i + 1)) × (pos (limit T s) <ℤ count_within T group s p +ℤ change T i s (place p i + 1)))
+    (Decides-any_below _ (λ s. (pos 0 <ℤ change T i s (place p i + 1)) × (pos (limit T s) <ℤ (count_within T group s p +ℤ change T i s (place p i + 1))))
     (λ s. Decides-and _ _ (Decides-int_lt _ _) (Decides-int_lt _ _)) (length T.sections))
 
 pub Decides-held_within : (T : Table) (p group : List ℕ) (i : ℕ) → Decides (is_held_within T p group i) (IsHeldWithin T p group i)

@@ -3,7 +3,7 @@ use Rattle.std.proofs.Common.{◌≡◌, ℕ, ◌+◌, ◌<◌, true, false, tru
 use Rattle.std.specs.Prelude.{IsTrue, if◌then◌else◌, slice_get, nat_lt, ◌≤◌}
 use Rattle.std.specs.List.{list_any}
 use Rattle.std.proofs.lemmas.Bool.{cases_Bool, eq-eqb}
-use Rattle.std.proofs.lemmas.Bool.Decides.{Decides-ltb, ltb_tells}
+use Rattle.std.proofs.lemmas.Bool.Decides.{Decides-ltb, leb_tells}
 use Rattle.std.proofs.lemmas.Int.{ints}
 use Rattle.rail_model.specs.Table.{Table, IsTable, Connection, trains, last, limit, change, share, place, count}
 use Rattle.rail_model.specs.Move.{Move, Stuck, Blocks, IsOver, IsHeldBy, advance}
@@ -18,7 +18,7 @@ use Rattle.state_core.proofs.Tests.{itself, some_below}
 
 -- a place that isn't below the last one
 ended : (a b : ℕ) → a ≤ b → nat_lt a b ≡ false → a ≡ b
-ended a b le h = elim (ltb_tells a b) [ inl e ↦ absurd (true≢false (sym e.0 ∙ h)) | inr e ↦ omega (arith, e.1) ]
+ended a b le h = elim (leb_tells b a) [ inl e ↦ omega (arith, e.1) | inr e ↦ absurd (true≢false (sym ((Decides-ltb a b).1 e.1) ∙ h)) ]
 
 -- each train is one of all
 all-has : (n j : ℕ) → j < n → has (below n) j ≡ true

@@ -23,7 +23,7 @@ IsBlockedWithin T p group i = (j : ℕ) × IsTrue (has group j) × Blocks T p i 
 abbrev pub IsShutWithin : Table → List ℕ → List ℕ → ℕ → Type 0
 IsShutWithin T p group i =
     (s : ℕ) × (s < length T.sections)
-    × (pos 0 <ℤ change T i s (place p i + 1)) × (pos (limit T s) <ℤ count_within T group s p +ℤ change T i s (place p i + 1))
+    × (pos 0 <ℤ change T i s (place p i + 1)) × (pos (limit T s) <ℤ (count_within T group s p +ℤ change T i s (place p i + 1)))
 
 -- A connection holds train i until a train of the group is further.
 abbrev pub IsHeldWithin : Table → List ℕ → List ℕ → ℕ → Type 0

@@ -24,10 +24,10 @@ guarded T guards = record {
 }
 
 -- Stays of different trains, so that from no state with all of them in their ranges all trains can arrive.
-pub record IsGuard (T : Table) (stays : List Stay) : Type 0 where
-  pub stays : AreStays (trains T) stays
-  pub some : 0 < length stays
-  pub lost : (p : List ℕ) → Legal T p → InStays p stays → CanArrive T p → ⊥
+pub record IsGuard (T : Table) (b : List Stay) : Type 0 where
+  pub stays : AreStays (trains T) b
+  pub some : 0 < length b
+  pub lost : (p : List ℕ) → Legal T p → InStays p b → CanArrive T p → ⊥
 
 -- ---- what is so of guards
 

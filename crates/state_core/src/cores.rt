@@ -1,7 +1,7 @@
 // Whether trains are a core of a state, and a small core of a stuck state.
 ghost use Rattle.std.specs.Prelude.{◌≡◌, ◌+◌, ◌<◌, ◌≤◌, ◌&&◌, pos, ◌≤ℤ◌, if◌then◌else◌, IfOk, IsTrue, ◌↔◌, length};
 ghost use Rattle.std.specs.List.{list_any};
-ghost use Rattle.rail_model.specs.Table.{IsConnection, trains, last, place, share};
+ghost use Rattle.rail_model.specs.Table.{IsTable, IsConnection, trains, last, place, share};
 ghost use Rattle.rail_model.specs.State.{Legal};
 ghost use Rattle.rail_model.specs.Move.{Stuck};
 ghost use Rattle.rail_model.specs.Checks.{below, blocks as blocks_train, is_held_by};
@@ -26,6 +26,7 @@ fn is_unfinished(table: &Table, state: &State, train: u32) -> bool
 
 // Whether another train stands at the next point of a train.
 fn blocks(table: &Table, state: &State, train: u32, other: u32) -> bool
+    requires formed { IsTable table.now }
     requires legal { Legal table.now state.now }
     requires train { train < trains table.now }
     requires other { other < trains table.now }
@@ -89,6 +90,7 @@ fn count_within(table: &Table, state: &State, group: &Group, section: u32) -> i3
 
 // Whether a section has no room for a train beside the group.
 fn shuts(table: &Table, state: &State, group: &Group, train: u32, section: u32) -> bool
+    requires formed { IsTable table.now }
     requires legal { Legal table.now state.now }
     requires train { train < trains table.now }
     requires unfinished { place state.now train < last table.now train }

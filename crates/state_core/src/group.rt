@@ -47,13 +47,10 @@ impl Group {
     pub fn without(&self, alloc: Global, train: u32) -> Result<Group, AllocError>
         ensures { IfOk result (λ rest. rest ≡ filter (λ j. not (j == train)) self.now) }
     {
-        let mut rest = Vec::new(alloc);
-        for other in &self.trains {
-            if *other != train {
-                rest.push(*other)?;
-            }
-        }
-        Ok(Group { trains: rest })
+        let rest = self.trains.iter().copied().filter(|other| *other != train);
+        Ok(Group {
+            trains: rest.collect(alloc)?,
+        })
     }
 }
 

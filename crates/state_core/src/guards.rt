@@ -3,7 +3,8 @@ ghost use Rattle.std.specs.Prelude.{◌≡◌, ◌+◌, ◌≤◌, All, IfOk, le
 ghost use Rattle.rail_model.specs.Table.{trains};
 ghost use Rattle.forbidden_states.specs.Forbid.{AreStays};
 ghost use Rattle.rail_model.specs.State.{Legal};
-ghost use Rattle.state_core.specs.Guard.{stays_of as stays_of_group, guarded as guarded_table};
+ghost use Rattle.state_core.specs.Core.{IsCore};
+ghost use Rattle.state_core.specs.Guard.{IsGuard, stays_of as stays_of_group, guarded as guarded_table};
 
 use crate::Group;
 use forbidden_states::{Stay, Stays, marked};
@@ -11,15 +12,17 @@ use rail_model::{State, Table, copy_all, copy_missions, trains_of};
 use state_boxes::Span;
 use std::alloc::{AllocError, Global};
 
-/// The trains of a group, each at its place alone: the guard of a core.
+/// The guard of a core: its trains, each at its place alone. The only error is that there is no memory.
 pub fn stays_of(
     alloc: Global,
     table: &Table,
     state: &State,
     group: &Group,
 ) -> Result<Stays, AllocError>
-    requires { Legal table.now state.now }
-    ensures { IfOk result (λ stays. stays ≡ stays_of_group table.now state.now group.now) }
+    requires legal { Legal table.now state.now }
+    requires core { IsCore table.now state.now group.now }
+    ensures stays { IfOk result (λ stays. stays ≡ stays_of_group table.now state.now group.now) }
+    ensures guard { IfOk result (IsGuard table.now) }
 {
     let mut stays = Vec::new(alloc);
     for train in 0..trains_of(table) {
