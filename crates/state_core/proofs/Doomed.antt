@@ -1,15 +1,15 @@
 -- Guards forbid just their stays, and no state from which all trains can arrive.
-use Rattle.std.proofs.Common.{◌≡◌, ◌↔◌, ℕ, ◌+◌, ◌-◌, ◌<◌, ◌≤◌, pos, ◌≤ℤ◌, ◌<ℤ◌, List, [], ◌∷◌, ◌++◌, map, length, Some, refl, arith, ap, ◌∙◌, inl, inr, subst, sym}
+use Rattle.std.proofs.Common.{◌≡◌, ℕ, ◌+◌, ◌-◌, ◌<◌, ◌≤◌, pos, ◌≤ℤ◌, ◌<ℤ◌, List, [], ◌∷◌, ◌++◌, map, length, Some, arith, ap, ◌∙◌, inl, inr, subst, sym}
 use Rattle.std.specs.Prelude.{All, slice_get, slice_index_or}
 use Rattle.std.specs.Int.Signed.{<ℤ_irrefl, <ℤ-≤ℤ_trans}
 use Rattle.std.proofs.lemmas.List.{length-append, length-map}
 use Rattle.std.proofs.lemmas.Bool.Decides.{leb_tells}
 use Rattle.std.proofs.lemmas.Option.{get_or_from_slice_get, slice_get-get_or, slice_get_within}
 use Rattle.std.proofs.lemmas.Int.{by_lt_z}
-use Rattle.rail_model.specs.Table.{Table, Section, trains, section, limit, place, count}
+use Rattle.rail_model.specs.Table.{Table, Section, trains, section, limit, count}
 use Rattle.rail_model.specs.State.{Legal, Arrived}
 use Rattle.rail_model.specs.Move.{Move, Run, IsOver}
-use Rattle.forbidden_states.specs.Forbid.{Stay, AreStays, InStays, forbidding, marked}
+use Rattle.forbidden_states.specs.Forbid.{Stay, forbidding, marked}
 use Rattle.forbidden_states.proofs.Over.{over_in, in_over}
 use Rattle.state_core.specs.Core.{CanArrive}
 use Rattle.state_core.specs.Guard.{guarded, IsGuard, GuardsForbidTheirStays, GuardsLoseNothing, GuardsAddUp}
@@ -33,8 +33,7 @@ guards_forbid_their_stays T guards k stays p all at legal =
     let guard : IsGuard T stays = guard_at T guards k stays all at in
     let k_in : k < length guards = slice_get_within guards k stays at in
     let behind : section (guarded T guards) (length T.sections + k) ≡ section (marked T.missions guards) k = guard_section T guards k in
-    let n = sections_and_guards T guards in
-    (
+    let n = sections_and_guards T guards in (
       (λ over. over_in T.missions guards k stays p at guard.stays (λ i lt. legal.in_range i lt)
           (omega (arith, k_in, length-map guards (forbidding T.missions)), subst (Exceeds T p) behind over.1)),
       (λ inside.
@@ -58,7 +57,6 @@ guard_of T guards s low high = record {
 }
 
 module _ (T : Table) (guards : List (List Stay)) (all : All (IsGuard T) guards) where
-
   -- a state from which all can arrive is over none of the guards' sections
   permits : (r : List ℕ) (s : ℕ) → Legal T r → CanArrive T r → IsOver (guarded T guards) r s → ⊥
   permits r s legal run over =
@@ -96,26 +94,32 @@ module _ (T : Table) (guards : List (List Stay)) (all : All (IsGuard T) guards) 
   run_with : (l r q : List ℕ) → Legal T r → Run T r l q → Arrived T q → Run (guarded T guards) r l q
   run_with [] r q legal run arrived = run
   run_with (i ∷ later) r q legal run arrived =
-      let move : Move T r i run.0 = run.1 in
-      (run.0, record {
-        before = legal_with r legal (i ∷ later, q, run, arrived);
-        train = move.train;
-        step = move.step;
-        after = legal_with run.0 move.after (later, q, run.2, arrived);
-        free = move.free;
-      }, run_with later run.0 q move.after run.2 arrived)
+      let move : Move T r i run.0 = run.1 in (
+        run.0,
+        record {
+          before = legal_with r legal (i ∷ later, q, run, arrived);
+          train = move.train;
+          step = move.step;
+          after = legal_with run.0 move.after (later, q, run.2, arrived);
+          free = move.free;
+        },
+        run_with later run.0 q move.after run.2 arrived,
+      )
 
   run_without : (l r q : List ℕ) → Run (guarded T guards) r l q → Run T r l q
   run_without [] r q run = run
   run_without (i ∷ later) r q run =
-      let move : Move (guarded T guards) r i run.0 = run.1 in
-      (run.0, record {
-        before = legal_without r move.before;
-        train = move.train;
-        step = move.step;
-        after = legal_without run.0 move.after;
-        free = move.free;
-      }, run_without later run.0 q run.2)
+      let move : Move (guarded T guards) r i run.0 = run.1 in (
+        run.0,
+        record {
+          before = legal_without r move.before;
+          train = move.train;
+          step = move.step;
+          after = legal_without run.0 move.after;
+          free = move.free;
+        },
+        run_without later run.0 q run.2,
+      )
 
 pub guards_lose_nothing : GuardsLoseNothing
 guards_lose_nothing T guards p all legal = (

@@ -1,11 +1,10 @@
 -- A train of a core never moves.
-use Rattle.std.proofs.Common.{◌≡◌, ◌≢◌, ℕ, ◌+◌, ◌<◌, ◌≤◌, Bool, true, false, true≢false, ℤ, pos, ◌+ℤ◌, ◌≤ℤ◌, ◌<ℤ◌, List, [], ◌∷◌, length, Some, refl, arith, ap, ◌∙◌, inl, inr, subst, sym}
-use Rattle.std.specs.Prelude.{IsTrue, if◌then◌else◌, slice_get}
-use Rattle.std.proofs.lemmas.Bool.{cases_Bool}
+use Rattle.std.proofs.Common.{◌≡◌, ℕ, ◌+◌, ◌<◌, Bool, true, false, ℤ, pos, ◌+ℤ◌, ◌≤ℤ◌, ◌<ℤ◌, List, [], ◌∷◌, length, Some, refl, arith, ap, ◌∙◌, inl, inr, subst, sym}
+use Rattle.std.specs.Prelude.{IsTrue, if◌then◌else◌}
 use Rattle.std.proofs.lemmas.Int.{ints}
 use Rattle.rail_model.specs.Table.{Table, Connection, IsTable, trains, last, point, limit, change, share, place, count}
-use Rattle.rail_model.specs.State.{Legal, Arrived}
-use Rattle.rail_model.specs.Move.{Move, Run, advance}
+use Rattle.rail_model.specs.State.{Legal}
+use Rattle.rail_model.specs.Move.{Move, Run}
 use Rattle.rail_model.proofs.Moves.{place_moved, place_other}
 use Rattle.rail_model.proofs.Sums.{total_mono, total_same}
 use Rattle.rail_model.proofs.Shares.{count_advance}
@@ -14,8 +13,6 @@ use Rattle.state_core.specs.Core.{has, count_within, IsBlockedWithin, IsShutWith
 -- The other state has the group's trains at the same places.
 abbrev pub StandAlike : Table → List ℕ → List ℕ → List ℕ → Type 0
 StandAlike T group p r = (i : ℕ) → i < trains T → IsTrue (has group i) → place r i ≡ place p i
-
-
 
 share_part : (b : Bool) (z : ℤ) → pos 0 ≤ℤ z → (if b then z else pos 0) ≤ℤ z
 share_part true z low = omega (arith, ints)
@@ -35,7 +32,6 @@ count_alike : (T : Table) (group : List ℕ) (s : ℕ) (p r : List ℕ) → Stan
 count_alike T group s p r alike = total_same _ _ (trains T) (λ j lt. share_alike T s j (place r j) (place p j) (has group j) (alike j lt))
 
 module _ (T : Table) (p group : List ℕ) (table : IsTable T) (core : IsCore T p group) where
-
   module _ (r m : List ℕ) (i : ℕ) (alike : StandAlike T group p r) (move : Move T r i m) (member : IsTrue (has group i)) where
     here : place r i ≡ place p i
     here = alike i move.train member
@@ -85,9 +81,9 @@ module _ (T : Table) (p group : List ℕ) (table : IsTable T) (core : IsCore T p
       let move : Move T r j m = run.1 in
       alike_run m later q
       (λ i lt member.
-          ap (λ v. place v i) move.step
-          ∙ place_other r j i (λ e. stays_put r m j alike move (subst (λ k. IsTrue (has group k)) e member))
-          ∙ alike i lt member)
+      ap (λ v. place v i) move.step
+      ∙ place_other r j i (λ e. stays_put r m j alike move (subst (λ k. IsTrue (has group k)) e member))
+      ∙ alike i lt member)
       run.2
 
   -- so the trains of a core don't arrive, wherever the other trains are

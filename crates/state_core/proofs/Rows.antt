@@ -1,6 +1,6 @@
 -- Worked cores and guards: a corridor, a passing loop, a line of three, sections and connections.
 use Rattle.std.specs.Prelude.{◌≡◌, ℕ, List, [], ◌∷◌, pos, negsuc, false, true, refl}
-use Rattle.rail_model.specs.Table.{Table, Mission}
+use Rattle.rail_model.specs.Table.{Table}
 use Rattle.rail_model.proofs.Samples.{open_corridor, loop, waiting}
 use Rattle.forbidden_states.specs.Forbid.{Stay}
 use Rattle.state_core.specs.Core.{is_core}

@@ -1,15 +1,15 @@
 -- The trains of a core at their places are a guard.
-use Rattle.std.proofs.Common.{◌≡◌, ℕ, zero, suc, ◌+◌, ◌<◌, ◌≤◌, ◌==◌, Bool, true, false, List, [], ◌∷◌, map, length, None, arith, ap, subst, cond, inl, inr}
+use Rattle.std.proofs.Common.{◌≡◌, ℕ, zero, suc, ◌+◌, ◌<◌, ◌≤◌, Bool, true, false, List, [], ◌∷◌, map, None, arith, ap, subst, cond, inl, inr}
 use Rattle.std.specs.Prelude.{filter}
 use Rattle.std.specs.List.{range_with_len}
 use Rattle.std.proofs.lemmas.Bool.{ne_eqb}
-use Rattle.rail_model.specs.Table.{Table, IsTable, trains, place}
+use Rattle.rail_model.specs.Table.{Table, trains, place}
 use Rattle.rail_model.specs.Checks.{below}
 use Rattle.rail_model.proofs.Found.{Among, Among-map}
 use Rattle.forbidden_states.specs.Forbid.{Stay, AreStays, InStays, stay_of}
 use Rattle.forbidden_states.proofs.Members.{map-among, filter-among, among-filter, among-below, among-length, range-among, none-found}
-use Rattle.state_core.specs.Core.{has, IsCore}
-use Rattle.state_core.specs.Guard.{stay_at, stays_of, IsGuard, CoresAreGuards}
+use Rattle.state_core.specs.Core.{has}
+use Rattle.state_core.specs.Guard.{stay_at, stays_of, CoresAreGuards}
 use Rattle.state_core.proofs.Holding.{StandAlike, alike_lost}
 
 -- stays of numbers in rising order are of different trains

@@ -4,7 +4,7 @@ use Rattle.std.specs.Prelude.{All, slice_index_or}
 use Rattle.std.proofs.lemmas.List.{get_or_append_left, get_or-append-add, length-append, length-map}
 use Rattle.std.proofs.lemmas.Bool.Decides.{leb_tells}
 use Rattle.rail_model.specs.Sums.{total_below}
-use Rattle.rail_model.specs.Table.{Table, Mission, Section, Connection, IsTable, IsSection, AreMissions, trains, last, section, place, count}
+use Rattle.rail_model.specs.Table.{Table, Mission, Section, Connection, IsTable, IsSection, trains, section, place}
 use Rattle.forbidden_states.specs.Forbid.{Stay, AreStays, forbidding, marked}
 use Rattle.forbidden_states.proofs.Tables.{is_table}
 use Rattle.state_core.specs.Guard.{guarded}
@@ -60,3 +60,13 @@ module _ (T : Table) (guards : List (List Stay)) (table : IsTable T) (few : leng
     few_connections = table.few_connections;
     connections = λ c k at. (let own = table.connections c k at in record { train = own.train; other = own.other; two = own.two; place = own.place; reached = own.reached });
   }
+
+-- its parts, put together
+pub put_together : (T : Table) (guards : List (List Stay)) (N M : List Mission) (own more both : List Section) (cs : List Connection) →
+    N ≡ T.missions → M ≡ N → more ≡ map (forbidding N) guards → own ≡ T.sections → both ≡ own ++ more → cs ≡ T.connections →
+    record { missions = M; sections = both; connections = cs } ≡ guarded T guards
+put_together T guards N M own more both cs copied same marks owned joined kept =
+    let missions : M ≡ T.missions = same ∙ copied in
+    let sections : both ≡ T.sections ++ map (forbidding T.missions) guards =
+    joined ∙ ap (λ xs. xs ++ more) owned ∙ ap (λ ys. T.sections ++ ys) (marks ∙ ap (λ ms. map (forbidding ms) guards) copied) in
+    (λ i. record { missions = missions i; sections = sections i; connections = kept i })

@@ -1,15 +1,15 @@
 -- The tests say what the definitions say.
-use Rattle.std.proofs.Common.{◌≡◌, ◌≢◌, ℕ, ◌+◌, ◌<◌, Bool, true, false, true≢false, not, ◌&&◌, ◌||◌, pos, ◌+ℤ◌, ◌<ℤ◌, List, length, Some, slice_get, inl, inr, sym, ◌∙◌}
-use Rattle.std.specs.Prelude.{IsTrue, Decides, ◌⊎◌, nat_lt}
+use Rattle.std.proofs.Common.{◌≡◌, ◌≢◌, ℕ, ◌+◌, ◌<◌, Bool, true, false, true≢false, ◌&&◌, pos, ◌+ℤ◌, ◌<ℤ◌, List, length, Some, refl, inl, inr, sym, ◌∙◌}
+use Rattle.std.specs.Prelude.{IsTrue, Decides}
 use Rattle.std.specs.List.{list_any}
 use Rattle.std.proofs.lemmas.Bool.{cases_Bool}
 use Rattle.std.proofs.lemmas.Bool.Decides.{Decides-and, Decides-or, Decides-not, Decides-ltb, Decides-like}
-use Rattle.rail_model.specs.Table.{Table, Connection, trains, last, limit, change, point, place}
+use Rattle.rail_model.specs.Table.{Table, trains, last, limit, change, point, place}
 use Rattle.rail_model.specs.State.{StandsAt}
-use Rattle.rail_model.specs.Checks.{below, blocks, is_held_by}
+use Rattle.rail_model.specs.Checks.{below}
 use Rattle.rail_model.proofs.Agree.{Decides-any_below, Decides-any_get, Decides-int_lt}
 use Rattle.rail_model.proofs.Asked.{Decides-blocks, Decides-held}
-use Rattle.state_core.specs.Core.{has, count_within, IsBlockedWithin, IsShutWithin, IsHeldWithin, IsKept, IsCore, is_unfinished, is_blocked_within, shuts, is_shut_within, is_held_within, is_kept, is_loose, is_core, CoreIsTested}
+use Rattle.state_core.specs.Core.{has, count_within, IsBlockedWithin, IsShutWithin, IsHeldWithin, IsKept, IsCore, is_blocked_within, is_shut_within, is_held_within, is_kept, is_loose, is_core, CoreIsTested}
 
 -- a test of itself
 pub itself : (b : Bool) → Decides b (b ≡ true)
@@ -25,6 +25,9 @@ none_below p n none = elim (cases_Bool (list_any p (below n))) [
   | inl some ↦ (let k = (Decides-any_below p (λ j. p j ≡ true) (λ j. itself (p j)) n).0 some in absurd (true≢false (sym k.2 ∙ none k.0 k.1)))
   | inr h ↦ h
 ]
+
+pub both_true : (x y : Bool) → x ≡ true → y ≡ true → (x && y) ≡ true
+both_true x y e f = rw (e, f) refl
 
 -- ---- a core
 

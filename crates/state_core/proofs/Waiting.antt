@@ -1,19 +1,19 @@
 -- All trains of a stuck state are a core of it.
-use Rattle.std.proofs.Common.{◌≡◌, ℕ, ◌+◌, ◌<◌, true, false, true≢false, ℤ, pos, ◌+ℤ◌, ◌≤ℤ◌, ◌<ℤ◌, List, length, Some, refl, arith, ap, ◌∙◌, inl, inr, subst, sym}
+use Rattle.std.proofs.Common.{◌≡◌, ◌==◌, ℕ, ◌+◌, ◌<◌, true, false, true≢false, pos, ◌+ℤ◌, ◌≤ℤ◌, ◌<ℤ◌, List, length, Some, refl, arith, ap, ◌∙◌, inl, inr, sym}
 use Rattle.std.specs.Prelude.{IsTrue, if◌then◌else◌, slice_get, nat_lt, ◌≤◌}
 use Rattle.std.specs.List.{list_any}
 use Rattle.std.proofs.lemmas.Bool.{cases_Bool, eq-eqb}
 use Rattle.std.proofs.lemmas.Bool.Decides.{Decides-ltb, leb_tells}
 use Rattle.std.proofs.lemmas.Int.{ints}
 use Rattle.rail_model.specs.Table.{Table, IsTable, Connection, trains, last, limit, change, share, place, count}
-use Rattle.rail_model.specs.Move.{Move, Stuck, Blocks, IsOver, IsHeldBy, advance}
+use Rattle.rail_model.specs.Move.{Stuck, Blocks, IsOver, advance}
 use Rattle.rail_model.specs.Checks.{below, blocks, is_over, is_held_by}
 use Rattle.rail_model.proofs.Agree.{Decides-any_below, Decides-any_get}
 use Rattle.rail_model.proofs.Asked.{Decides-blocks, Decides-over, Decides-held}
 use Rattle.rail_model.proofs.Obstacles.{legal_advance}
 use Rattle.rail_model.proofs.Shares.{count_advance}
 use Rattle.rail_model.proofs.Sums.{total_same}
-use Rattle.state_core.specs.Core.{has, count_within, IsKept, IsCore, is_unfinished, StuckStatesHaveCores}
+use Rattle.state_core.specs.Core.{has, count_within, IsKept, is_unfinished, StuckStatesHaveCores}
 use Rattle.state_core.proofs.Tests.{itself, some_below}
 
 -- a place that isn't below the last one
@@ -30,7 +30,6 @@ all_count T s p =
     total_same _ _ (trains T) (λ j lt. ap (λ b. if b then share T j s (place p j) else pos 0) (all-has (trains T) j lt))
 
 module _ (T : Table) (p : List ℕ) (table : IsTable T) (stuck : Stuck T p) where
-
   module _ (i : ℕ) (lt : i < trains T) (low : place p i < last T i) where
     -- whoever blocks a train is one of all
     blocked : (by : ℕ) → Blocks T p i by → IsKept T p (below (trains T)) i

@@ -1,6 +1,6 @@
 -- The core of a state: trains that keep one another where they are.
 use Rattle.std.specs.Prelude.{◌≡◌, ◌⊎◌, ◌↔◌, length, IsTrue, ℕ, ◌+◌, ◌<◌, ◌==◌, nat_lt, pos, ◌+ℤ◌, ◌<ℤ◌, int_lt, ℤ, List, Bool, not, ◌&&◌, ◌||◌, if◌then◌else◌, Some, slice_get}
-use Rattle.std.specs.List.{list_any, list_all}
+use Rattle.std.specs.List.{list_any}
 use Rattle.rail_model.specs.Sums.{total_below}
 use Rattle.rail_model.specs.Table.{Table, Connection, IsTable, trains, last, limit, change, share, place}
 use Rattle.rail_model.specs.State.{Arrived}

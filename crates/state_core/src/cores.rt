@@ -187,14 +187,21 @@ fn has_unfinished(table: &Table, state: &State, group: &Group) -> bool
     false
 }
 
+// Whether the group passes the test of a core.
+fn passes(table: &Table, state: &State, group: &Group) -> bool
+    requires { Legal table.now state.now }
+    ensures { result ≡ is_core_of table.now state.now group.now }
+{
+    has_unfinished(table, state, group) && !has_loose(table, state, group)
+}
+
 /// Whether the group is a core of a legal state: one of its trains hasn't arrived, and each of those is kept where it is by
 /// trains of the group alone, at its next point, in a section that rises there, or by a connection.
 pub fn is_core(table: &Table, state: &State, group: &Group) -> bool
     requires { Legal table.now state.now }
-    ensures test { result ≡ is_core_of table.now state.now group.now }
-    ensures core { IsTrue result ↔ IsCore table.now state.now group.now }
+    ensures { IsTrue result ↔ IsCore table.now state.now group.now }
 {
-    has_unfinished(table, state, group) && !has_loose(table, state, group)
+    passes(table, state, group)
 }
 
 /// A core of a stuck state. It begins with all trains, and drops each in turn if the others are a core without it.

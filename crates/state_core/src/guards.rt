@@ -43,10 +43,8 @@ pub fn guarded(alloc: Global, table: &Table, guards: &[Stays]) -> Result<Table, 
 {
     let mut sections = copy_all(alloc, table.sections())?;
     let made = marked(alloc, copy_missions(alloc, table)?, guards)?;
-    let (missions, more, _none) = made.into_parts();
-    for section in more {
-        sections.push(section)?;
-    }
+    let (missions, mut more, _none) = made.into_parts();
+    sections.append(&mut more)?;
     let connections = Vec::from_slice(alloc, table.connections())?;
     Ok(Table::new(missions, sections, connections))
 }

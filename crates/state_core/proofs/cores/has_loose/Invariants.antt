@@ -1,4 +1,4 @@
-use Rattle.std.proofs.Common.{◌≡◌, ℕ, ◌<◌, false, ◌&&◌}
+use Rattle.std.proofs.Common.{◌≡◌, ℕ, ◌<◌, false}
 use Rattle.state_core.specs.Core.{is_loose}
 use Rattle.state_core.proofs.cores.has_loose.Given as goal
 
