@@ -1,14 +1,14 @@
 -- What a table with guards keeps.
-use Rattle.std.proofs.Common.{◌≡◌, ◌↔◌, ℕ, ◌+◌, ◌≤◌, List, map, length, refl, arith, subst, sym, ap}
+use Rattle.std.proofs.Common.{◌≡◌, ℕ, zero, suc, ◌++◌, List, [], ◌∷◌, map, refl, arith, subst, sym}
 use Rattle.std.specs.Prelude.{All}
 use Rattle.std.proofs.lemmas.List.{length-append}
-use Rattle.rail_model.specs.Table.{Table, IsTable}
+use Rattle.std.proofs.lemmas.List.Elements.{All-append}
+use Rattle.rail_model.specs.Table.{Table, trains}
 use Rattle.rail_model.specs.State.{Legal}
 use Rattle.rail_model.specs.Move.{Live}
-use Rattle.rail_model.specs.Certificate.{Tree, Accepts}
 use Rattle.rail_model.proofs.Live.{completes}
 use Rattle.rail_model.proofs.Sound.{live}
-use Rattle.forbidden_states.specs.Forbid.{Stay, forbidding}
+use Rattle.forbidden_states.specs.Forbid.{Stay, AreStays, forbidding}
 use Rattle.state_core.specs.Core.{CanArrive}
 use Rattle.state_core.specs.Guard.{guarded, IsGuard}
 use Rattle.state_core.proofs.Doomed.{guards_lose_nothing, guards_add_up}
@@ -38,8 +38,7 @@ arrives T p alive legal =
 
 pub certified_tables_are_exact : CertifiedTablesAreExact
 certified_tables_are_exact T made guards c p g accepted legal =
-    let lossless = (protected_tables_lose_nothing T made guards g).1 p legal in
-    (
+    let lossless = (protected_tables_lose_nothing T made guards g).1 p legal in (
       (λ legal_with. lossless.1 (legal_with, arrives made p (live made c accepted) legal_with)),
       (λ run. (lossless.0 run).0),
     )
@@ -47,3 +46,18 @@ certified_tables_are_exact T made guards c p g accepted legal =
 -- a guard of the table with guards is one more guard of the table
 pub one_more : (T made : Table) (guards : List (List Stay)) (stays : List Stay) → IsGuarded T guards made → IsGuard made stays → IsGuard T stays
 one_more T made guards stays g guard = guards_add_up T guards stays g.guards_are (subst (λ (V : Table). IsGuard V stays) g.made_is guard)
+
+only : {X : Type 0} (P : X → Type 0) (x : X) → P x → All P (x ∷ [])
+only P x h zero d lt = h
+only P x h (suc k) d lt = absurd (omega arith)
+
+-- with one guard more, each is a guard of the table
+pub guards-next : (T made : Table) (guards next : List (List Stay)) (stays : List Stay) → IsGuarded T guards made → IsGuard made stays →
+    next ≡ guards ++ stays ∷ [] → All (IsGuard T) next
+guards-next T made guards next stays g guard pushed =
+    subst (All (IsGuard T)) (sym pushed)
+    (All-append (IsGuard T) guards (stays ∷ []) g.guards_are (only (IsGuard T) stays (one_more T made guards stays g guard)))
+
+-- guards are stays
+pub guards-stay : (T : Table) (guards : List (List Stay)) → All (IsGuard T) guards → All (AreStays (trains T)) guards
+guards-stay T guards all = λ k d lt. (all k d lt).stays

@@ -1,15 +1,23 @@
 -- A table with guards, and how the search for a certificate of it ended.
-use Rattle.std.specs.Prelude.{◌≡◌, ◌↔◌, All, ℕ, ◌<◌, ◌≤◌, ◌+◌, List, length, map}
-use Rattle.rail_model.specs.Table.{Table, IsTable, trains, section}
+use Rattle.std.specs.Prelude.{◌≡◌, ◌↔◌, All, ℕ, ◌<◌, ◌≤◌, ◌+◌, List, length}
+use Rattle.rail_model.specs.Table.{Table, section}
 use Rattle.rail_model.specs.State.{Legal}
 use Rattle.rail_model.specs.Move.{Stuck as IsStuck}
-use Rattle.rail_model.specs.Certificate.{Tree, Accepts, preorder}
+use Rattle.rail_model.specs.Certificate.{Tree, Accepts}
 use Rattle.forbidden_states.specs.Forbid.{Stay}
 use Rattle.state_core.specs.Core.{CanArrive}
 use Rattle.state_core.specs.Guard.{guarded, IsGuard}
+use Rattle.section_protect.specs.declared.finder.Finding.{Finding}
+use Rattle.section_protect.specs.declared.finder.Finding.TheVariants.{Cert as found_cert, Stuck as found_stuck, GaveUp as found_none}
 use Rattle.section_protect.specs.declared.protected.Ended.{Ended}
 use Rattle.section_protect.specs.declared.protected.Ended.TheVariants.{Certified, GaveUp, Full}
 use Rattle.section_protect.specs.declared.protected.Protected.{Protected}
+
+-- What is found holds of the table: it accepts a certificate, and a state is stuck.
+abbrev pub IsFoundOf : Table → Finding → Type 0
+IsFoundOf T (found_cert c) = Accepts T c
+IsFoundOf T (found_stuck p) = IsStuck T p
+IsFoundOf T (found_none nodes) = Unit {0}
 
 -- The table has these guards behind its own sections, as far as a table has room.
 pub record IsGuarded (T : Table) (guards : List (List Stay)) (made : Table) : Type 0 where
@@ -17,17 +25,17 @@ pub record IsGuarded (T : Table) (guards : List (List Stay)) (made : Table) : Ty
   pub few : length T.sections + length guards ≤ 64
   pub made_is : made ≡ guarded T guards
 
--- How it ended: the table accepts a certificate of at most so many nodes; the search gave up after at most so many; or a
--- state is stuck, and the table has no room for a section more.
-abbrev pub Ends : Table → ℕ → Ended → Type 0
-Ends T budget (Certified c) = Accepts T c × (length (preorder c) ≤ budget)
-Ends T budget (GaveUp nodes) = nodes ≤ budget
-Ends T budget (Full p) = IsStuck T p × (length T.sections ≡ 64)
+-- How it ended: the table accepts a certificate; the search gave up; or a state is stuck, and the table has no room for a section
+-- more.
+abbrev pub Ends : Table → Ended → Type 0
+Ends T (Certified c) = Accepts T c
+Ends T (GaveUp nodes) = Unit {0}
+Ends T (Full p) = IsStuck T p × (length T.sections ≡ 64)
 
 -- What a table becomes.
-pub record Protects (T : Table) (budget : ℕ) (r : Protected) : Type 0 where
+pub record Protects (T : Table) (r : Protected) : Type 0 where
   pub guarded_is : IsGuarded T r.guards.items r.table
-  pub ended_is : Ends r.table budget r.ended
+  pub ended_is : Ends r.table r.ended
 
 -- The table's own sections stay first and unchanged, and so do its missions and its connections.
 pub record KeepsTable (T made : Table) : Type 0 where

@@ -14,7 +14,7 @@ pub enum Ended {
     Full { at: State },
 }
 
-/// A table with guards behind its own sections: the stays of each guard, and how the search ended.
+/// A table with guards behind its own sections, the stays of each guard, and how the search ended.
 #[derive(Drop)]
 pub struct Protected {
     pub table: Table,

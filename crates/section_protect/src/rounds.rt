@@ -1,12 +1,11 @@
 // Rounds: in each a certificate is looked for, and a stuck state that is found instead gets a guard.
-ghost use Rattle.std.specs.Prelude.{◌≡◌, ◌≤◌, ◌+◌, ℕ, IfOk, All, length};
+ghost use Rattle.std.specs.Prelude.{◌≡◌, ◌≤◌, ◌+◌, IfOk, All, length};
 ghost use Rattle.rail_model.specs.Move.{Stuck as IsStuck};
 ghost use Rattle.state_core.specs.Guard.{IsGuard};
 ghost use Rattle.section_protect.specs.Protects.{IsGuarded, Protects};
 ghost use Rattle.section_protect.specs.Rounds.{LeadsOn};
 
-use crate::{Ended, Protected};
-use cert_search::{Effort, Found, Report, find};
+use crate::{Ended, Finder, Finding, Protected};
 use forbidden_states::Stays;
 use rail_model::{State, Table, sections_of};
 use state_core::{guarded, small_core, stays_of};
@@ -53,63 +52,58 @@ fn treat(
     requires guarded { IsGuarded table.now guards.items made }
     requires stuck { IsStuck made at }
     requires room { length table.now.sections + room ≡ 64 }
-    ensures { (budget : ℕ) → IfOk result (LeadsOn table.now budget (length guards.items)) }
+    ensures { IfOk result (LeadsOn table.now (length guards.items)) }
 {
     if guards.len() == room as usize {
-        let ended = Ended::Full { at };
         return Ok(Turn::End(Protected {
             table: made,
             guards,
-            ended,
+            ended: Ended::Full { at },
         }));
     }
     Ok(Turn::Next(with_guard(alloc, table, &made, guards, &at)?))
 }
 
 // Plays a round: a certificate, a search that gives up, or no room ends it, or it treats a stuck state.
-fn play(
+fn play<F: Finder>(
     alloc: Global,
     table: &Table,
     guards: Vec<Stays>,
     room: u32,
-    budget: u32,
-    effort: Effort,
+    finder: &F,
 ) -> Result<Turn, AllocError>
     requires guards { All (IsGuard table.now) guards.items }
     requires room { length table.now.sections + room ≡ 64 }
     requires few { length guards.items ≤ room }
-    ensures { IfOk result (LeadsOn table.now budget (length guards.items)) }
+    ensures { IfOk result (LeadsOn table.now (length guards.items)) }
 {
     let made = guarded(alloc, table, &guards)?;
-    let Report { found, searches: _ } = find(alloc, &made, budget, effort)?;
-    let ended = match found {
-        Found::Cert(cert) => Ended::Certified(cert),
-        Found::GaveUp { nodes } => Ended::GaveUp { nodes },
-        Found::Stuck(at) => return treat(alloc, table, made, guards, at, room),
-    };
-    Ok(Turn::End(Protected {
-        table: made,
-        guards,
-        ended,
-    }))
+    match finder.find(alloc, &made)? {
+        Finding::Cert(cert) => Ok(Turn::End(Protected {
+            table: made,
+            guards,
+            ended: Ended::Certified(cert),
+        })),
+        Finding::GaveUp { nodes } => Ok(Turn::End(Protected {
+            table: made,
+            guards,
+            ended: Ended::GaveUp { nodes },
+        })),
+        Finding::Stuck(at) => treat(alloc, table, made, guards, at, room),
+    }
 }
 
-/// The table with guards behind its own sections: a stuck state that the search finds gets a guard against a small core of it,
-/// again and again, until the table is certified, the search gives up, or there is no room for a section more.
+/// The table with guards behind its own sections: each stuck state that the finder finds gets a guard against a small core of it,
+/// until the table is certified, the finder gives up, or there is no room for a section more.
 ///
 /// The only error is that there is no memory.
-pub fn protect(
-    alloc: Global,
-    table: &Table,
-    budget: u32,
-    effort: Effort,
-) -> Result<Protected, AllocError>
-    ensures { IfOk result (Protects table.now budget) }
+pub fn protect<F: Finder>(alloc: Global, table: &Table, finder: &F) -> Result<Protected, AllocError>
+    ensures { IfOk result (Protects table.now) }
 {
     let room = MOST_SECTIONS - sections_of(table);
     let mut guards = Vec::new(alloc);
     loop {
-        match play(alloc, table, guards, room, budget, effort)? {
+        match play(alloc, table, guards, room, finder)? {
             Turn::End(protected) => return Ok(protected),
             Turn::Next(next) => guards = next,
         }
