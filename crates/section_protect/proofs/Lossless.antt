@@ -1,8 +1,8 @@
 -- What a table with guards keeps.
 use Rattle.std.proofs.Common.{◌≡◌, ℕ, zero, suc, ◌++◌, List, [], ◌∷◌, map, refl, arith, subst, sym}
-use Rattle.std.specs.Prelude.{All}
+use Rattle.std.specs.Prelude.{All, slice_set, ◌<◌, length}
 use Rattle.std.proofs.lemmas.List.{length-append}
-use Rattle.std.proofs.lemmas.List.Elements.{All-append}
+use Rattle.std.proofs.lemmas.List.Elements.{All-append, All-set}
 use Rattle.rail_model.specs.Table.{Table, trains}
 use Rattle.rail_model.specs.State.{Legal}
 use Rattle.rail_model.specs.Move.{Live}
@@ -61,3 +61,8 @@ guards-next T made guards next stays g guard pushed =
 -- guards are stays
 pub guards-stay : (T : Table) (guards : List (List Stay)) → All (IsGuard T) guards → All (AreStays (trains T)) guards
 guards-stay T guards all = λ k d lt. (all k d lt).stays
+
+-- with one guard replaced, each is a guard of the table
+pub guards-joined : (T made : Table) (guards : List (List Stay)) (k : ℕ) (stays : List Stay) → IsGuarded T guards made → k < length guards →
+    IsGuard made stays → All (IsGuard T) (slice_set guards k stays)
+guards-joined T made guards k stays g lt guard = All-set (IsGuard T) guards k stays (one_more T made guards stays g guard) g.guards_are

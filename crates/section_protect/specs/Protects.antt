@@ -10,7 +10,7 @@ use Rattle.state_core.specs.Guard.{guarded, IsGuard}
 use Rattle.section_protect.specs.declared.finder.Finding.{Finding}
 use Rattle.section_protect.specs.declared.finder.Finding.TheVariants.{Cert as found_cert, Stuck as found_stuck, GaveUp as found_none}
 use Rattle.section_protect.specs.declared.protected.Ended.{Ended}
-use Rattle.section_protect.specs.declared.protected.Ended.TheVariants.{Certified, GaveUp, Full}
+use Rattle.section_protect.specs.declared.protected.Ended.TheVariants.{Certified, GaveUp, Full, Spent}
 use Rattle.section_protect.specs.declared.protected.Protected.{Protected}
 
 -- What is found holds of the table: it accepts a certificate, and a state is stuck.
@@ -25,12 +25,13 @@ pub record IsGuarded (T : Table) (guards : List (List Stay)) (made : Table) : Ty
   pub few : length T.sections + length guards ≤ 64
   pub made_is : made ≡ guarded T guards
 
--- How it ended: the table accepts a certificate; the search gave up; or a state is stuck, and the table has no room for a section
--- more.
+-- How it ended: the table accepts a certificate; the search gave up; or a state is stuck, where the table has no room for a
+-- section more, or no more rounds were to be made.
 abbrev pub Ends : Table → Ended → Type 0
 Ends T (Certified c) = Accepts T c
 Ends T (GaveUp nodes) = Unit {0}
 Ends T (Full p) = IsStuck T p × (length T.sections ≡ 64)
+Ends T (Spent p) = IsStuck T p
 
 -- What a table becomes.
 pub record Protects (T : Table) (r : Protected) : Type 0 where

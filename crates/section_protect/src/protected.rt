@@ -12,6 +12,8 @@ pub enum Ended {
     GaveUp { nodes: u32 },
     /// This state is stuck, and there is no room for a section more.
     Full { at: State },
+    /// This state is stuck, and no more rounds were to be made.
+    Spent { at: State },
 }
 
 /// A table with guards behind its own sections, the stays of each guard, and how the search ended.

@@ -1,3 +1,4 @@
+pub mod Combined
 pub mod Doomed
 pub mod Holding
 pub mod Listing
@@ -5,4 +6,5 @@ pub mod Rows
 pub mod Stays
 pub mod Tables
 pub mod Tests
+pub mod Trapped
 pub mod Waiting

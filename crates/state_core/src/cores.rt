@@ -5,7 +5,11 @@ ghost use Rattle.rail_model.specs.Table.{IsTable, IsConnection, trains, last, pl
 ghost use Rattle.rail_model.specs.State.{Legal};
 ghost use Rattle.rail_model.specs.Move.{Stuck};
 ghost use Rattle.rail_model.specs.Checks.{below, blocks as blocks_train, is_held_by};
-ghost use Rattle.state_core.specs.Core.{has as has_train, count_within as count_within_group, is_unfinished as is_unfinished_of, is_blocked_within as is_blocked_of, shuts as shuts_of, is_shut_within as is_shut_of, is_held_within as is_held_of, is_kept as is_kept_of, is_loose as is_loose_of, is_core as is_core_of, IsCore};
+ghost use Rattle.state_core.specs.Core.{has as has_train, count_within as count_within_group, is_unfinished as is_unfinished_of};
+ghost use Rattle.state_core.specs.Core.{is_blocked_within as is_blocked_of, shuts as shuts_of, is_shut_within as is_shut_of};
+ghost use Rattle.state_core.specs.Core.{is_held_within as is_held_of, is_kept as is_kept_of, is_loose as is_loose_of};
+ghost use Rattle.state_core.specs.Core.{is_core as is_core_of, IsCore};
+ghost use Rattle.state_core.specs.Trap.{IsPlaced};
 
 use crate::Group;
 use crate::group::all_below;
@@ -17,7 +21,7 @@ use std::alloc::{AllocError, Global};
 
 // Whether a train isn't at its last place.
 fn is_unfinished(table: &Table, state: &State, train: u32) -> bool
-    requires legal { Legal table.now state.now }
+    requires placed { IsPlaced table.now state.now }
     requires train { train < trains table.now }
     ensures { result ≡ is_unfinished_of table.now state.now train }
 {
@@ -27,7 +31,7 @@ fn is_unfinished(table: &Table, state: &State, train: u32) -> bool
 // Whether another train stands at the next point of a train.
 fn blocks(table: &Table, state: &State, train: u32, other: u32) -> bool
     requires formed { IsTable table.now }
-    requires legal { Legal table.now state.now }
+    requires placed { IsPlaced table.now state.now }
     requires train { train < trains table.now }
     requires other { other < trains table.now }
     requires unfinished { place state.now train < last table.now train }
@@ -44,7 +48,7 @@ fn blocks(table: &Table, state: &State, train: u32, other: u32) -> bool
 
 // Whether a train of the group stands at the next point of a train.
 fn is_blocked(table: &Table, state: &State, group: &Group, train: u32) -> bool
-    requires legal { Legal table.now state.now }
+    requires placed { IsPlaced table.now state.now }
     requires train { train < trains table.now }
     requires unfinished { place state.now train < last table.now train }
     ensures { result ≡ is_blocked_of table.now state.now group.now train }
@@ -59,10 +63,11 @@ fn is_blocked(table: &Table, state: &State, group: &Group, train: u32) -> bool
 
 // A train's share of a section, if it is in the group.
 fn share_within(table: &Table, state: &State, group: &Group, section: u32, train: u32) -> i32
-    requires legal { Legal table.now state.now }
+    requires placed { IsPlaced table.now state.now }
     requires train { train < trains table.now }
     requires section { section < length table.now.sections }
-    ensures share { result ≡ (if has_train group.now train then share table.now train section (place state.now train) else pos 0) }
+    ensures share { result ≡ (if has_train group.now train
+        then share table.now train section (place state.now train) else pos 0) }
     ensures low { pos 0 ≤ℤ result }
     ensures high { result ≤ℤ pos 4 }
 {
@@ -74,8 +79,8 @@ fn share_within(table: &Table, state: &State, group: &Group, section: u32, train
 }
 
 // What a section counts of the group's trains.
-fn count_within(table: &Table, state: &State, group: &Group, section: u32) -> i32
-    requires legal { Legal table.now state.now }
+pub(crate) fn count_within(table: &Table, state: &State, group: &Group, section: u32) -> i32
+    requires placed { IsPlaced table.now state.now }
     requires section { section < length table.now.sections }
     ensures count { result ≡ count_within_group table.now group.now section state.now }
     ensures low { pos 0 ≤ℤ result }
@@ -91,7 +96,7 @@ fn count_within(table: &Table, state: &State, group: &Group, section: u32) -> i3
 // Whether a section has no room for a train beside the group.
 fn shuts(table: &Table, state: &State, group: &Group, train: u32, section: u32) -> bool
     requires formed { IsTable table.now }
-    requires legal { Legal table.now state.now }
+    requires placed { IsPlaced table.now state.now }
     requires train { train < trains table.now }
     requires unfinished { place state.now train < last table.now train }
     requires section { section < length table.now.sections }
@@ -107,7 +112,7 @@ fn shuts(table: &Table, state: &State, group: &Group, train: u32, section: u32) 
 
 // Whether some section has no room for a train beside the group.
 fn is_shut(table: &Table, state: &State, group: &Group, train: u32) -> bool
-    requires legal { Legal table.now state.now }
+    requires placed { IsPlaced table.now state.now }
     requires train { train < trains table.now }
     requires unfinished { place state.now train < last table.now train }
     ensures { result ≡ is_shut_of table.now state.now group.now train }
@@ -122,7 +127,7 @@ fn is_shut(table: &Table, state: &State, group: &Group, train: u32) -> bool
 
 // Whether a connection holds a train until one of the group is further.
 fn holds(table: &Table, state: &State, group: &Group, train: u32, connection: Connection) -> bool
-    requires legal { Legal table.now state.now }
+    requires placed { IsPlaced table.now state.now }
     requires train { train < trains table.now }
     requires formed { IsConnection table.now connection }
     ensures { result ≡ (is_held_by state.now train connection && has_train group.now connection.other) }
@@ -135,7 +140,7 @@ fn holds(table: &Table, state: &State, group: &Group, train: u32, connection: Co
 
 // Whether some connection holds a train until one of the group is further.
 fn is_held(table: &Table, state: &State, group: &Group, train: u32) -> bool
-    requires legal { Legal table.now state.now }
+    requires placed { IsPlaced table.now state.now }
     requires train { train < trains table.now }
     ensures { result ≡ is_held_of table.now state.now group.now train }
 {
@@ -147,23 +152,30 @@ fn is_held(table: &Table, state: &State, group: &Group, train: u32) -> bool
     false
 }
 
+// Whether the group keeps a train where it is.
+pub(crate) fn is_kept(table: &Table, state: &State, group: &Group, train: u32) -> bool
+    requires placed { IsPlaced table.now state.now }
+    requires train { train < trains table.now }
+    requires unfinished { place state.now train < last table.now train }
+    ensures { result ≡ is_kept_of table.now state.now group.now train }
+{
+    is_blocked(table, state, group, train)
+        || is_shut(table, state, group, train)
+        || is_held(table, state, group, train)
+}
+
 // Whether a train is one of the group that the group doesn't keep where it is.
 fn is_loose(table: &Table, state: &State, group: &Group, train: u32) -> bool
-    requires legal { Legal table.now state.now }
+    requires placed { IsPlaced table.now state.now }
     requires train { train < trains table.now }
     ensures { result ≡ is_loose_of table.now state.now group.now train }
 {
-    if !group.has(train) || !is_unfinished(table, state, train) {
-        return false;
-    }
-    !is_blocked(table, state, group, train)
-        && !is_shut(table, state, group, train)
-        && !is_held(table, state, group, train)
+    group.has(train) && is_unfinished(table, state, train) && !is_kept(table, state, group, train)
 }
 
 // Whether some train of the group is loose.
 fn has_loose(table: &Table, state: &State, group: &Group) -> bool
-    requires legal { Legal table.now state.now }
+    requires placed { IsPlaced table.now state.now }
     ensures { result ≡ list_any (is_loose_of table.now state.now group.now) (below (trains table.now)) }
 {
     for train in 0..trains_of(table) {
@@ -176,8 +188,9 @@ fn has_loose(table: &Table, state: &State, group: &Group) -> bool
 
 // Whether some train of the group hasn't arrived.
 fn has_unfinished(table: &Table, state: &State, group: &Group) -> bool
-    requires legal { Legal table.now state.now }
-    ensures { result ≡ list_any (λ i. has_train group.now i && is_unfinished_of table.now state.now i) (below (trains table.now)) }
+    requires placed { IsPlaced table.now state.now }
+    ensures { result ≡ list_any (λ i. has_train group.now i && is_unfinished_of table.now state.now i)
+        (below (trains table.now)) }
 {
     for train in 0..trains_of(table) {
         if group.has(train) && is_unfinished(table, state, train) {
@@ -189,7 +202,7 @@ fn has_unfinished(table: &Table, state: &State, group: &Group) -> bool
 
 // Whether the group passes the test of a core.
 fn passes(table: &Table, state: &State, group: &Group) -> bool
-    requires { Legal table.now state.now }
+    requires { IsPlaced table.now state.now }
     ensures { result ≡ is_core_of table.now state.now group.now }
 {
     has_unfinished(table, state, group) && !has_loose(table, state, group)

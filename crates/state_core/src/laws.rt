@@ -1,6 +1,7 @@
 // What cores and guards mean: laws of the definitions, with no code.
 ghost use Rattle.state_core.specs.Core.{CoreIsTested, CoresStay, CoresAreLost, StuckStatesHaveCores};
 ghost use Rattle.state_core.specs.Guard.{CoresAreGuards, GuardsForbidTheirStays, GuardsLoseNothing, GuardsAddUp};
+ghost use Rattle.state_core.specs.Trap.{TrapsAreGuards};
 
 /// No run moves a train of a core, so from a state that has one not all trains can arrive.
 pub fn cores_stay_for_ever()
@@ -21,4 +22,9 @@ pub fn guards_lose_nothing()
     ensures stays { GuardsForbidTheirStays }
     ensures lossless { GuardsLoseNothing }
     ensures add_up { GuardsAddUp }
+{}
+
+/// No run leads out of a trap, so it is a guard.
+pub fn traps_are_guards()
+    ensures { TrapsAreGuards }
 {}

@@ -1,4 +1,4 @@
-use Rattle.std.proofs.Common.{◌≤◌, ◌-◌, length}
+use Rattle.std.proofs.Common.{◌≤◌, length}
 use Rattle.std.specs.Prelude.{All}
 use Rattle.state_core.specs.Guard.{IsGuard}
 use Rattle.section_protect.proofs.rounds.protect.Given as goal
@@ -10,4 +10,4 @@ invariant-loop-protected g l = record {
 }
 
 abbrev pub decreases-loop-protected : goal.decreases-loop-protected
-decreases-loop-protected g l = l.room - length l.guards.items
+decreases-loop-protected g l = l.left

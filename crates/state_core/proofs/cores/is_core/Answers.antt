@@ -10,3 +10,6 @@ returns c =
     let p = c.args.state.now in
     let group = c.args.group.now in
     subst (λ b. IsTrue b ↔ IsCore T p group) (sym c.passes.ensures) (core_is_tested T p group)
+
+pub passes-requires : goal.passes-requires
+passes-requires c = record { one_each = c.requires.one_each; in_range = c.requires.in_range }
