@@ -1,2 +1,3 @@
 pub mod Certifying
 pub mod Answered
+pub mod Protecting

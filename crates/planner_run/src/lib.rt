@@ -7,6 +7,7 @@ mod drawing;
 mod explaining;
 mod linting;
 mod planning;
+mod protecting;
 mod timing;
 mod top;
 

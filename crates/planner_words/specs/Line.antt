@@ -43,6 +43,9 @@ lint = leaf (codes "lint") (valued (codes "before") ∷ [])
 abbrev pub certify : Shape
 certify = leaf (codes "certify") (valued (codes "budget") ∷ valued (codes "effort") ∷ [])
 
+abbrev pub protect : Shape
+protect = leaf (codes "protect") (valued (codes "budget") ∷ valued (codes "effort") ∷ [])
+
 abbrev pub timetable : Shape
 timetable = leaf (codes "timetable") (flag (codes "csv") ∷ [])
 
@@ -58,7 +61,7 @@ documents = plan ∷ explain ∷ lint ∷ []
 
 -- those that make something of a document
 abbrev pub makers : List Shape
-makers = certify ∷ []
+makers = certify ∷ protect ∷ []
 
 -- those that read a run, or draw
 abbrev pub pictures : List Shape

@@ -162,3 +162,7 @@ trap_from T b p table stays early placed each = record {
       sym (subst (λ j. place w.0 j ≡ place r j) s.2 (w.2.inside s.0 s.1))))
       b refl stays legal w.1);
 }
+
+pub guard_from : (T : Table) (b : List Stay) (p : List ℕ) → IsTable T → AreStays (trains T) b → (s : Stay) × IsAmong b s × EndsEarly T s →
+    IsPlaced T p → EachCombination (Holds T b) b p → IsGuard T b
+guard_from T b p table stays early placed each = traps_are_guards T b table (trap_from T b p table stays early placed each)

@@ -2,8 +2,9 @@
 ghost use Rattle.std.specs.Prelude.{◌≡◌, ◌<◌, IfOk, IsTrue, length, slice_set};
 ghost use Rattle.rail_model.specs.Table.{trains};
 ghost use Rattle.forbidden_states.specs.Forbid as model;
-ghost use Rattle.forbidden_states.specs.Forbid.{AreStays};
+ghost use Rattle.forbidden_states.specs.Forbid.{AreStays, stay_of as stay_of_train};
 ghost use Rattle.state_core.specs.Core.{has as has_train};
+ghost use Rattle.state_core.specs.Guard.{IsGuard};
 ghost use Rattle.state_core.specs.Trap.{IsPlaced, IsAmong, EndsEarly, IsKeptAtEnd, IsTrap, Meet, IsCrowded, IsOverWithin, Holds};
 ghost use Rattle.state_core.specs.Trap.{EachCombination, group_of as trains_of_stays};
 
@@ -24,19 +25,29 @@ fn group_of(alloc: Global, stays: &[Stay]) -> Result<Group, AllocError>
     Ok(Group::from(trains))
 }
 
+// The first stay of a train.
+fn stay_of(stays: &[Stay], train: u32) -> Option<Stay>
+    ensures { result ≡ stay_of_train stays.now train }
+{
+    stays.iter().copied().find(|stay| stay.train() == train)
+}
+
 // Whether these are stays of different trains, none of which is empty.
 fn are_stays(stays: &[Stay], count: u32) -> bool
     ensures { IsTrue result → AreStays count stays.now }
 {
-    match stays {
-        [] => true,
-        [stay, later @ ..] => {
-            stay.train() < count
-                && stay.span().lo() <= stay.span().hi()
-                && !later.iter().any(|other| other.train() == stay.train())
-                && are_stays(later, count)
-        }
+    let [stay, later @ ..] = stays else {
+        return true;
+    };
+    let train = stay.train();
+    let span = stay.span();
+    if train >= count || span.lo() > span.hi() {
+        return false;
     }
+    if let Some(_) = stay_of(later, train) {
+        return false;
+    }
+    are_stays(later, count)
 }
 
 // Whether a stay ends before its train's last place.
@@ -128,14 +139,16 @@ fn keeps_ends(table: &Table, state: &State, group: &Group, stays: &[Stay]) -> bo
     requires placed { IsPlaced table.now state.now }
     ensures { IsTrue result → (s : model.Stay) → IsAmong stays.now s → IsKeptAtEnd table.now state.now group.now s }
 {
-    match stays {
-        [] => true,
-        [stay, later @ ..] => {
-            stay.train() < trains_of(table)
-                && is_kept_at_end(table, state, group, *stay)
-                && keeps_ends(table, state, group, later)
-        }
+    let [stay, later @ ..] = stays else {
+        return true;
+    };
+    if stay.train() >= trains_of(table) {
+        return false;
     }
+    if !is_kept_at_end(table, state, group, *stay) {
+        return false;
+    }
+    keeps_ends(table, state, group, later)
 }
 
 // Whether trains can't be where they are, or are kept at the ends of their stays.
@@ -144,9 +157,13 @@ fn holds(table: &Table, state: &State, group: &Group, stays: &[Stay]) -> bool
     requires group { group.now ≡ trains_of_stays stays.now }
     ensures { IsTrue result → Holds table.now stays.now state.now }
 {
-    is_crowded(table, state, group)
-        || is_over(table, state, group)
-        || keeps_ends(table, state, group, stays)
+    if keeps_ends(table, state, group, stays) {
+        return true;
+    }
+    if is_crowded(table, state, group) {
+        return true;
+    }
+    is_over(table, state, group)
 }
 
 // The same positions with a train at another place.
@@ -181,7 +198,8 @@ fn each_holds(
     }
     for place in stay.span().lo()..stay.span().hi() + 1 {
         let next = placed(alloc, state, train, place)?;
-        if !each_holds(alloc, table, stays, group, later, &next)? {
+        let is_so = each_holds(alloc, table, stays, group, later, &next)?;
+        if !is_so {
             return Ok(false);
         }
     }
@@ -212,15 +230,18 @@ fn start(alloc: Global, table: &Table) -> Result<State, AllocError>
 ///
 /// The only error is that there is no memory.
 pub fn is_trap(alloc: Global, table: &Table, stays: &[Stay]) -> Result<bool, AllocError>
-    ensures { IfOk result (λ found. IsTrue found → IsTrap table.now stays.now) }
+    ensures trap { IfOk result (λ found. IsTrue found → IsTrap table.now stays.now) }
+    ensures guard { IfOk result (λ found. IsTrue found → IsGuard table.now stays.now) }
 {
-    if combinations(stays) > MOST_COMBINATIONS
-        || !are_stays(stays, trains_of(table))
-        || !one_ends_early(table, stays)
-    {
+    let count = trains_of(table);
+    if combinations(stays) > MOST_COMBINATIONS || !are_stays(stays, count) {
+        return Ok(false);
+    }
+    if !one_ends_early(table, stays) {
         return Ok(false);
     }
     let group = group_of(alloc, stays)?;
     let state = start(alloc, table)?;
-    each_holds(alloc, table, stays, &group, stays, &state)
+    let is_so = each_holds(alloc, table, stays, &group, stays, &state)?;
+    Ok(is_so)
 }
