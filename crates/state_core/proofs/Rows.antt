@@ -1,10 +1,11 @@
 -- Worked cores and guards: a corridor, a passing loop, a line of three, sections and connections.
 use Rattle.std.specs.Prelude.{◌≡◌, ℕ, List, [], ◌∷◌, pos, negsuc, false, true, refl}
-use Rattle.rail_model.specs.Table.{Table}
+use Rattle.rail_model.specs.Table.{Table, point}
 use Rattle.rail_model.proofs.Samples.{open_corridor, loop, waiting}
 use Rattle.forbidden_states.specs.Forbid.{Stay}
-use Rattle.state_core.specs.Core.{is_core}
+use Rattle.state_core.specs.Core.{is_core, is_kept}
 use Rattle.state_core.specs.Guard.{stay_at, stays_of, guarded}
+use Rattle.state_core.specs.Trap.{group_of}
 
 -- in the corridor the trains stand face to face
 corridor-core : is_core open_corridor (1 ∷ 1 ∷ []) (0 ∷ 1 ∷ []) ≡ true
@@ -75,3 +76,24 @@ waiting-core : is_core (record waiting {
   connections = record { train = 0; place = 0; other = 1; reached = 1 } ∷ record { train = 1; place = 0; other = 0; reached = 1 } ∷ [];
 }) (0 ∷ 0 ∷ []) (0 ∷ 1 ∷ []) ≡ true
 waiting-core = refl
+
+-- in the longer corridor, each at its first or its second inner point: a trap
+abbrev trap : List Stay
+trap = record { train = 0; range = record { lo = 1; hi = 2 } } ∷ record { train = 1; range = record { lo = 1; hi = 2 } } ∷ []
+
+trap-group : group_of trap ≡ 0 ∷ 1 ∷ []
+trap-group = refl
+
+-- the first is kept at its end by the second at its beginning, and the other way round; both can't be at their ends at once
+trap-first : is_kept long (2 ∷ 1 ∷ []) (group_of trap) 0 ≡ true
+trap-first = refl
+
+trap-second : is_kept long (1 ∷ 2 ∷ []) (group_of trap) 1 ≡ true
+trap-second = refl
+
+trap-ends : point long 0 2 ≡ point long 1 2
+trap-ends = refl
+
+-- with a third place of the first train it is none: from there the second at its end doesn't keep it
+trap-too_long : is_kept long (3 ∷ 2 ∷ []) (group_of trap) 0 ≡ false
+trap-too_long = refl
