@@ -128,7 +128,7 @@ fn hull(alloc: Global, first: &[Stay], second: &[Stay]) -> Result<Stays, AllocEr
 }
 
 /// The first of the guards that makes a trap together with a further one, and that trap in place of it.
-pub(crate) fn joined(
+pub(crate) fn join_with(
     alloc: Global,
     table: &Table,
     guards: &[Stays],

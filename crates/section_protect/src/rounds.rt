@@ -5,7 +5,7 @@ ghost use Rattle.state_core.specs.Guard.{IsGuard};
 ghost use Rattle.section_protect.specs.Protects.{IsGuarded, Protects};
 ghost use Rattle.section_protect.specs.Rounds.{IsNext, LeadsOn};
 
-use crate::joining::{Joined, guard_against, joined};
+use crate::joining::{Joined, guard_against, join_with};
 use crate::{Ended, Finder, Finding, Protected};
 use forbidden_states::Stays;
 use rail_model::{State, Table, sections_of};
@@ -48,7 +48,7 @@ fn treat(
     ensures { IfOk result (LeadsOn table.now) }
 {
     let guard = guard_against(alloc, &made, &at)?;
-    if let Some(joined) = joined(alloc, &made, &guards, &guard)? {
+    if let Some(joined) = join_with(alloc, &made, &guards, &guard)? {
         return Ok(Turn::Next(with_joined(guards, joined)));
     }
     if guards.len() == room as usize {
