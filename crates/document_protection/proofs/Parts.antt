@@ -12,7 +12,7 @@ use Rattle.layout_json.specs.Keeps.{IsTaken}
 use Rattle.layout_json.specs.Migrated.{IsMigrated}
 use Rattle.layout_json.specs.Replaced.{new_table, replaced}
 use Rattle.layout_json.proofs.FormedDoc.{no_table}
-use Rattle.section_protect.proofs.Lossless.{guards-stay}
+use Rattle.section_protect.proofs.Lossless.{guards_stay}
 use Rattle.state_core.proofs.Tables.{is_guarded_table}
 use Rattle.document_protection.specs.Protected.{IsPartOf, ArePartsOf, AreProtected, new_tree, table_in}
 use Rattle.document_protection.proofs.Taking.{is_taken, later_is_not_first}
@@ -61,7 +61,7 @@ module _ (E : Doc) (tables : List Table) (parts : List (Table × Tree)) (is : Is
   formed t lt =
       let own = part t lt in
       let g = own.guarded_is in
-      subst IsTable (sym g.made_is) (is_guarded_table (table_at E t) own.guards (is.formed t lt) g.few (guards-stay (table_at E t) own.guards g.guards_are))
+      subst IsTable (sym g.made_is) (is_guarded_table (table_at E t) own.guards (is.formed t lt) g.few (guards_stay (table_at E t) own.guards g.guards_are))
 
   -- nothing of the document with these tables is refused
   pub replaced_is_taken : IsTaken E → (E.version == 1) ≡ false → Legal (new_table parts 0) E.start → IsTaken (replaced E parts)

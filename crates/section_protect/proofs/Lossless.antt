@@ -52,17 +52,18 @@ only P x h zero d lt = h
 only P x h (suc k) d lt = absurd (omega arith)
 
 -- with one guard more, each is a guard of the table
-pub guards-next : (T made : Table) (guards next : List (List Stay)) (stays : List Stay) → IsGuarded T guards made → IsGuard made stays →
+pub guards_pushed : (T made : Table) (guards next : List (List Stay)) (stays : List Stay) → IsGuarded T guards made → IsGuard made stays →
     next ≡ guards ++ stays ∷ [] → All (IsGuard T) next
-guards-next T made guards next stays g guard pushed =
+guards_pushed T made guards next stays g guard pushed =
     subst (All (IsGuard T)) (sym pushed)
     (All-append (IsGuard T) guards (stays ∷ []) g.guards_are (only (IsGuard T) stays (one_more T made guards stays g guard)))
 
 -- guards are stays
-pub guards-stay : (T : Table) (guards : List (List Stay)) → All (IsGuard T) guards → All (AreStays (trains T)) guards
-guards-stay T guards all = λ k d lt. (all k d lt).stays
+pub guards_stay : (T : Table) (guards : List (List Stay)) → All (IsGuard T) guards → All (AreStays (trains T)) guards
+guards_stay T guards all = λ k d lt. (all k d lt).stays
 
 -- with one guard replaced, each is a guard of the table
-pub guards-joined : (T made : Table) (guards : List (List Stay)) (k : ℕ) (stays : List Stay) → IsGuarded T guards made → k < length guards →
-    IsGuard made stays → All (IsGuard T) (slice_set guards k stays)
-guards-joined T made guards k stays g lt guard = All-set (IsGuard T) guards k stays (one_more T made guards stays g guard) g.guards_are
+pub guards_joined : (T made : Table) (guards next : List (List Stay)) (k : ℕ) (stays : List Stay) → IsGuarded T guards made → k < length guards →
+    IsGuard made stays → next ≡ slice_set guards k stays → All (IsGuard T) next
+guards_joined T made guards next k stays g lt guard replaced =
+    subst (All (IsGuard T)) (sym replaced) (All-set (IsGuard T) guards k stays (one_more T made guards stays g guard) g.guards_are)

@@ -34,6 +34,7 @@ fn with_joined(guards: Vec<Stays>, joined: Joined) -> Vec<Stays>
 
 // What a round leads to that found this stuck state, where a table has room for so many guards: the guard against the state is
 // joined with an earlier one, or comes behind the others.
+#[tactic(auto, using(crate::proofs::Lossless::guards_joined, crate::proofs::Lossless::guards_pushed))]
 fn treat(
     alloc: Global,
     table: &Table,
