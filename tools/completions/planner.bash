@@ -2,7 +2,7 @@
 _planner() {
   local word=${COMP_WORDS[COMP_CWORD]} options
   if [ "$COMP_CWORD" -eq 1 ]; then
-    COMPREPLY=($(compgen -W "plan explain lint certify protect timetable graph layout --help --version" -- "$word"))
+    COMPREPLY=($(compgen -W "plan explain lint certify timetable graph layout --help --version" -- "$word"))
     return
   fi
   if [ "${COMP_WORDS[COMP_CWORD-1]}" = --before ]; then
@@ -16,7 +16,7 @@ _planner() {
   case ${COMP_WORDS[1]} in
     explain) options="--at --table --line" ;;
     lint) options="--before" ;;
-    certify | protect) options="--budget --effort" ;;
+    certify) options="--budget --effort" ;;
     timetable) options="--csv" ;;
     graph) options="--train" ;;
     layout) options="--at --table" ;;

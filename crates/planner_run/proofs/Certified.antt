@@ -9,13 +9,12 @@ use Rattle.layout_json.specs.declared.refused.DocRefused.{DocRefused}
 use Rattle.planner_run.specs.Answered.{IsCertifying, IsWrong}
 use Rattle.planner_run.specs.Certifying.{IsCertifiedInput, refused_line, uncertified_line}
 use Rattle.planner_run.specs.declared.answer.Answer.{Answer}
-use Rattle.planner_run.specs.declared.answer.Answer.TheVariants.{Text, Remarks, Noted, Wrong}
+use Rattle.planner_run.specs.declared.answer.Answer.TheVariants.{Text, Remarks, Wrong}
 
 module _ (input : List ℕ) (budget : ℕ) where
   pub refused_answers : (refused : DocRefused) (a : Answer) → doc_of input ≡ Err refused → IsWrong (refused_line refused) a → IsCertifying input budget a
   refused_answers refused (Text text) is wrong = absurd wrong
   refused_answers refused (Remarks lines) is wrong = absurd wrong
-  refused_answers refused (Noted text lines) is wrong = absurd wrong
   refused_answers refused (Wrong lines) is wrong = inl (record { refused = refused; is_refused = is; is_line = wrong })
 
   module _ (D : Doc) (is : doc_of input ≡ Ok D) where
@@ -25,6 +24,5 @@ module _ (input : List ℕ) (budget : ℕ) where
     pub uncertified_answers : (why : Uncertified) (a : Answer) → HasNone D budget why → IsWrong (uncertified_line why) a → IsCertifying input budget a
     uncertified_answers why (Text text) none wrong = absurd wrong
     uncertified_answers why (Remarks lines) none wrong = absurd wrong
-    uncertified_answers why (Noted text lines) none wrong = absurd wrong
     uncertified_answers why (Wrong lines) none wrong =
         inr (record { document = D; is_read = is; tells = record { why = why; has_none = none; is_line = wrong } })

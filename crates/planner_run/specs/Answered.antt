@@ -23,13 +23,12 @@ use Rattle.document_lint.specs.Told.{LosesNoSection}
 use Rattle.svg_text.specs.Tree.{Picture}
 use Rattle.svg_text.specs.Text.{svg_text}
 use Rattle.planner_words.specs.declared.orders.Order.{Order}
-use Rattle.planner_words.specs.declared.orders.Order.TheVariants.{Plan as OfPlan, ExplainState, ExplainLine, Lint, Certify, Protect, Timetable, Graph, Layout}
+use Rattle.planner_words.specs.declared.orders.Order.TheVariants.{Plan as OfPlan, ExplainState, ExplainLine, Lint, Certify, Timetable, Graph, Layout}
 use Rattle.planner_words.specs.declared.orders.WordsAnswered.{WordsAnswered}
 use Rattle.planner_words.specs.declared.orders.WordsAnswered.TheVariants.{Shown, Refused, Memory}
 use Rattle.planner_run.specs.Certifying.{IsCertifiedInput, IsCertifyingFault}
-use Rattle.planner_run.specs.Protecting.{IsProtectedInput}
 use Rattle.planner_run.specs.declared.answer.Answer.{Answer}
-use Rattle.planner_run.specs.declared.answer.Answer.TheVariants.{Text, Remarks, Noted, Wrong}
+use Rattle.planner_run.specs.declared.answer.Answer.TheVariants.{Text, Remarks, Wrong}
 use Rattle.planner_run.specs.declared.top.Status.{Status}
 use Rattle.planner_run.specs.declared.top.Status.TheVariants.{Done, Faulty, Failed}
 use denote.Ref.{Bor}
@@ -125,7 +124,6 @@ IsTextFor (ExplainState table at) former input text = ExplainsPlaces input table
 IsTextFor (ExplainLine line) former input text = ExplainsWords input line.now text
 IsTextFor (Lint before) former input text = HasNoRemarks former input text
 IsTextFor (Certify budget effort) former input text = IsCertifiedInput input budget text
-IsTextFor (Protect budget effort) former input text = IsProtectedInput input text
 IsTextFor (Timetable csv) former input text = Unit {0}
 IsTextFor (Graph train) former input text = IsGraphText text
 IsTextFor (Layout table at) former input text = IsLayoutText input table.now at text
@@ -137,7 +135,6 @@ AreWrongFor OfPlan input lines = Unit {0}
 AreWrongFor (ExplainState table at) input lines = Unit {0}
 AreWrongFor (ExplainLine line) input lines = Unit {0}
 AreWrongFor (Lint before) input lines = Unit {0}
-AreWrongFor (Protect budget effort) input lines = Unit {0}
 AreWrongFor (Timetable csv) input lines = Unit {0}
 AreWrongFor (Graph train) input lines = Unit {0}
 AreWrongFor (Layout table at) input lines = Unit {0}
@@ -155,64 +152,38 @@ AsksForRemarks OfPlan = ⊥
 AsksForRemarks (ExplainState table at) = ⊥
 AsksForRemarks (ExplainLine line) = ⊥
 AsksForRemarks (Certify budget effort) = ⊥
-AsksForRemarks (Protect budget effort) = ⊥
 AsksForRemarks (Timetable csv) = ⊥
 AsksForRemarks (Graph train) = ⊥
 AsksForRemarks (Layout table at) = ⊥
 
--- The order asks for a text with notes.
-abbrev pub AsksForNotes : Order → Type 0
-AsksForNotes (Protect budget effort) = Unit {0}
-AsksForNotes OfPlan = ⊥
-AsksForNotes (ExplainState table at) = ⊥
-AsksForNotes (ExplainLine line) = ⊥
-AsksForNotes (Lint before) = ⊥
-AsksForNotes (Certify budget effort) = ⊥
-AsksForNotes (Timetable csv) = ⊥
-AsksForNotes (Graph train) = ⊥
-AsksForNotes (Layout table at) = ⊥
-
--- The answer has no remarks and no notes, and where it is a text, this holds of it.
+-- The answer has no remarks, and where it is a text, this holds of it.
 abbrev pub IfText : (List ℕ → Type 0) → Answer → Type 0
 IfText Holds (Text text) = Holds text.items
 IfText Holds (Remarks lines) = ⊥
-IfText Holds (Noted text lines) = ⊥
 IfText Holds (Wrong lines) = Unit {0}
 
 -- The answer says with these lines what is wrong.
 abbrev pub IsWrong : List ℕ → Answer → Type 0
 IsWrong words (Text text) = ⊥
 IsWrong words (Remarks lines) = ⊥
-IsWrong words (Noted text lines) = ⊥
 IsWrong words (Wrong lines) = string_bytes lines ≡ words
 
--- The answer is what an order comes to on an input, with remarks or notes only where it asks for them, or what is wrong with
--- the input.
+-- The answer is what an order comes to on an input, with remarks only where it asks for them, or what is wrong with the input.
 abbrev pub IsAnswerTo : Order → Option (Bor (List ℕ)) → List ℕ → Answer → Type 0
 IsAnswerTo order former input (Text text) = IsTextFor order former input text.items
 IsAnswerTo order former input (Remarks lines) = AsksForRemarks order
-IsAnswerTo order former input (Noted text lines) = AsksForNotes order × IsTextFor order former input text.items
 IsAnswerTo order former input (Wrong lines) = AreWrongFor order input (string_bytes lines)
 
 -- The answer is the document with certificates, or the line that says why it has none.
 abbrev pub IsCertifying : List ℕ → ℕ → Answer → Type 0
 IsCertifying input budget (Text text) = IsCertifiedInput input budget text.items
 IsCertifying input budget (Remarks lines) = ⊥
-IsCertifying input budget (Noted text lines) = ⊥
 IsCertifying input budget (Wrong lines) = IsCertifyingFault input budget (string_bytes lines)
-
--- The answer is the document with guards and notes on them, or what is wrong.
-abbrev pub IsProtecting : List ℕ → Answer → Type 0
-IsProtecting input (Text text) = ⊥
-IsProtecting input (Remarks lines) = ⊥
-IsProtecting input (Noted text lines) = IsProtectedInput input text.items
-IsProtecting input (Wrong lines) = Unit {0}
 
 -- The answer is remarks, or an empty text where there are none.
 abbrev pub IsLinted : Option (Bor (List ℕ)) → List ℕ → Answer → Type 0
 IsLinted former input (Text text) = HasNoRemarks former input text.items
 IsLinted former input (Remarks lines) = Unit {0}
-IsLinted former input (Noted text lines) = ⊥
 IsLinted former input (Wrong lines) = ⊥
 
 -- the text that words get that ask for help or for the version

@@ -1,3 +1,2 @@
 pub mod Certifying
 pub mod Answered
-pub mod Protecting

@@ -7,7 +7,6 @@ use crate::drawing::layout;
 use crate::explaining::{line as explain_line, state as explain_state};
 use crate::linting::remarks;
 use crate::planning::plan;
-use crate::protecting::protect;
 use crate::timing::{graph, timetable};
 use planner_words::Order;
 use std::alloc::{AllocError, Global};
@@ -19,14 +18,12 @@ pub enum Answer {
     Text(Vec<u8>),
     /// Remarks on the input, in lines.
     Remarks(String),
-    /// The text that was asked for, and notes on it, in lines.
-    Noted(Vec<u8>, String),
     /// What is wrong with the input, in lines, each of which ends with a newline.
     Wrong(String),
 }
 
 /// What an order comes to on this input. `former` is the former document, where the order names one.
-#[tactic(auto, using(crate::proofs::Suits::if_text_answers, crate::proofs::Suits::lint_answers, crate::proofs::Suits::certifying_answers, crate::proofs::Suits::protecting_answers))]
+#[tactic(auto, using(crate::proofs::Suits::if_text_answers, crate::proofs::Suits::lint_answers, crate::proofs::Suits::certifying_answers))]
 pub fn answer_to(
     alloc: Global,
     order: &Order<'_>,
@@ -41,7 +38,6 @@ pub fn answer_to(
         Order::ExplainLine { line } => explain_line(alloc, input, line),
         Order::Lint { .. } => remarks(alloc, input, former),
         Order::Certify { budget, effort } => certify(alloc, input, *budget, *effort),
-        Order::Protect { budget, effort } => protect(alloc, input, *budget, *effort),
         Order::Timetable { csv } => timetable(alloc, input, *csv),
         Order::Graph { train } => graph(alloc, input, *train),
         Order::Layout { table, at } => layout(alloc, input, table, *at),

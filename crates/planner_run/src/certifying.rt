@@ -32,7 +32,7 @@ pub(crate) fn certify(
 }
 
 // The ways of searching that an effort stands for.
-pub(crate) fn searches_of(effort: Effort) -> Searches {
+fn searches_of(effort: Effort) -> Searches {
     match effort {
         Effort::Small => Searches::Small,
         Effort::Usual => Searches::Usual,

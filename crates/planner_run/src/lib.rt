@@ -7,7 +7,6 @@ mod drawing;
 mod explaining;
 mod linting;
 mod planning;
-mod protecting;
 mod timing;
 mod top;
 

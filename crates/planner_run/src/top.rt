@@ -2,7 +2,7 @@
 ghost use Rattle.std.specs.Prelude.{◌≡◌, ◌≢◌, ◌⊎◌, ℕ, List, None, IfSome};
 ghost use Rattle.ats_io.specs.Bytes.{Adds, AddsPrefix};
 ghost use Rattle.ats_io.specs.Faults.{Rose};
-ghost use Rattle.planner_run.specs.Answered.{IsTextFor, AsksForNotes, AsksForRemarks, Tells, code_of, shown_text};
+ghost use Rattle.planner_run.specs.Answered.{IsTextFor, AsksForRemarks, Tells, code_of, shown_text};
 
 use crate::Answer;
 use crate::answer::answer_to;
@@ -76,18 +76,6 @@ fn print<K: Sink, E: Sink>(text: &[u8], status: Status, out: &mut K, err: &mut E
     }
 }
 
-// How a call ends that has this text to write, and notes on it.
-fn print_noted<K: Sink, E: Sink>(text: &[u8], notes: &str, out: &mut K, err: &mut E) -> Status
-    ensures kept { (result ≡ Status.Done) ⊎ (result ≡ Status.Failed) }
-    ensures whole { result ≢ Status.Failed → Adds (K.taken out.old) (K.taken out.new) text.now }
-{
-    let status = print(text, Status::Done, out, err);
-    if let Status::Done = status {
-        tell(err, notes);
-    }
-    status
-}
-
 /// Answers an order: it reads the source to its end, and writes to `out` what the order asks for, or to `err` what is wrong.
 /// `former` is the former document, where the order names one.
 pub fn serve<S: Source, K: Sink, E: Sink>(
@@ -101,8 +89,7 @@ pub fn serve<S: Source, K: Sink, E: Sink>(
     // What is written is what the order comes to on all that the source had left.
     ensures done { result ≡ Status.Done → IfSome (S.left source.old) (λ all.
         (text : List ℕ) × IsTextFor order.now former.entry all text × Adds (K.taken out.old) (K.taken out.new) text) }
-    // Notes are written to `err`, and nothing else.
-    ensures quiet { result ≡ Status.Done → AsksForNotes order.now ⊎ (E.taken err.new ≡ E.taken err.old) }
+    ensures quiet { result ≡ Status.Done → E.taken err.new ≡ E.taken err.old }
     // Where the input has faults, nothing is written to `out`, except remarks that were asked for.
     ensures faulty { result ≡ Status.Faulty → AsksForRemarks order.now ⊎ (K.taken out.new ≡ K.taken out.old) }
     // And what is written to `err` is the beginning of lines that say what is wrong: all of them, unless `err` fails.
@@ -130,15 +117,13 @@ fn respond<K: Sink, E: Sink>(
     err: &mut E,
 ) -> Status
     ensures done { result ≡ Status.Done → (text : List ℕ) × IsTextFor order.now former.entry input.now text × Adds (K.taken out.old) (K.taken out.new) text }
-    // Notes are written to `err`, and nothing else.
-    ensures quiet { result ≡ Status.Done → AsksForNotes order.now ⊎ (E.taken err.new ≡ E.taken err.old) }
+    ensures quiet { result ≡ Status.Done → E.taken err.new ≡ E.taken err.old }
     ensures faulty { result ≡ Status.Faulty → AsksForRemarks order.now ⊎ (K.taken out.new ≡ K.taken out.old) }
     ensures told { result ≡ Status.Faulty → AsksForRemarks order.now ⊎ Tells order.now input.now (E.taken err.old) (E.taken err.new) }
 {
     match answer_to(alloc, order, input, former) {
         Ok(Answer::Text(text)) => print(&text, Status::Done, out, err),
         Ok(Answer::Remarks(text)) => print(text.as_bytes(), Status::Faulty, out, err),
-        Ok(Answer::Noted(text, lines)) => print_noted(&text, lines.as_str(), out, err),
         Ok(Answer::Wrong(lines)) => {
             tell(err, lines.as_str());
             Status::Faulty

@@ -8,7 +8,7 @@ use Rattle.planner_words.specs.declared.orders.Effort.{Effort}
 use Rattle.planner_words.specs.declared.orders.Effort.TheVariants.{Small, Usual, Great}
 use Rattle.planner_words.specs.Answered.{AnswersWords, AsksForNone, MissesNone}
 use Rattle.planner_words.specs.Named.{IsEffort, budget_in, word_of}
-use Rattle.planner_words.specs.declared.orders.Order.TheVariants.{Plan, ExplainState, ExplainLine, Lint, Certify, Protect, Timetable, Graph, Layout}
+use Rattle.planner_words.specs.declared.orders.Order.TheVariants.{Plan, ExplainState, ExplainLine, Lint, Certify, Timetable, Graph, Layout}
 use Rattle.planner_words.specs.declared.orders.WordsAnswered.{WordsAnswered}
 use Rattle.planner_words.specs.declared.orders.WordsAnswered.TheVariants.{Shown, Refused, Memory}
 
@@ -30,12 +30,6 @@ no_memory kind Memory found answers is = tt
 other_name : codes "explain" ≡ codes "certify" → ⊥
 other_name same = let first : 101 ≡ 99 = ap (λ word. get_or word 0 0) same in omega (arith, first)
 
-explain_not_protect : codes "explain" ≡ codes "protect" → ⊥
-explain_not_protect same = let first : 101 ≡ 112 = ap (λ word. get_or word 0 0) same in omega (arith, first)
-
-certify_not_protect : codes "certify" ≡ codes "protect" → ⊥
-certify_not_protect same = let first : 99 ≡ 112 = ap (λ word. get_or word 0 0) same in omega (arith, first)
-
 -- the command `explain` asks for nothing without places and without a line
 pub none_explained : (given : List Row) → None ≡ first_of (codes "at") given → None ≡ first_of (codes "line") given → AsksForNone (Some (codes "explain", given))
 none_explained given no_places no_line Plan asked = cc
@@ -43,7 +37,6 @@ none_explained given no_places no_line (ExplainState table at) asked = let found
 none_explained given no_places no_line (ExplainLine line) asked = let found : Some line.now ≡ None = asked.1.1 ∙ sym no_line in cc
 none_explained given no_places no_line (Lint before) asked = cc
 none_explained given no_places no_line (Certify budget effort) asked = other_name (sym asked.0)
-none_explained given no_places no_line (Protect budget effort) asked = explain_not_protect (sym asked.0)
 none_explained given no_places no_line (Timetable csv) asked = cc
 none_explained given no_places no_line (Graph train) asked = cc
 none_explained given no_places no_line (Layout table at) asked = cc
@@ -55,7 +48,6 @@ none_certified given no_budget (ExplainState table at) asked = other_name asked.
 none_certified given no_budget (ExplainLine line) asked = other_name asked.0
 none_certified given no_budget (Lint before) asked = cc
 none_certified given no_budget (Certify budget effort) asked = let found : Some budget ≡ None = sym asked.1.0 ∙ no_budget in cc
-none_certified given no_budget (Protect budget effort) asked = certify_not_protect (sym asked.0)
 none_certified given no_budget (Timetable csv) asked = cc
 none_certified given no_budget (Graph train) asked = cc
 none_certified given no_budget (Layout table at) asked = cc
@@ -67,34 +59,9 @@ none_tried given no_effort (ExplainState table at) asked = other_name asked.0
 none_tried given no_effort (ExplainLine line) asked = other_name asked.0
 none_tried given no_effort (Lint before) asked = cc
 none_tried given no_effort (Certify budget effort) asked = no_effort effort asked.1.1
-none_tried given no_effort (Protect budget effort) asked = certify_not_protect (sym asked.0)
 none_tried given no_effort (Timetable csv) asked = cc
 none_tried given no_effort (Graph train) asked = cc
 none_tried given no_effort (Layout table at) asked = cc
-
--- the same of the command `protect`
-pub none_protected : (given : List Row) → budget_in given ≡ None → AsksForNone (Some (codes "protect", given))
-none_protected given no_budget Plan asked = cc
-none_protected given no_budget (ExplainState table at) asked = explain_not_protect asked.0
-none_protected given no_budget (ExplainLine line) asked = explain_not_protect asked.0
-none_protected given no_budget (Lint before) asked = cc
-none_protected given no_budget (Certify budget effort) asked = certify_not_protect asked.0
-none_protected given no_budget (Protect budget effort) asked = let found : Some budget ≡ None = sym asked.1.0 ∙ no_budget in cc
-none_protected given no_budget (Timetable csv) asked = cc
-none_protected given no_budget (Graph train) asked = cc
-none_protected given no_budget (Layout table at) asked = cc
-
-pub none_guarded : (given : List Row) → ((effort : Effort) → IsEffort (first_of (codes "effort") given) effort → ⊥) →
-    AsksForNone (Some (codes "protect", given))
-none_guarded given no_effort Plan asked = cc
-none_guarded given no_effort (ExplainState table at) asked = explain_not_protect asked.0
-none_guarded given no_effort (ExplainLine line) asked = explain_not_protect asked.0
-none_guarded given no_effort (Lint before) asked = cc
-none_guarded given no_effort (Certify budget effort) asked = certify_not_protect asked.0
-none_guarded given no_effort (Protect budget effort) asked = no_effort effort asked.1.1
-none_guarded given no_effort (Timetable csv) asked = cc
-none_guarded given no_effort (Graph train) asked = cc
-none_guarded given no_effort (Layout table at) asked = cc
 
 -- a word that is none of the three is for no effort
 pub no_effort : (word : Text) → (word ≡ codes "small" → ⊥) → (word ≡ codes "usual" → ⊥) → (word ≡ codes "great" → ⊥) → (effort : Effort) → word ≡ word_of effort → ⊥

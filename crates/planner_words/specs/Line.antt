@@ -43,9 +43,6 @@ lint = leaf (codes "lint") (valued (codes "before") ∷ [])
 abbrev pub certify : Shape
 certify = leaf (codes "certify") (valued (codes "budget") ∷ valued (codes "effort") ∷ [])
 
-abbrev pub protect : Shape
-protect = leaf (codes "protect") (valued (codes "budget") ∷ valued (codes "effort") ∷ [])
-
 abbrev pub timetable : Shape
 timetable = leaf (codes "timetable") (flag (codes "csv") ∷ [])
 
@@ -61,7 +58,7 @@ documents = plan ∷ explain ∷ lint ∷ []
 
 -- those that make something of a document
 abbrev pub makers : List Shape
-makers = certify ∷ protect ∷ []
+makers = certify ∷ []
 
 -- those that read a run, or draw
 abbrev pub pictures : List Shape

@@ -6,7 +6,7 @@ use Rattle.planner_words.specs.declared.orders.Effort.TheVariants.{Small, Usual,
 use Rattle.command_words.specs.Options as options
 use Rattle.planner_words.specs.Line.{planner}
 use Rattle.planner_words.specs.declared.orders.Order.{Order}
-use Rattle.planner_words.specs.declared.orders.Order.TheVariants.{Plan, ExplainState, ExplainLine, Lint, Certify, Protect, Timetable, Graph, Layout}
+use Rattle.planner_words.specs.declared.orders.Order.TheVariants.{Plan, ExplainState, ExplainLine, Lint, Certify, Timetable, Graph, Layout}
 
 -- the word that asks for an order
 abbrev pub name_of : Order → List ℕ
@@ -15,7 +15,6 @@ name_of (ExplainState table at) = codes "explain"
 name_of (ExplainLine line) = codes "explain"
 name_of (Lint before) = codes "lint"
 name_of (Certify budget effort) = codes "certify"
-name_of (Protect budget effort) = codes "protect"
 name_of (Timetable csv) = codes "timetable"
 name_of (Graph train) = codes "graph"
 name_of (Layout table at) = codes "layout"
@@ -50,7 +49,6 @@ HasValues given (ExplainState table at) = (table.now ≡ table_in given) × (Som
 HasValues given (ExplainLine line) = (None ≡ first_of (codes "at") given) × (Some line.now ≡ first_of (codes "line") given)
 HasValues given (Lint before) = option_map (λ s. s.now) before ≡ first_of (codes "before") given
 HasValues given (Certify budget effort) = (budget_in given ≡ Some budget) × IsEffort (first_of (codes "effort") given) effort
-HasValues given (Protect budget effort) = (budget_in given ≡ Some budget) × IsEffort (first_of (codes "effort") given) effort
 HasValues given (Timetable csv) = IsFlag (one_of (codes "csv") given) csv
 HasValues given (Graph train) = option_map (λ s. s.now) train ≡ first_of (codes "train") given
 HasValues given (Layout table at) = (table.now ≡ table_in given) × (option_map (λ s. s.now) at ≡ first_of (codes "at") given)

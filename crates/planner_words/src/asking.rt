@@ -121,9 +121,7 @@ fn with_makers<'a>(alloc: Global, command: Command<'a>) -> Result<Command<'a>, A
     ensures { IfOk result (IsBuiltAs (with_all spec.makers (app_of command.entry))) }
 {
     let about = "Reads a document and writes it with certificates that are found by search";
-    let command = with_subcommand(alloc, command, "certify", about, &[BUDGET, EFFORT])?;
-    let about = "Reads a document and writes it with sections against states that are lost, and certificates";
-    with_subcommand(alloc, command, "protect", about, &[BUDGET, EFFORT])
+    with_subcommand(alloc, command, "certify", about, &[BUDGET, EFFORT])
 }
 
 fn with_pictures<'a>(alloc: Global, command: Command<'a>) -> Result<Command<'a>, AllocError>

@@ -21,8 +21,6 @@ pub enum Order<'a> {
     Lint { before: Option<&'a str> },
     /// Find certificates for the tables of a document by search, each of at most `budget` nodes, 1 to 1,000,000.
     Certify { budget: u32, effort: Effort },
-    /// Add guards to the tables of a document until each is certified, by searches as for `Certify`.
-    Protect { budget: u32, effort: Effort },
     /// Write the timetable of a timed run, as columns or with commas.
     Timetable { csv: bool },
     /// Draw a timed run along the route of a train.

@@ -94,7 +94,6 @@ fn order_called<'a>(
             before: matches.get_str("before"),
         }),
         "certify" => certify(alloc, matches),
-        "protect" => protect(alloc, matches),
         "timetable" => Ok(Order::Timetable {
             csv: matches.get_flag("csv"),
         }),
@@ -126,19 +125,6 @@ fn certify<'a>(alloc: Global, matches: &ArgMatches<'a>) -> Result<Order<'a>, Wor
     match effort_in(matches) {
         Some(effort) => Ok(Order::Certify { budget, effort }),
         None => refused(alloc, NO_EFFORT),
-    }
-}
-
-fn protect<'a>(alloc: Global, matches: &ArgMatches<'a>) -> Result<Order<'a>, WordsAnswered>
-    ensures asked { IfOk result (λ order. AsksFor order (codes "protect", rows_of (found_of matches.now))) }
-    ensures answered { IfErr result (MissesNone (Some (codes "protect", rows_of (found_of matches.now)))) }
-{
-    let Some(budget) = budget_in(matches) else {
-        return refused(alloc, "planner protect: --budget takes a number of nodes, 1 to 1000000\n");
-    };
-    match effort_in(matches) {
-        Some(effort) => Ok(Order::Protect { budget, effort }),
-        None => refused(alloc, "planner protect: --effort takes small, usual or great\n"),
     }
 }
 
