@@ -1,0 +1,132 @@
+// Requests, one by one, before standing wants are tried.
+ghost use Rattle.std.specs.Prelude.{◌≡◌, ◌<◌, ℕ, List, length, MatchOption};
+ghost use Rattle.live_yard.specs.Answers.{Asks, IsOfRun, Reports, Serves, TriesTable, Wants as IsWanted};
+ghost use Rattle.live_yard.specs.Reported.{NamesElsewhere, NamesNext};
+
+use crate::{Elsewhere, Reply, ReportedYard, Request};
+use plain_yard::CheckedTable;
+use reported_moves::Told;
+use standing_wants::WantQueue;
+
+// What the place that is named is, where it isn't the train's next one.
+fn elsewhere<A: CheckedTable>(
+    yard: &ReportedYard<'_, A>,
+    train: u32,
+    place: Option<u32>,
+) -> Option<Elsewhere>
+    requires { train < length yard.now.there }
+    ensures { MatchOption result (NamesNext yard.now train place) (λ found. NamesElsewhere yard.now train place found) }
+{
+    match place {
+        Some(place) => yard.elsewhere(train, place),
+        None => None,
+    }
+}
+
+// A train asks for its next place.
+fn ask<A: CheckedTable>(yard: &mut ReportedYard<'_, A>, train: u32) -> Reply
+    requires { train < length yard.old.there }
+    ensures asks { (wants : List ℕ) → Asks (record { yard = yard.old; wants = wants }) train result (record { yard = yard.new; wants = wants }) }
+    ensures size { length yard.new.there ≡ length yard.old.there }
+{
+    let line = yard.run().lines().len() as u32 + 1;
+    match yard.go(train) {
+        Told::May => Reply::Granted { line },
+        told => Reply::Held { told },
+    }
+}
+
+// A train wants its next place.
+fn want<A: CheckedTable>(yard: &mut ReportedYard<'_, A>, queue: &mut WantQueue, train: u32) -> Reply
+    requires train { train < length yard.old.there }
+    requires trains { queue.old.trains ≡ length yard.old.there }
+    ensures wants { IsWanted (record { yard = yard.old; wants = queue.old.wants }) train result (record { yard = yard.new; wants = queue.new.wants }) }
+    ensures trains { queue.new.trains ≡ length yard.new.there }
+{
+    let line = yard.run().lines().len() as u32 + 1;
+    match yard.go(train) {
+        Told::May => Reply::Granted { line },
+        Told::Arrived => Reply::Held {
+            told: Told::Arrived,
+        },
+        told => {
+            queue.stand(train);
+            Reply::Held { told }
+        }
+    }
+}
+
+// A train reports that it is wholly at a place, and that all behind it is clear.
+fn report<A: CheckedTable>(yard: &mut ReportedYard<'_, A>, train: u32, place: u32) -> Reply
+    requires { train < length yard.old.there }
+    ensures reports { (wants : List ℕ) → Reports (record { yard = yard.old; wants = wants }) train place result (record { yard = yard.new; wants = wants }) }
+    ensures size { length yard.new.there ≡ length yard.old.there }
+{
+    if !yard.reports() {
+        return Reply::NoReports;
+    }
+    let at = yard.run().yard().positions().place(train);
+    if at < place {
+        return Reply::NotThere { at };
+    }
+    yard.report(train, place);
+    Reply::There {
+        place: yard.there().place(train),
+    }
+}
+
+// Tries the next table, or says of the one that is named why it isn't the next.
+fn try_table<A: CheckedTable>(yard: &mut ReportedYard<'_, A>, table: Option<u32>) -> Reply
+    ensures tries { (wants : List ℕ) → TriesTable (record { yard = yard.old; wants = wants }) table result (record { yard = yard.new; wants = wants }) }
+    ensures size { length yard.new.there ≡ length yard.old.there }
+{
+    let Some(table) = table else {
+        return Reply::Tried {
+            tried: yard.try_table(),
+        };
+    };
+    let tables = yard.run().tables().len() as u32;
+    if table == 0 || tables <= table {
+        return Reply::NoTable { tables };
+    }
+    let tried = yard.run().yard().tried();
+    if table <= tried {
+        return Reply::TriedBefore {
+            line: yard.line_of(table),
+        };
+    }
+    if tried + 1 < table {
+        return Reply::TooSoon { tried };
+    }
+    Reply::Tried {
+        tried: yard.try_table(),
+    }
+}
+
+/// Answers a request, and changes what it changes before standing wants are tried.
+pub(crate) fn answer<A: CheckedTable>(
+    yard: &mut ReportedYard<'_, A>,
+    queue: &mut WantQueue,
+    request: Request,
+) -> Reply
+    requires request { IsOfRun (length yard.old.there) request }
+    requires trains { queue.old.trains ≡ length yard.old.there }
+    ensures serves { Serves (record { yard = yard.old; wants = queue.old.wants }) request result (record { yard = yard.new; wants = queue.new.wants }) }
+    ensures trains { queue.new.trains ≡ length yard.new.there }
+{
+    match request {
+        Request::Ask { train, place } => match elsewhere(yard, train, place) {
+            Some(place) => Reply::Elsewhere { place },
+            None => ask(yard, train),
+        },
+        Request::Want { train, place } => match elsewhere(yard, train, place) {
+            Some(place) => Reply::Elsewhere { place },
+            None => want(yard, queue, train),
+        },
+        Request::Drop { train } => Reply::Dropped {
+            wants: queue.drop_of(train),
+        },
+        Request::At { train, place } => report(yard, train, place),
+        Request::Table { table } => try_table(yard, table),
+    }
+}
