@@ -1,2 +1,3 @@
 pub mod Passing
+mod Rows
 pub mod Trying

@@ -1,5 +1,5 @@
 -- Right lines answer each table that was tried.
-use Rattle.std.proofs.Common.{◌≡◌, ℕ, zero, suc, ◌+◌, ◌-◌, ◌<◌, ◌≤◌, List, [], ◌∷◌, length, Some, refl, sym, ap, subst, ◌∙◌, arith, inl, inr, lit<}
+use Rattle.std.proofs.Common.{◌≡◌, ℕ, zero, suc, ◌-◌, ◌<◌, ◌≤◌, List, [], ◌∷◌, Some, refl, ap, ◌∙◌, arith, inl, inr, lit<}
 use Rattle.std.specs.Prelude.{slice_get}
 use Rattle.std.proofs.lemmas.Bool.{cases_eq}
 use Rattle.rail_model.specs.declared.types.Line.{Line}
@@ -11,7 +11,11 @@ use Rattle.granted_lines.specs.Lines.{WasTried, answered}
 -- a line in front
 later : (l : Line) (lines : List Line) (t n : ℕ) → WasTried lines t n → WasTried (l ∷ lines) t (suc n)
 later l lines t zero tried = absurd (omega (arith, tried.0))
-later l lines t (suc n) tried = (omega arith, tried.1)
+later l lines t (suc n) tried =
+    let here : suc (suc n) - 1 ≡ suc n = omega arith in
+    let there : n ≡ suc n - 1 = omega arith in
+    let step : slice_get (l ∷ lines) (suc n) ≡ slice_get lines n = refl in
+    (omega arith, (tried.1.0, ap (λ (k : ℕ). slice_get (l ∷ lines) k) here ∙ step ∙ ap (λ (k : ℕ). slice_get lines k) there ∙ tried.1.1, tried.1.2))
 
 -- the line in front
 front : (l : Line) (lines : List Line) (t : ℕ) → answered l ≡ Some t → WasTried (l ∷ lines) t 1
