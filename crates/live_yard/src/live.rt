@@ -38,7 +38,7 @@ impl<'a, A: CheckedTable> LiveYard<'a, A> {
     ///
     /// Out of memory.
     pub fn new(alloc: Global, yard: ReportedYard<'a, A>) -> Result<Self, AllocError>
-        ensures { IfOk result (λ live. live ≡ record { yard = yard; wants = [] }) }
+        ensures { IfOk result (λ live. live ≡ record { yard = yard.entry; wants = [] }) }
     {
         let queue = WantQueue::new(alloc, yard.there().len() as u32)?;
         Ok(LiveYard { yard, queue })

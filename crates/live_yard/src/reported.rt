@@ -40,7 +40,7 @@ impl<'a, A: CheckedTable> ReportedYard<'a, A> {
     /// A run whose trains have reported these places.
     pub fn new(run: PlainYard<'a, A>, there: State, reports: bool) -> Self
         requires { IsReported (record { run = run; there = there; reports = reports }) }
-        ensures { result ≡ record { run = run; there = there; reports = reports } }
+        ensures { result ≡ record { run = run.entry; there = there; reports = reports } }
     {
         ReportedYard {
             run,
