@@ -1,5 +1,5 @@
 -- Worked rows: the corridor A M N B against C N M D, where T0 was granted B and has reported only N.
-use Rattle.std.proofs.Common.{◌≡◌, ◌∷◌, [], ℕ, List, pos, negsuc, false, refl, lit<, lit≤}
+use Rattle.std.proofs.Common.{◌≡◌, ◌∷◌, [], pos, negsuc, false, refl, lit<, lit≤}
 use Rattle.rail_model.specs.Table.{Table}
 use Rattle.reported_moves.specs.Telling.{HasPassed, IsLeaving, taken}
 
