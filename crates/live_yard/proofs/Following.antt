@@ -1,5 +1,5 @@
 -- Reports stay behind the trains, and the state one of a legal run.
-use Rattle.std.proofs.Common.{◌≡◌, ◌≢◌, ℕ, ◌+◌, ◌<◌, ◌≤◌, List, length, max, get_or, Bool, true, false, refl, sym, ap, subst, ◌∙◌, arith, inl, inr}
+use Rattle.std.proofs.Common.{◌≡◌, ◌≢◌, ℕ, ◌+◌, ◌^◌, ◌<◌, ◌≤◌, List, length, max, get_or, Bool, true, false, refl, sym, ap, subst, ◌∙◌, arith, inl, inr}
 use Rattle.std.proofs.lemmas.Bool.{cases_eq}
 use Rattle.std.proofs.lemmas.List.{length-set, get_or-set_same, get_or-set_other}
 use Rattle.std.specs.Prelude.{slice_set, if◌then◌else◌}
@@ -151,16 +151,28 @@ pub tells_at : (v : Reported) (T : Table) (p : List ℕ) (i : ℕ) (told : Told)
 tells_at v T p i told table positions tells =
     subst (λ (U : Table). Tells U (positions_of v) v.there i told) table (subst (λ (q : List ℕ). Tells T q v.there i told) positions tells)
 
--- a train that reports was granted its next place
-pub granted_reporting : (v : Reported) (next : PlainRun) (i : ℕ) → next ≡ stepped v.run i → v.reports ≡ true
-    → record { run = next; there = v.there; reports = v.reports } ≡ granted v i
-granted_reporting v next i next_is reports =
-    let there : v.there ≡ (if v.reports then v.there else advance v.there i) = ap (λ (b : Bool). if b then v.there else advance v.there i) (sym reports) in
-    λ j. record { run = next_is j; there = there j; reports = v.reports }
+-- a train was granted its next place
+pub keeps_granted : (v : Reported) (next : PlainRun) (there : List ℕ) (i : ℕ) → IsReported v → i < length v.there → next ≡ stepped v.run i
+    → there ≡ (if v.reports then v.there else advance v.there i) → Keeps next.tables next.yard next.lines → length next.lines ≤ most_lines
+    → IsReported (record { run = next; there = there; reports = v.reports })
+keeps_granted v next there i is within next_is there_is keeps few =
+    subst (λ (r : List ℕ). IsReported (record { run = next; there = r; reports = v.reports })) (sym there_is) (by_reports v.reports refl)
+  where
+    by_reports : (b : Bool) → v.reports ≡ b → IsReported (record { run = next; there = (if v.reports then v.there else advance v.there i); reports = v.reports })
+    by_reports true same =
+        subst (λ (b : Bool). IsReported (record { run = next; there = (if b then v.there else advance v.there i); reports = v.reports })) (sym same)
+        (keeps_reporting v next i is within same next_is keeps few)
+    by_reports false same =
+        subst (λ (b : Bool). IsReported (record { run = next; there = (if b then v.there else advance v.there i); reports = v.reports })) (sym same)
+        (keeps_there v next i is same next_is keeps few)
 
--- and one that doesn't
-pub granted_there : (v : Reported) (next : PlainRun) (i : ℕ) → next ≡ stepped v.run i → v.reports ≡ false
-    → record { run = next; there = advance v.there i; reports = v.reports } ≡ granted v i
-granted_there v next i next_is reports =
-    let there : advance v.there i ≡ (if v.reports then v.there else advance v.there i) = ap (λ (b : Bool). if b then v.there else advance v.there i) (sym reports) in
-    λ j. record { run = next_is j; there = there j; reports = v.reports }
+pub granted_is : (v : Reported) (next : PlainRun) (there : List ℕ) (i : ℕ) → next ≡ stepped v.run i → there ≡ (if v.reports then v.there else advance v.there i)
+    → record { run = next; there = there; reports = v.reports } ≡ granted v i
+granted_is v next there i next_is there_is = λ j. record { run = next_is j; there = there_is j; reports = v.reports }
+
+-- a report has room for one more place
+pub has_room : (v : Reported) (next : PlainRun) (i : ℕ) → IsReported v → MayGoOn v i → next ≡ stepped v.run i → IsTable (in_force next.tables next.yard)
+    → place v.there i < 2 ^ 31
+has_room v next i is may next_is table =
+    let formed : IsTable (table_of v) = subst IsTable (ap (λ (run : PlainRun). in_force run.tables run.yard) next_is) table in
+    omega (arith, is.behind.behind i, may.moves.before.in_range i may.moves.train, (formed.missions i may.moves.train).few_places)

@@ -1,3 +1,5 @@
 pub mod Firing
+pub mod FirstReports
 pub mod Following
 pub mod Forgetting
+pub mod Wanting

@@ -1,5 +1,5 @@
 -- What each request is answered, and what it changes before standing wants are tried.
-use Rattle.std.specs.Prelude.{◌≡◌, ◌≢◌, ◌⊎◌, ℕ, ◌+◌, ◌<◌, ◌≤◌, length, true, false, Option, Some, None}
+use Rattle.std.specs.Prelude.{◌≡◌, ◌≢◌, ◌⊎◌, ℕ, ◌+◌, ◌<◌, ◌≤◌, List, length, true, false, Option, Some, None}
 use Rattle.rail_model.specs.Table.{place}
 use Rattle.rail_model.specs.Yard.{Tries}
 use Rattle.granted_lines.specs.Lines.{WasTried}
@@ -14,6 +14,17 @@ use Rattle.reported_moves.specs.declared.told.Told.TheVariants.{May, Arrived}
 use Rattle.reported_moves.specs.declared.told.Told.{Told}
 use Rattle.live_yard.specs.Reported.{MayGoOn, NamesElsewhere, NamesNext, TellsTrain, after_table, granted, place_of, reported}
 use Rattle.live_yard.specs.Firing.{Live, Settles}
+
+-- the answer to a train that was told this, with the number of the line that comes next
+abbrev pub told_reply : Told → ℕ → Reply
+told_reply May n = Granted n
+told_reply told n = Held told
+
+-- The want of a train that was told this stands then, where it has to wait.
+abbrev pub StandsIfHeld : Told → List ℕ → ℕ → List ℕ → Type 0
+StandsIfHeld May wants i longer = longer ≡ wants
+StandsIfHeld Arrived wants i longer = longer ≡ wants
+StandsIfHeld told wants i longer = StandsIn wants i longer
 
 -- Train i asks for its next place: it is granted by the line that comes next, or it is held and nothing is changed.
 abbrev pub Asks : Live → ℕ → Reply → Live → Type 0
@@ -44,7 +55,7 @@ TriesTable v table (TooSoon tried) w =
     (tried ≡ v.yard.run.yard.tried) × ((t : ℕ) × (table ≡ Some t) × (tried + 1 < t) × (t < length v.yard.run.tables)) × (w ≡ v)
 TriesTable v table (TriedBefore n) w = ((t : ℕ) × (table ≡ Some t) × WasTried v.yard.run.lines t n) × (w ≡ v)
 TriesTable v table (Tried tried) w =
-    ((table ≡ None) ⊎ (table ≡ Some (v.yard.run.yard.tried + 1)))
+    ((table ≡ None) ⊎ ((table ≡ Some (v.yard.run.yard.tried + 1)) × (v.yard.run.yard.tried + 1 < length v.yard.run.tables)))
     × Tries v.yard.run.tables v.yard.run.yard tried × (w ≡ record v { yard = after_table v.yard tried })
 TriesTable v table _ w = ⊥
 

@@ -1,6 +1,7 @@
 -- A run with reports: what its trains are told, and what a grant, a report and a table change.
-use Rattle.std.specs.Prelude.{◌≡◌, ℕ, ◌+◌, ◌-◌, ◌<◌, ◌≤◌, List, [], ◌∷◌, ◌++◌, length, max, slice_set, Bool, false, if◌then◌else◌, ◌&&◌, nat_lt, Option, Some, None}
+use Rattle.std.specs.Prelude.{◌≡◌, ℕ, ◌+◌, ◌-◌, ◌<◌, ◌≤◌, List, [], ◌∷◌, ◌++◌, length, max, slice_set, ◌⊎◌, Bool, true, false, if◌then◌else◌, Option, Some, None}
 use Rattle.rail_model.specs.declared.types.Tried.{Tried}
+use Rattle.rail_model.specs.declared.types.Line.{Line}
 use Rattle.rail_model.specs.Lines.{move_line}
 use Rattle.rail_model.specs.Move.{advance}
 use Rattle.rail_model.specs.Table.{Table, last, place}
@@ -8,7 +9,7 @@ use Rattle.rail_model.specs.Yard.{in_force, moved}
 use Rattle.table_exchange.specs.Steps.{after_tried}
 use Rattle.plain_yard.specs.Keeps.{Keeps, PlainRun}
 use Rattle.plain_yard.specs.Lines.{most_lines, tried_lines}
-use Rattle.granted_lines.specs.Lines.{IsPassed, moves_of}
+use Rattle.granted_lines.specs.Lines.{BeganAt, IsPassed, WasGranted}
 use Rattle.reported_moves.specs.declared.told.Told.{Told}
 use Rattle.reported_moves.specs.declared.told.Told.TheVariants.{May}
 use Rattle.live_yard.specs.declared.types.Elsewhere.{Elsewhere}
@@ -93,6 +94,19 @@ abbrev pub NamesElsewhere : Reported → ℕ → Option ℕ → Elsewhere → Ty
 NamesElsewhere v i None found = ⊥
 NamesElsewhere v i (Some k) found = IsElsewhere v i k found
 
--- the report of each train when a session begins: with reports a train that has moved is still on its last step
-abbrev pub first_report : Reported → ℕ → ℕ
-first_report v i = if v.reports && nat_lt 0 (moves_of i v.run.lines) then place_of v i - 1 else place_of v i
+-- Of train i that is at a place after these lines: the place that it counts as having reported when a session with reports
+-- begins. Where a line granted it the place where it is, it is still on its last step; else it is where it began.
+abbrev pub IsFirstReport : List Line → ℕ → ℕ → ℕ → Type 0
+IsFirstReport lines i at k =
+    (((n : ℕ) × WasGranted lines at i at n) × (k ≡ at - 1))
+    ⊎ (BeganAt lines at i at × (k ≡ at))
+
+-- One first report per train.
+pub record AreFirstReports (lines : List Line) (p r : List ℕ) : Type 0 where
+  pub behind : Reports p r
+  pub first : (i : ℕ) → i < length p → IsFirstReport lines i (place p i) (place r i)
+
+-- A session begins after these lines: with reports by first reports, and without them each train is where it was granted.
+abbrev pub BeginsAt : List Line → List ℕ → Bool → List ℕ → Type 0
+BeginsAt lines p true r = AreFirstReports lines p r
+BeginsAt lines p false r = r ≡ p

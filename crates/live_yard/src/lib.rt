@@ -1,6 +1,7 @@
 //! Answers requests for trains while they run: who may go on, who waits and why, and which wants are granted then.
 #![tactic(auto)]
 
+mod beginning;
 mod laws;
 mod live;
 mod reported;

@@ -1,5 +1,5 @@
 // A run with the places that its trains have reported.
-ghost use Rattle.std.specs.Prelude.{◌≡◌, ◌<◌, ◌≤◌, length, true, MatchOption};
+ghost use Rattle.std.specs.Prelude.{◌≡◌, ◌^◌, ◌<◌, ◌≤◌, length, slice_index, true, if◌then◌else◌, MatchOption};
 ghost use Rattle.rail_model.specs.Move.{Move, advance};
 ghost use Rattle.rail_model.specs.Table.{IsTable};
 ghost use Rattle.rail_model.specs.Yard.{in_force, Tries};
@@ -8,10 +8,12 @@ ghost use Rattle.plain_yard.specs.Lines.{most_lines};
 ghost use Rattle.live_yard.specs.Reported.{stepped};
 
 use crate::Elsewhere;
+use crate::beginning::first_places;
 use granted_lines::{answer_of, passed_place};
 use plain_yard::{CheckedTable, PlainYard};
 use rail_model::{Ask, State, Tried, last_of};
 use reported_moves::{Told, tell};
+use std::alloc::{AllocError, Global};
 use std::marker::Model;
 
 /// A run of tables on one thread, and the place that each train has reported. Where trains don't report, each counts as
@@ -34,19 +36,33 @@ impl<'a, A: CheckedTable> Model for ReportedYard<'a, A> {
 }
 
 impl<'a, A: CheckedTable> ReportedYard<'a, A> {
+    ghost use Rattle.std.specs.Prelude.{IfOk};
     ghost use Rattle.granted_lines.specs.Lines.{WasTried};
-    ghost use Rattle.live_yard.specs.Reported.{after_table, after_told, granted, reported, table_of, place_of, IsElsewhere, IsNext, IsReported, MayGoOn, TellsTrain};
+    ghost use Rattle.live_yard.specs.Reported.{after_table, after_told, granted, positions_of, BeginsAt, reported, table_of, place_of, IsElsewhere, IsNext, IsReported, MayGoOn, TellsTrain};
 
-    /// A run whose trains have reported these places.
-    pub fn new(run: PlainYard<'a, A>, there: State, reports: bool) -> Self
-        requires { IsReported (record { run = run; there = there; reports = reports }) }
-        ensures { result ≡ record { run = run.entry; there = there; reports = reports } }
+    /// A session at the end of a run. Without reports each train is where it was granted. With them a train that was granted
+    /// the place where it is, by a line of the journal, counts as still on its last step until it reports.
+    ///
+    /// # Errors
+    ///
+    /// Out of memory.
+    pub fn begin(
+        alloc: Global,
+        run: PlainYard<'a, A>,
+        reports: bool,
+    ) -> Result<Self, AllocError>
+        ensures run { IfOk result (λ begun. begun.run ≡ run.entry) }
+        ensures reports { IfOk result (λ begun. begun.reports ≡ reports) }
+        ensures there { IfOk result (λ begun. BeginsAt begun.run.lines (positions_of begun) reports begun.there) }
     {
-        ReportedYard {
+        // Read for the proof: the state is legal, and the lines are few.
+        let _table = run.live_in_force();
+        let there = first_places(alloc, run.lines(), run.yard().positions(), reports)?;
+        Ok(ReportedYard {
             run,
             there,
             reports,
-        }
+        })
     }
 
     /// The run: its tables, its yard and its journal's lines.
@@ -89,10 +105,7 @@ impl<'a, A: CheckedTable> ReportedYard<'a, A> {
         ensures { self.new ≡ granted self.old train }
     {
         move_train(&mut self.run, train);
-        if self.reports {
-            return;
-        }
-        self.there.advance(train);
+        arrive(&mut self.there, self.reports, train);
     }
 
     /// Asks for a train: where it may go on, it is granted its next place.
@@ -171,4 +184,16 @@ fn move_train<A: CheckedTable>(run: &mut PlainYard<'_, A>, train: u32)
         Ask::Yes => {}
         _ => unreachable!(),
     }
+}
+
+// Where trains don't report, one that moves is there at once.
+fn arrive(there: &mut State, reports: bool, train: u32)
+    requires train { train < length there.old }
+    requires room { slice_index there.old train < 2 ^ 31 }
+    ensures { there.new ≡ (if reports then there.old else advance there.old train) }
+{
+    if reports {
+        return;
+    }
+    there.advance(train);
 }

@@ -1,6 +1,6 @@
 // Requests, one by one, before standing wants are tried.
 ghost use Rattle.std.specs.Prelude.{◌≡◌, ◌<◌, ℕ, List, length, MatchOption};
-ghost use Rattle.live_yard.specs.Answers.{Asks, IsOfRun, Reports, Serves, TriesTable, Wants as IsWanted};
+ghost use Rattle.live_yard.specs.Answers.{told_reply, Asks, IsOfRun, Reports, Serves, StandsIfHeld, TriesTable, Wants as IsWanted};
 ghost use Rattle.live_yard.specs.Reported.{NamesElsewhere, NamesNext};
 
 use crate::{Elsewhere, Reply, ReportedYard, Request};
@@ -23,6 +23,16 @@ fn elsewhere<A: CheckedTable>(
     }
 }
 
+// The answer to a train that was told this, with the number of the line that comes next.
+fn reply_of(told: Told, line: u32) -> Reply
+    ensures { result ≡ told_reply told line }
+{
+    match told {
+        Told::May => Reply::Granted { line },
+        _ => Reply::Held { told },
+    }
+}
+
 // A train asks for its next place.
 fn ask<A: CheckedTable>(yard: &mut ReportedYard<'_, A>, train: u32) -> Reply
     requires { train < length yard.old.there }
@@ -30,9 +40,20 @@ fn ask<A: CheckedTable>(yard: &mut ReportedYard<'_, A>, train: u32) -> Reply
     ensures size { length yard.new.there ≡ length yard.old.there }
 {
     let line = yard.run().lines().len() as u32 + 1;
-    match yard.go(train) {
-        Told::May => Reply::Granted { line },
-        told => Reply::Held { told },
+    let told = yard.go(train);
+    reply_of(told, line)
+}
+
+// The want of a train that was told this stands, where it has to wait.
+fn stand_if_held(queue: &mut WantQueue, told: Told, train: u32)
+    requires { train < queue.old.trains }
+    ensures wants { StandsIfHeld told queue.old.wants train queue.new.wants }
+    ensures trains { queue.new.trains ≡ queue.old.trains }
+{
+    match told {
+        Told::May => {}
+        Told::Arrived => {}
+        _ => queue.stand(train),
     }
 }
 
@@ -44,16 +65,9 @@ fn want<A: CheckedTable>(yard: &mut ReportedYard<'_, A>, queue: &mut WantQueue, 
     ensures trains { queue.new.trains ≡ length yard.new.there }
 {
     let line = yard.run().lines().len() as u32 + 1;
-    match yard.go(train) {
-        Told::May => Reply::Granted { line },
-        Told::Arrived => Reply::Held {
-            told: Told::Arrived,
-        },
-        told => {
-            queue.stand(train);
-            Reply::Held { told }
-        }
-    }
+    let told = yard.go(train);
+    stand_if_held(queue, told, train);
+    reply_of(told, line)
 }
 
 // A train reports that it is wholly at a place, and that all behind it is clear.

@@ -1,4 +1,4 @@
-use Rattle.std.proofs.Common.{◌∙◌, ap, subst}
+use Rattle.std.proofs.Common.{◌∙◌, ◌<◌, length, sym, ap, subst}
 use Rattle.rail_model.specs.Yard.{Yard}
 use Rattle.live_yard.specs.Reported.{Reported, TellsTrain}
 use Rattle.live_yard.proofs.Following.{legal_at, reports_at, tells_at, train_at}
@@ -13,4 +13,12 @@ tell-requires-clause-reports g c =
     reports_at _ _ c.self.invariant (c.positions-state.ensures ∙ ap (λ (y : Yard). y.positions) c.yard.ensures.yard)
 
 pub tell-requires-clause-train : goal.tell-requires-clause-train
-tell-requires-clause-train g c = train_at _ _ _ c.self.invariant c.live_in_force-table.ensures.given c.requires
+tell-requires-clause-train g c =
+    train_at _ _ _ c.self.invariant c.live_in_force-table.ensures.given (subst (λ (v : Reported). c.args.train < length v.there) (sym c.self.view_is) c.requires)
+
+pub returns-clause-told : goal.returns-clause-told
+returns-clause-told g c =
+    let u : Reported = record { run = c.self.inside.run; there = c.self.inside.there; reports = c.self.inside.reports } in
+    let positions = c.positions-state.ensures ∙ ap (λ (y : Yard). y.positions) c.yard.ensures.yard in
+    subst (λ (v : Reported). TellsTrain v c.args.train c.tell.result) c.self.view_is
+    (tells_at u _ _ c.args.train c.tell.result c.live_in_force-table.ensures.given positions c.tell.ensures.told)
