@@ -65,10 +65,18 @@ AtNext v i named reply w asks =
     (NamesNext v.yard i named × asks)
     ⊎ ((found : ElsewhereValue) × (reply ≡ Elsewhere found) × NamesElsewhere v.yard i named found × (w ≡ v))
 
+-- Train i asks for its next place, or for the one that is named.
+abbrev pub AsksAt : Live → ℕ → Option ℕ → Reply → Live → Type 0
+AsksAt v i named reply w = AtNext v i named reply w (Asks v i reply w)
+
+-- Train i wants its next place, or the one that is named.
+abbrev pub WantsAt : Live → ℕ → Option ℕ → Reply → Live → Type 0
+WantsAt v i named reply w = AtNext v i named reply w (Wants v i reply w)
+
 -- What a request is answered, and what it changes before standing wants are tried.
 abbrev pub Serves : Live → Request → Reply → Live → Type 0
-Serves v (Ask i named) reply w = AtNext v i named reply w (Asks v i reply w)
-Serves v (Want i named) reply w = AtNext v i named reply w (Wants v i reply w)
+Serves v (Ask i named) reply w = AsksAt v i named reply w
+Serves v (Want i named) reply w = WantsAt v i named reply w
 Serves v (Drop i) reply w = (n : ℕ) × (reply ≡ Dropped n) × (w.yard ≡ v.yard) × Drops v.wants i n w.wants
 Serves v (At i k) reply w = Reports v i k reply w
 Serves v (Table named) reply w = TriesTable v named reply w

@@ -114,12 +114,20 @@ impl<'a, A: CheckedTable> ReportedYard<'a, A> {
         ensures told { TellsTrain self.old train result }
         ensures after { self.new ≡ after_told self.old train result }
     {
-        match self.told(train) {
-            Told::May => {
-                self.grant(train);
-                Told::May
-            }
-            told => told,
+        let told = self.told(train);
+        self.grant_if_may(train, told);
+        told
+    }
+
+    // Grants a train its next place, where it was told that it may go on.
+    fn grant_if_may(&mut self, train: u32, told: Told)
+        requires train { train < length self.old.there }
+        requires told { TellsTrain self.old train told }
+        ensures { self.new ≡ after_told self.old train told }
+    {
+        match told {
+            Told::May => self.grant(train),
+            _ => {}
         }
     }
 

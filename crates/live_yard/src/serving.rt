@@ -1,6 +1,6 @@
 // Requests, one by one, before standing wants are tried.
 ghost use Rattle.std.specs.Prelude.{◌≡◌, ◌<◌, ℕ, List, length, MatchOption};
-ghost use Rattle.live_yard.specs.Answers.{told_reply, Asks, IsOfRun, Reports, Serves, StandsIfHeld, TriesTable, Wants as IsWanted};
+ghost use Rattle.live_yard.specs.Answers.{told_reply, Asks, AsksAt, IsOfRun, Reports, Serves, StandsIfHeld, TriesTable, Wants as IsWanted, WantsAt};
 ghost use Rattle.live_yard.specs.Reported.{NamesElsewhere, NamesNext};
 
 use crate::{Elsewhere, Reply, ReportedYard, Request};
@@ -117,6 +117,40 @@ fn try_table<A: CheckedTable>(yard: &mut ReportedYard<'_, A>, table: Option<u32>
     }
 }
 
+// A train asks for its next place, or for the one that is named.
+fn ask_at<A: CheckedTable>(
+    yard: &mut ReportedYard<'_, A>,
+    train: u32,
+    place: Option<u32>,
+) -> Reply
+    requires { train < length yard.old.there }
+    ensures asks { (wants : List ℕ) → AsksAt (record { yard = yard.old; wants = wants }) train place result (record { yard = yard.new; wants = wants }) }
+    ensures size { length yard.new.there ≡ length yard.old.there }
+{
+    match elsewhere(yard, train, place) {
+        Some(found) => Reply::Elsewhere { place: found },
+        None => ask(yard, train),
+    }
+}
+
+// A train wants its next place, or the one that is named.
+fn want_at<A: CheckedTable>(
+    yard: &mut ReportedYard<'_, A>,
+    queue: &mut WantQueue,
+    train: u32,
+    place: Option<u32>,
+) -> Reply
+    requires train { train < length yard.old.there }
+    requires trains { queue.old.trains ≡ length yard.old.there }
+    ensures wants { WantsAt (record { yard = yard.old; wants = queue.old.wants }) train place result (record { yard = yard.new; wants = queue.new.wants }) }
+    ensures trains { queue.new.trains ≡ length yard.new.there }
+{
+    match elsewhere(yard, train, place) {
+        Some(found) => Reply::Elsewhere { place: found },
+        None => want(yard, queue, train),
+    }
+}
+
 /// Answers a request, and changes what it changes before standing wants are tried.
 pub(crate) fn answer<A: CheckedTable>(
     yard: &mut ReportedYard<'_, A>,
@@ -129,14 +163,8 @@ pub(crate) fn answer<A: CheckedTable>(
     ensures trains { queue.new.trains ≡ length yard.new.there }
 {
     match request {
-        Request::Ask { train, place } => match elsewhere(yard, train, place) {
-            Some(place) => Reply::Elsewhere { place },
-            None => ask(yard, train),
-        },
-        Request::Want { train, place } => match elsewhere(yard, train, place) {
-            Some(place) => Reply::Elsewhere { place },
-            None => want(yard, queue, train),
-        },
+        Request::Ask { train, place } => ask_at(yard, train, place),
+        Request::Want { train, place } => want_at(yard, queue, train, place),
         Request::Drop { train } => Reply::Dropped {
             wants: queue.drop_of(train),
         },
