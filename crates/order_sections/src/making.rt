@@ -1,6 +1,6 @@
 // The sections of orders, and tables with them. Nothing is promised of the sections: they are tested afterwards.
-ghost use Rattle.std.specs.Prelude.{◌≡◌, ◌<◌, ℕ, ◌++◌, List, IfOk, length};
-ghost use Rattle.rail_model.specs.Table.{IsTable, Section as SectionValue};
+ghost use Rattle.std.specs.Prelude.{◌≡◌, ◌<◌, ℕ, [], ◌∷◌, ◌++◌, List, IfOk, length};
+ghost use Rattle.rail_model.specs.Table.{IsTable, Section as SectionValue, Table as TableValue};
 ghost use Rattle.order_sections.specs.Grids.{table_at};
 ghost use Rattle.order_sections.specs.Orders.{with_more};
 
@@ -189,6 +189,23 @@ pub(crate) struct Enlarged {
     pub(crate) reasons: Vec<Vec<Reason>>,
 }
 
+// Adds a table with the sections of orders behind its own, and why each of these was added.
+fn add_extended(
+    alloc: Global,
+    table: &Table,
+    number: usize,
+    orders: &[Order],
+    made: &mut Enlarged,
+) -> Result<(), OrderRefused>
+    ensures { IfOk result (λ _. (x : TableValue) × (more : List SectionValue) × (made.new.tables.items ≡ made.old.tables.items ++ x ∷ [])
+        × IsTable x × (x ≡ with_more table.now more)) }
+{
+    let Added { sections, reasons } = added_to(alloc, table, number, orders)?;
+    made.tables.push(extended(alloc, table, &sections)?)?;
+    made.reasons.push(reasons)?;
+    Ok(())
+}
+
 /// The tables with the sections of orders behind their own.
 pub(crate) fn all_extended(
     alloc: Global,
@@ -200,16 +217,12 @@ pub(crate) fn all_extended(
     ensures adds { IfOk result (λ made. (t : ℕ) → t < length tables.now
         → (more : List SectionValue) × (table_at made.tables.items t ≡ with_more (table_at tables.now t) more)) }
 {
-    let mut made = Vec::new(alloc);
-    let mut reasons = Vec::new(alloc);
+    let mut made = Enlarged {
+        tables: Vec::new(alloc),
+        reasons: Vec::new(alloc),
+    };
     for number in 0..tables.len() {
-        let table = table_in(tables, number);
-        let added = added_to(alloc, table, number, orders)?;
-        made.push(extended(alloc, table, &added.sections)?)?;
-        reasons.push(added.reasons)?;
+        add_extended(alloc, table_in(tables, number), number, orders, &mut made)?;
     }
-    Ok(Enlarged {
-        tables: made,
-        reasons,
-    })
+    Ok(made)
 }

@@ -23,6 +23,27 @@ pub struct Ordered {
     pub left_out: Vec<Two>,
 }
 
+// The tables with the sections of orders, if the orders and the sections pass their tests.
+fn tested(
+    alloc: Global,
+    tables: &[Table],
+    start: &State,
+    orders: &[Order],
+) -> Result<Enlarged, OrderRefused>
+    requires { HaveSameTrains tables.now start.now }
+    ensures count { IfOk result (λ made. length made.tables.items ≡ length tables.now) }
+    ensures formed { IfOk result (λ made. (t : ℕ) → t < length tables.now → IsTable (table_at made.tables.items t)) }
+    ensures orders { IfOk result (λ made. AddsOrders (length tables.now) (table_at tables.now) (table_at made.tables.items) start.now) }
+{
+    let made = all_extended(alloc, tables, orders)?;
+    if !are_orders(tables, start, orders)
+        || !all_keep(tables, &made.tables, orders, &made.reasons)
+    {
+        return Err(OrderRefused::Untrue);
+    }
+    Ok(made)
+}
+
 /// The tables with sections behind their own that forbid only what no run from the start reaches: for each two trains the order in which
 /// the tracks keep them, unless it follows from two others. The sections of two trains are added all or not at all, and up to 64 sections
 /// a table.
@@ -30,7 +51,6 @@ pub struct Ordered {
 /// # Errors
 ///
 /// Memory ran out, or what was found didn't pass its tests.
-#[tactic(auto, using(crate::proofs::Tested::adds_orders))]
 pub fn order(alloc: Global, tables: &[Table], start: &State) -> Result<Ordered, OrderRefused>
     requires { HaveSameTrains tables.now start.now }
     ensures count { IfOk result (λ made. length made.tables.items ≡ length tables.now) }
@@ -38,13 +58,7 @@ pub fn order(alloc: Global, tables: &[Table], start: &State) -> Result<Ordered, 
     ensures orders { IfOk result (λ made. AddsOrders (length tables.now) (table_at tables.now) (table_at made.tables.items) start.now) }
 {
     let Chosen { orders, left_out } = choose_orders(alloc, tables, start)?;
-    let made = all_extended(alloc, tables, &orders)?;
-    if !are_orders(tables, start, &orders)
-        || !all_keep(tables, &made.tables, &orders, &made.reasons)
-    {
-        return Err(OrderRefused::Untrue);
-    }
-    let Enlarged { tables, reasons } = made;
+    let Enlarged { tables, reasons } = tested(alloc, tables, start, &orders)?;
     Ok(Ordered {
         tables,
         orders,

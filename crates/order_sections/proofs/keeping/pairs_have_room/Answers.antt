@@ -1,9 +1,9 @@
-use Rattle.std.proofs.Common.{rules, arith, below_more}
+use Rattle.std.proofs.Common.{arith, below_more}
 use Rattle.order_sections.proofs.keeping.pairs_have_room.Goals as goal
 
 pub loop-a-preserved : goal.loop-a-preserved
-loop-a-preserved c = below_more _ _ c.loop-a.invariant (c.row_has_room.ensures (search rules))
+loop-a-preserved c = below_more _ _ c.loop-a.invariant (c.row_has_room.ensures c.if-not-row_has_room.false)
 
 pub returns-else-not-row_has_room : goal.returns-else-not-row_has_room
 returns-else-not-row_has_room c = λ done a b a_in b_in.
-    below_more _ _ c.loop-a.invariant (c.row_has_room.ensures (search rules)) a (omega arith) b b_in
+    below_more _ _ c.loop-a.invariant (c.row_has_room.ensures c.if-not-row_has_room.false) a (omega arith) b b_in
