@@ -6,12 +6,12 @@
 
 Of each document it asks:
   certify   ends as `ats make` does, if that ends: with certificates that `ats check` accepts where no state of any table is stuck, else
-            with a state that is stuck; a document that `ats` refuses gets the same cause
+            with a state that is stuck, and what is told of runs to it is so; a document that `ats` refuses gets the same cause
   explain   `--at .. --run` of the stuck state, and of a drawn legal one: a run that is right and ends there, or no run where there is none
   order     keeps the document but for sections, and its sections, first; forbids no state that a run from the start reaches, and leaves
             the same states reached
-  protect   keeps the document but for sections and certificates, and its sections, first; forbids no reached state that can be completed;
-            `ats check` accepts the certificates
+  protect   keeps the document but for sections and certificates, and its sections, first; its legal states are those that can be
+            completed, each under its table; `ats check` accepts the certificates
 
 The draws are the same at each call: trains on walks through a small grid (agree.py), and trains that follow or meet one another on one
 way. The states are those of states.py. Each document with a fault is kept and named. It ends with 1 if there is any.
@@ -143,7 +143,7 @@ class Case:
 
     def named(self, command, said, table):
         """The stuck state of the line `206 Stuck`, which has to be one of the first table that has any."""
-        words = dict(word.split("=", 1) for word in said.split() if "=" in word)
+        words = dict(word.split("=", 1) for word in said.partition("\n")[0].split() if "=" in word)
         at = tuple(int(place) for place in words.get("at", "").split(",") if place.isdigit())
         number = words.get("table", "")
         if not self.expect(len(at) == len(self.states.trains) and number.isdigit(), f"{command} names no state: {said}"):
@@ -169,7 +169,9 @@ class Case:
         elif "206 Stuck" in said:
             self.counts["certify stuck"] += 1
             self.expect(code == 1 and not written and table is not None, f"certify names a stuck state, and there is none: {said}")
-            self.named("certify", said, table)
+            number, at = self.named("certify", said, table) or (None, None)
+            if at:
+                self.run_told("certify", said, number, at, (number, at) in self.states.reached())
         else:
             self.counts["certify gave up"] += 1
             self.expect(code == 1 and not written and "gave up" in said, f"certify ended with {code}: {said}")
@@ -185,25 +187,30 @@ class Case:
                 self.explained(number, at, (number, at) in reached)
 
     def explained(self, number, at, is_reached):
-        yard, words = Yard(self.document), ["explain", "--at", ",".join(map(str, at)), "--table", str(number), "--run"]
+        words = ["explain", "--at", ",".join(map(str, at)), "--table", str(number), "--run"]
         code, written, said = self.run("planner", words)
         about = " ".join(words)
         self.expect(code == 0, f"{about} ended with {code}: {said}")
-        _, leads, text = written.partition(LEADS)
+        self.run_told(about, written, number, at, is_reached)
+
+    def run_told(self, about, told, number, at, is_reached):
+        """What is told of runs to a state has to be so."""
+        yard, command = Yard(self.document), about.split()[0]
+        _, leads, text = told.partition(LEADS)
         if leads:
-            self.counts["explain: a run"] += 1
+            self.counts[f"{command}: a run"] += 1
             right = self.is_right(yard, text.splitlines())
             ends = yard.table is yard.tables[number] and tuple(yard.state) == at
             self.expect(right and ends, f"{about} wrote a run that {'ends elsewhere' if right else 'is wrong'}")
-        elif STARTS in written:
-            self.counts["explain: a run"] += 1
+        elif STARTS in told:
+            self.counts[f"{command}: a run"] += 1
             self.expect(number == 0 and tuple(yard.state) == at, f"{about} says that no move is needed, and the trains are elsewhere")
-        elif LEADS_NOT in written:
-            self.counts["explain: no run"] += 1
+        elif LEADS_NOT in told:
+            self.counts[f"{command}: no run"] += 1
             self.expect(not is_reached, f"{about} says that there is no run, and there is one")
         else:
-            self.counts["explain: not known"] += 1
-            self.expect("were searched, and neither" in written, f"{about} says nothing of a run")
+            self.counts[f"{command}: not known"] += 1
+            self.expect("were searched, and neither" in told, f"{about} says nothing of a run")
 
     @staticmethod
     def is_right(yard, lines):
@@ -249,9 +256,11 @@ class Case:
             return
         after = self.kept("protect", written)
         self.accepted("protect", written)
-        completing = [self.states.completing(number) for number in range(len(self.states.tables))]
-        lost = sorted((number, at) for number, at in self.states.reached() if at in completing[number] and at not in after.legal[number])
-        self.expect(not lost, f"protect forbids states that can be completed: {lost[:3]}")
+        for number in range(len(self.states.tables)):
+            lost = sorted(self.states.completing(number) - after.legal[number])
+            self.expect(not lost, f"protect forbids states of table {number} that can be completed: {lost[:3]}")
+            kept = sorted(after.legal[number] - self.states.completing(number))
+            self.expect(not kept, f"protect keeps states of table {number} that can't be completed: {kept[:3]}")
 
 
 def case(task):

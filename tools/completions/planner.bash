@@ -2,7 +2,7 @@
 _planner() {
   local word=${COMP_WORDS[COMP_CWORD]} options
   if [ "$COMP_CWORD" -eq 1 ]; then
-    COMPREPLY=($(compgen -W "plan explain lint certify order timetable graph layout --help --version" -- "$word"))
+    COMPREPLY=($(compgen -W "plan explain lint certify protect order timetable graph layout --help --version" -- "$word"))
     return
   fi
   if [ "${COMP_WORDS[COMP_CWORD-1]}" = --before ]; then
@@ -17,6 +17,7 @@ _planner() {
     explain) options="--at --table --run --line" ;;
     lint) options="--before" ;;
     certify) options="--budget --effort" ;;
+    protect) options="--budget --effort --rounds" ;;
     timetable) options="--csv" ;;
     graph) options="--train" ;;
     layout) options="--at --table" ;;

@@ -1,3 +1,4 @@
 mod Certified
+mod Protected
 mod Suits
 mod Weaker

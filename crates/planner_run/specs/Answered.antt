@@ -24,11 +24,12 @@ use Rattle.document_lint.specs.Told.{LosesNoSection}
 use Rattle.svg_text.specs.Tree.{Picture}
 use Rattle.svg_text.specs.Text.{svg_text}
 use Rattle.planner_words.specs.declared.orders.Order.{Order}
-use Rattle.planner_words.specs.declared.orders.Order.TheVariants.{Plan as OfPlan, ExplainState, ExplainLine, Lint, Certify, AddOrders, Timetable, Graph, Layout}
+use Rattle.planner_words.specs.declared.orders.Order.TheVariants.{Plan as OfPlan, ExplainState, ExplainLine, Lint, Certify, Protect, AddOrders, Timetable, Graph, Layout}
 use Rattle.planner_words.specs.declared.orders.WordsAnswered.{WordsAnswered}
 use Rattle.planner_words.specs.declared.orders.WordsAnswered.TheVariants.{Shown, Refused, Memory}
 use Rattle.planner_run.specs.Certifying.{IsCertifiedInput, IsCertifyingFault}
 use Rattle.planner_run.specs.Ordering.{IsOrderedInput}
+use Rattle.planner_run.specs.Protecting.{IsProtectedInput, IsProtectingFault}
 use Rattle.planner_run.specs.declared.answer.Answer.{Answer}
 use Rattle.planner_run.specs.declared.answer.Answer.TheVariants.{Text, Remarks, Noted, Wrong}
 use Rattle.planner_run.specs.declared.top.Status.{Status}
@@ -148,14 +149,16 @@ IsTextFor (ExplainState table at run) former input text = ExplainsPlaces input t
 IsTextFor (ExplainLine line) former input text = ExplainsWords input line.now text
 IsTextFor (Lint before) former input text = HasNoRemarks former input text
 IsTextFor (Certify budget effort) former input text = IsCertifiedInput input budget text
+IsTextFor (Protect budget effort rounds) former input text = IsProtectedInput input text
 IsTextFor AddOrders former input text = IsOrderedInput input text
 IsTextFor (Timetable csv) former input text = Unit {0}
 IsTextFor (Graph train) former input text = IsGraphText text
 IsTextFor (Layout table at) former input text = IsLayoutText input table.now at text
 
--- The lines are what is wrong with an input for an order. Only of those of `certify` anything is said.
+-- The lines are what is wrong with an input for an order. Only of those of `certify` and `protect` anything is said.
 abbrev pub AreWrongFor : Order → List ℕ → List ℕ → Type 0
 AreWrongFor (Certify budget effort) input lines = IsCertifyingFault input budget lines
+AreWrongFor (Protect budget effort rounds) input lines = IsProtectingFault input lines
 AreWrongFor OfPlan input lines = Unit {0}
 AreWrongFor (ExplainState table at run) input lines = Unit {0}
 AreWrongFor (ExplainLine line) input lines = Unit {0}
@@ -178,6 +181,7 @@ AsksForRemarks OfPlan = ⊥
 AsksForRemarks (ExplainState table at run) = ⊥
 AsksForRemarks (ExplainLine line) = ⊥
 AsksForRemarks (Certify budget effort) = ⊥
+AsksForRemarks (Protect budget effort rounds) = ⊥
 AsksForRemarks AddOrders = ⊥
 AsksForRemarks (Timetable csv) = ⊥
 AsksForRemarks (Graph train) = ⊥
@@ -185,6 +189,7 @@ AsksForRemarks (Layout table at) = ⊥
 
 -- The order asks for a text with notes.
 abbrev pub AsksForNotes : Order → Type 0
+AsksForNotes (Protect budget effort rounds) = Unit {0}
 AsksForNotes AddOrders = Unit {0}
 AsksForNotes OfPlan = ⊥
 AsksForNotes (ExplainState table at run) = ⊥
@@ -209,6 +214,13 @@ IsWrong words (Remarks lines) = ⊥
 IsWrong words (Noted text lines) = ⊥
 IsWrong words (Wrong lines) = string_bytes lines ≡ words
 
+-- The answer says what is wrong, with lines of which this holds.
+abbrev pub SaysWrong : (List ℕ → Type 0) → Answer → Type 0
+SaysWrong Holds (Text text) = ⊥
+SaysWrong Holds (Remarks lines) = ⊥
+SaysWrong Holds (Noted text lines) = ⊥
+SaysWrong Holds (Wrong lines) = Holds (string_bytes lines)
+
 -- The answer is what an order comes to on an input, with remarks or notes only where it asks for them, or what is wrong with the input.
 abbrev pub IsAnswerTo : Order → Option (Bor (List ℕ)) → List ℕ → Answer → Type 0
 IsAnswerTo order former input (Text text) = IsTextFor order former input text.items
@@ -222,6 +234,13 @@ IsCertifying input budget (Text text) = IsCertifiedInput input budget text.items
 IsCertifying input budget (Remarks lines) = ⊥
 IsCertifying input budget (Noted text lines) = ⊥
 IsCertifying input budget (Wrong lines) = IsCertifyingFault input budget (string_bytes lines)
+
+-- The answer is the document with guards and certificates, and notes on them, or the lines that say why it has none.
+abbrev pub IsProtecting : List ℕ → Answer → Type 0
+IsProtecting input (Text text) = ⊥
+IsProtecting input (Remarks lines) = ⊥
+IsProtecting input (Noted text lines) = IsProtectedInput input text.items
+IsProtecting input (Wrong lines) = IsProtectingFault input (string_bytes lines)
 
 -- The answer is the document with orders and notes on them, or what is wrong.
 abbrev pub IsOrdering : List ℕ → Answer → Type 0

@@ -8,6 +8,7 @@ use crate::explaining::{line as explain_line, state as explain_state};
 use crate::linting::remarks;
 use crate::ordering::add_orders;
 use crate::planning::plan;
+use crate::protecting::protect;
 use crate::timing::{graph, timetable};
 use planner_words::Order;
 use std::alloc::{AllocError, Global};
@@ -26,7 +27,7 @@ pub enum Answer {
 }
 
 /// What an order comes to on this input. `former` is the former document, where the order names one.
-#[tactic(auto, using(crate::proofs::Suits::if_text_answers, crate::proofs::Suits::lint_answers, crate::proofs::Suits::certifying_answers, crate::proofs::Suits::ordering_answers))]
+#[tactic(auto, using(crate::proofs::Suits::if_text_answers, crate::proofs::Suits::lint_answers, crate::proofs::Suits::certifying_answers, crate::proofs::Suits::ordering_answers, crate::proofs::Suits::protecting_answers))]
 pub fn answer_to(
     alloc: Global,
     order: &Order<'_>,
@@ -41,6 +42,11 @@ pub fn answer_to(
         Order::ExplainLine { line } => explain_line(alloc, input, line),
         Order::Lint { .. } => remarks(alloc, input, former),
         Order::Certify { budget, effort } => certify(alloc, input, *budget, *effort),
+        Order::Protect {
+            budget,
+            effort,
+            rounds,
+        } => protect(alloc, input, *budget, *effort, *rounds),
         Order::AddOrders => add_orders(alloc, input),
         Order::Timetable { csv } => timetable(alloc, input, *csv),
         Order::Graph { train } => graph(alloc, input, *train),

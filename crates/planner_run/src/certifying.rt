@@ -2,16 +2,19 @@
 ghost use Rattle.std.specs.Prelude.{◌≡◌, ◌++◌, IfOk, Ok, Err, OnOk, codes, string_bytes};
 ghost use Rattle.document_certificates.specs.Certified.{HasNone};
 ghost use Rattle.layout_json.specs.Reading.{doc_of};
-ghost use Rattle.planner_run.specs.Answered.{IsCertifying, IsWrong};
-ghost use Rattle.planner_run.specs.Certifying.{gave_up_words, uncertified_line};
+ghost use Rattle.planner_run.specs.Answered.{IsCertifying, SaysWrong};
+ghost use Rattle.planner_run.specs.Certifying.{SaysWhy, TellsStuck, gave_up_words};
 
 use crate::Answer;
 use crate::drawing::refusal;
+use crate::explaining::MOST_STATES;
 use cert_search::Effort as Searches;
 use document_certificates::{Uncertified, certified_text};
 use layout_json::{Doc, DocRefused, document};
 use planner_words::Effort;
+use rail_model::State;
 use refusal_lines::push_stuck;
+use run_sentences::runs_told;
 use std::alloc::{AllocError, Global};
 
 /// The document that the input is, with certificates that are found by search, of at most `budget` nodes each.
@@ -32,7 +35,7 @@ pub(crate) fn certify(
 }
 
 // The ways of searching that an effort stands for.
-fn searches_of(effort: Effort) -> Searches {
+pub(crate) fn searches_of(effort: Effort) -> Searches {
     match effort {
         Effort::Small => Searches::Small,
         Effort::Usual => Searches::Usual,
@@ -55,22 +58,36 @@ fn certified(
     match certified_text(alloc, doc, budget, searches_of(effort)) {
         Ok(text) => Ok(Answer::Text(text)),
         Err(Uncertified::Memory) => Err(AllocError),
-        Err(why) => uncertified(alloc, &why),
+        Err(why) => uncertified(alloc, doc, &why),
     }
 }
 
-// The line that says why a document gets no certificates.
-fn uncertified(alloc: Global, why: &Uncertified) -> Result<Answer, AllocError>
-    ensures { IfOk result (IsWrong (uncertified_line why.now)) }
+// The lines that say why a document gets no certificates.
+fn uncertified(alloc: Global, doc: &Doc, why: &Uncertified) -> Result<Answer, AllocError>
+    ensures { IfOk result (SaysWrong (SaysWhy doc.now why.now)) }
 {
-    let mut line = String::new(alloc);
     match why {
-        Uncertified::Stuck { table, at } => push_stuck(&mut line, *table, at)?,
-        Uncertified::GaveUp { table, nodes } => push_gave_up(&mut line, *table, *nodes)?,
-        Uncertified::Memory => return Err(AllocError),
+        Uncertified::Stuck { table, at } => Ok(Answer::Wrong(stuck(alloc, doc, *table, at)?)),
+        Uncertified::GaveUp { table, nodes } => {
+            let mut line = String::new(alloc);
+            push_gave_up(&mut line, *table, *nodes)?;
+            line.push_str("\n")?;
+            Ok(Answer::Wrong(line))
+        }
+        Uncertified::Memory => Err(AllocError),
     }
-    line.push_str("\n")?;
-    Ok(Answer::Wrong(line))
+}
+
+// The lines that name a stuck state, and tell what is known of runs to it.
+fn stuck(alloc: Global, doc: &Doc, table: u32, at: &State) -> Result<String, AllocError>
+    ensures { IfOk result (λ lines. TellsStuck doc.now table at.now (string_bytes lines)) }
+{
+    let mut lines = String::new(alloc);
+    push_stuck(&mut lines, table, at)?;
+    lines.push_str("\n")?;
+    let run = runs_told(alloc, doc, table, at, MOST_STATES)?;
+    lines.push_str(run.as_str())?;
+    Ok(lines)
 }
 
 // Adds that no certificate of a table was found.

@@ -8,6 +8,7 @@ mod explaining;
 mod linting;
 mod ordering;
 mod planning;
+mod protecting;
 mod timing;
 mod top;
 

@@ -1,4 +1,4 @@
-// Documents with certificates that are found by search.
+// Documents with certificates that are found by search, and with guards.
 use crate::rows::{answer, play_all};
 use std::alloc::Global;
 use std::process::Abort;
@@ -24,6 +24,21 @@ certify
 {"version":1,"points":[["A",0],["M",0],["N",0],["B",0],["C",0],["D",0]],"links":[["A","M"],["M","N"],["N","B"],["C","N"],["M","D"]],"zones":1,"trains":["T0","T1"],"start":[0,0],"tables":[{"missions":[["A","M","N","B"],["C","N","M","D"]],"sections":[],"certificate":[]}]}
 ----
 206 Stuck table=0 at=1,1
+A run from the start leads there:
+1 move T1 C N
+2 move T0 A M
+====
+protect
+{"version":1,"points":[["A",0],["M",0],["N",0],["B",0],["C",0],["D",0]],"links":[["A","M"],["M","N"],["N","B"],["C","N"],["M","D"]],"zones":1,"trains":["T0","T1"],"start":[0,0],"tables":[{"missions":[["A","M","N","B"],["C","N","M","D"]],"sections":[],"certificate":[]}]}
+----
+{"links":[["A","M"],["M","N"],["N","B"],["C","N"],["M","D"]],"points":[["A",0],["M",0],["N",0],["B",0],["C",0],["D",0]],"start":[0,0],"tables":[{"after":0,"certificate":[[0,0,2],[0,1,2],[0,1,1],[0,0,0],[4,1],[0,1,0],[4,0],[2,0],[4,1],[4,0],[0,1,2],[4,1],[3]],"exits":[false,false],"missions":[["A","M","N","B"],["C","N","M","D"]],"sections":[{"changes":[[0,1,0,-1],[0,1,-1,0]],"limit":1}],"times":[[1,1,1],[1,1,1]]}],"trains":["T0","T1"],"version":2,"zones":1}
+tables[0].sections[0]: never all at once: T0 from M to N (places 1 to 2), T1 at N (place 1)
+====
+protect|--rounds|0
+{"version":1,"points":[["A",0],["M",0],["N",0],["B",0],["C",0],["D",0]],"links":[["A","M"],["M","N"],["N","B"],["C","N"],["M","D"]],"zones":1,"trains":["T0","T1"],"start":[0,0],"tables":[{"missions":[["A","M","N","B"],["C","N","M","D"]],"sections":[],"certificate":[]}]}
+----
+with these sections: 206 Stuck table=0 at=1,1; no more rounds are made
+try `planner order` first, or a greater --budget or --rounds; or write a section where these trains meet, or give an exit to a train that ends in the way of others
 "##;
 
 // Of six trains of a metro.

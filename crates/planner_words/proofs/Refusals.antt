@@ -1,5 +1,5 @@
 -- Words that are refused ask for nothing.
-use Rattle.std.proofs.Common.{◌≡◌, ◌∙◌, sym, ap, arith, get_or, inl, inr, List, codes, Option, Some, None, Result}
+use Rattle.std.proofs.Common.{◌≡◌, ◌∙◌, sym, ap, arith, get_or, inl, inr, ℕ, List, codes, Option, Some, None, Result}
 use Rattle.std.specs.Prelude.{Ok, Err, IfErr}
 use Rattle.clap.specs.Words.{Row, Text, first_of}
 use Rattle.clap.specs.declared.error.ErrorKind.{ErrorKind}
@@ -7,8 +7,9 @@ use Rattle.clap.specs.declared.error.ErrorKind.TheVariants.{DisplayHelp, Display
 use Rattle.planner_words.specs.declared.orders.Effort.{Effort}
 use Rattle.planner_words.specs.declared.orders.Effort.TheVariants.{Small, Usual, Great}
 use Rattle.planner_words.specs.Answered.{AnswersWords, AsksForNone, MissesNone}
-use Rattle.planner_words.specs.Named.{IsEffort, budget_in, word_of}
-use Rattle.planner_words.specs.declared.orders.Order.TheVariants.{Plan, ExplainState, ExplainLine, Lint, Certify, AddOrders, Timetable, Graph, Layout}
+use Rattle.planner_words.specs.Named.{AsksFor, IsEffort, budget_in, nodes_in, rounds_in, word_of}
+use Rattle.planner_words.specs.declared.orders.Order.{Order}
+use Rattle.planner_words.specs.declared.orders.Order.TheVariants.{Plan, ExplainState, ExplainLine, Lint, Certify, Protect, AddOrders, Timetable, Graph, Layout}
 use Rattle.planner_words.specs.declared.orders.WordsAnswered.{WordsAnswered}
 use Rattle.planner_words.specs.declared.orders.WordsAnswered.TheVariants.{Shown, Refused, Memory}
 
@@ -30,6 +31,23 @@ no_memory kind Memory found answers is = tt
 other_name : codes "explain" ≡ codes "certify" → ⊥
 other_name same = let first : 101 ≡ 99 = ap (λ word. get_or word 0 0) same in omega (arith, first)
 
+-- and so do the names of `explain` and `protect`
+explain_not_protect : codes "explain" ≡ codes "protect" → ⊥
+explain_not_protect same = let first : 101 ≡ 112 = ap (λ word. get_or word 0 0) same in omega (arith, first)
+
+-- and the names of `certify` and `protect`
+certify_not_protect : codes "certify" ≡ codes "protect" → ⊥
+certify_not_protect same = let first : 99 ≡ 112 = ap (λ word. get_or word 0 0) same in omega (arith, first)
+
+-- The numbers and the effort that are found for the command `protect`.
+record IsProtecting (given : List Row) (order : Order) : Type 0 where
+  nodes : ℕ
+  effort : Effort
+  rounds : ℕ
+  nodes_are : nodes_in given ≡ Some nodes
+  rounds_are : rounds_in given ≡ Some rounds
+  effort_is : IsEffort (first_of (codes "effort") given) effort
+
 -- the command `explain` asks for nothing without places and without a line
 pub none_explained : (given : List Row) → None ≡ first_of (codes "at") given → None ≡ first_of (codes "line") given → AsksForNone (Some (codes "explain", given))
 none_explained given no_places no_line Plan asked = cc
@@ -37,6 +55,7 @@ none_explained given no_places no_line (ExplainState table at run) asked = let f
 none_explained given no_places no_line (ExplainLine line) asked = let found : Some line.now ≡ None = asked.1.1 ∙ sym no_line in cc
 none_explained given no_places no_line (Lint before) asked = cc
 none_explained given no_places no_line (Certify budget effort) asked = other_name (sym asked.0)
+none_explained given no_places no_line (Protect budget effort rounds) asked = explain_not_protect (sym asked.0)
 none_explained given no_places no_line AddOrders asked = cc
 none_explained given no_places no_line (Timetable csv) asked = cc
 none_explained given no_places no_line (Graph train) asked = cc
@@ -49,6 +68,7 @@ none_certified given no_budget (ExplainState table at run) asked = other_name as
 none_certified given no_budget (ExplainLine line) asked = other_name asked.0
 none_certified given no_budget (Lint before) asked = cc
 none_certified given no_budget (Certify budget effort) asked = let found : Some budget ≡ None = sym asked.1.0 ∙ no_budget in cc
+none_certified given no_budget (Protect budget effort rounds) asked = certify_not_protect (sym asked.0)
 none_certified given no_budget AddOrders asked = cc
 none_certified given no_budget (Timetable csv) asked = cc
 none_certified given no_budget (Graph train) asked = cc
@@ -61,10 +81,41 @@ none_tried given no_effort (ExplainState table at run) asked = other_name asked.
 none_tried given no_effort (ExplainLine line) asked = other_name asked.0
 none_tried given no_effort (Lint before) asked = cc
 none_tried given no_effort (Certify budget effort) asked = no_effort effort asked.1.1
+none_tried given no_effort (Protect budget effort rounds) asked = certify_not_protect (sym asked.0)
 none_tried given no_effort AddOrders asked = cc
 none_tried given no_effort (Timetable csv) asked = cc
 none_tried given no_effort (Graph train) asked = cc
 none_tried given no_effort (Layout table at) asked = cc
+
+-- an order of the command `protect` has its values
+asks_to_protect : (given : List Row) (order : Order) → AsksFor order (codes "protect", given) → IsProtecting given order
+asks_to_protect given Plan asked = cc
+asks_to_protect given (ExplainState table at run) asked = absurd (explain_not_protect asked.0)
+asks_to_protect given (ExplainLine line) asked = absurd (explain_not_protect asked.0)
+asks_to_protect given (Lint before) asked = cc
+asks_to_protect given (Certify budget effort) asked = absurd (certify_not_protect asked.0)
+asks_to_protect given (Protect budget effort rounds) asked =
+    record { nodes = budget; effort = effort; rounds = rounds; nodes_are = asked.1.0; rounds_are = asked.1.1; effort_is = asked.1.2 }
+asks_to_protect given AddOrders asked = cc
+asks_to_protect given (Timetable csv) asked = cc
+asks_to_protect given (Graph train) asked = cc
+asks_to_protect given (Layout table at) asked = cc
+
+-- the command `protect` asks for nothing with a number of nodes or of rounds that is out of range
+pub no_nodes_protected : (given : List Row) → nodes_in given ≡ None → AsksForNone (Some (codes "protect", given))
+no_nodes_protected given none order asked =
+    let has = asks_to_protect given order asked in
+    let found : Some has.nodes ≡ None = sym has.nodes_are ∙ none in cc
+
+pub no_rounds_protected : (given : List Row) → rounds_in given ≡ None → AsksForNone (Some (codes "protect", given))
+no_rounds_protected given none order asked =
+    let has = asks_to_protect given order asked in
+    let found : Some has.rounds ≡ None = sym has.rounds_are ∙ none in cc
+
+-- nor with a word that is no effort
+pub no_effort_protected : (given : List Row) → ((effort : Effort) → IsEffort (first_of (codes "effort") given) effort → ⊥) →
+    AsksForNone (Some (codes "protect", given))
+no_effort_protected given no_effort order asked = let has = asks_to_protect given order asked in no_effort has.effort has.effort_is
 
 -- a word that is none of the three is for no effort
 pub no_effort : (word : Text) → (word ≡ codes "small" → ⊥) → (word ≡ codes "usual" → ⊥) → (word ≡ codes "great" → ⊥) → (effort : Effort) → word ≡ word_of effort → ⊥

@@ -1,5 +1,5 @@
 -- Rows of the definitions, computed: command lines, and what clap finds in them.
-use Rattle.std.proofs.Common.{◌≡◌, List, [], ◌∷◌, codes, map, true, false, Some, None, refl}
+use Rattle.std.proofs.Common.{◌≡◌, ℕ, List, Option, [], ◌∷◌, codes, map, true, false, Some, None, refl}
 use Rattle.std.specs.Prelude.{◌==◌, option_map}
 use Rattle.std.specs.List.{slice_split}
 use Rattle.clap.specs.Words.{Text, first_of, subcommand_of, takes}
@@ -7,7 +7,7 @@ use Rattle.clap.proofs.OnLiterals.{clap_on_literals}
 use Rattle.command_words.specs.Built.{leaf}
 use Rattle.decimal_number.specs.Decimal.{number_of}
 use Rattle.planner_words.specs.Line.{planner}
-use Rattle.planner_words.specs.Named.{budget_in, table_in}
+use Rattle.planner_words.specs.Named.{budget_in, nodes_in, rounds_in, table_in}
 
 -- the words of a line, which single spaces part
 abbrev words_of : Text → List Text
@@ -26,6 +26,17 @@ the_tables = refl
 the_budgets : map (λ line. option_map (λ found. budget_in found.1) (subcommand_of planner (words_of line))) (codes "certify" ∷ codes "certify --budget 500 --effort small" ∷ codes "certify --budget 0" ∷ []) ≡ Some (Some 1000000) ∷ Some (Some 500) ∷ Some None ∷ []
 unfolding clap_on_literals leaf number_of
 the_budgets = refl
+
+-- the lines of protect, with the nodes and the rounds that each names
+abbrev the_rounds : Text → Option (Option ℕ × Option ℕ)
+the_rounds line =
+    option_map (λ found. (nodes_in found.1, rounds_in found.1)) (subcommand_of planner (words_of line))
+
+-- Fewer nodes are taken for protect than for certify where none are named, and a hundred rounds.
+rounds_few : map the_rounds (codes "protect" ∷ codes "protect --budget 500 --rounds 0" ∷ codes "protect --rounds 1001" ∷ [])
+    ≡ Some (Some 50000, Some 100) ∷ Some (Some 500, Some 0) ∷ Some (Some 50000, None) ∷ []
+unfolding clap_on_literals leaf number_of
+rounds_few = refl
 
 -- clap says of each command but explain which words it takes
 taken : map (λ line. takes planner (words_of line)) (codes "plan" ∷ codes "layout --at 1,0" ∷ codes "timetable --csv" ∷ codes "lint --csv" ∷ codes "help" ∷ codes "explain --at 0,1" ∷ []) ≡ true ∷ true ∷ true ∷ false ∷ false ∷ false ∷ []

@@ -48,6 +48,9 @@ lint = leaf (codes "lint") (valued (codes "before") ∷ [])
 abbrev pub certify : Shape
 certify = leaf (codes "certify") (valued (codes "budget") ∷ valued (codes "effort") ∷ [])
 
+abbrev pub protect : Shape
+protect = leaf (codes "protect") (valued (codes "budget") ∷ valued (codes "effort") ∷ valued (codes "rounds") ∷ [])
+
 abbrev pub timetable : Shape
 timetable = leaf (codes "timetable") (flag (codes "csv") ∷ [])
 
@@ -66,7 +69,7 @@ order = leaf (codes "order") []
 
 -- those that make something of a document
 abbrev pub makers : List Shape
-makers = certify ∷ order ∷ []
+makers = certify ∷ protect ∷ order ∷ []
 
 -- those that read a run, or draw
 abbrev pub pictures : List Shape

@@ -6,7 +6,7 @@ use Rattle.planner_words.specs.declared.orders.Effort.TheVariants.{Small, Usual,
 use Rattle.command_words.specs.Options as options
 use Rattle.planner_words.specs.Line.{planner}
 use Rattle.planner_words.specs.declared.orders.Order.{Order}
-use Rattle.planner_words.specs.declared.orders.Order.TheVariants.{Plan, ExplainState, ExplainLine, Lint, Certify, AddOrders, Timetable, Graph, Layout}
+use Rattle.planner_words.specs.declared.orders.Order.TheVariants.{Plan, ExplainState, ExplainLine, Lint, Certify, Protect, AddOrders, Timetable, Graph, Layout}
 
 -- the word that asks for an order
 abbrev pub name_of : Order → List ℕ
@@ -15,6 +15,7 @@ name_of (ExplainState table at run) = codes "explain"
 name_of (ExplainLine line) = codes "explain"
 name_of (Lint before) = codes "lint"
 name_of (Certify budget effort) = codes "certify"
+name_of (Protect budget effort rounds) = codes "protect"
 name_of AddOrders = codes "order"
 name_of (Timetable csv) = codes "timetable"
 name_of (Graph train) = codes "graph"
@@ -27,6 +28,22 @@ table_in given = unwrap_or (first_of (codes "table") given) (codes "0")
 -- the number of nodes that is named, if it is one from 1 to 1000000, or the greatest one
 abbrev pub budget_in : List Row → Option ℕ
 budget_in given = options.number options.budget given
+
+-- how many nodes a certificate that `protect` looks for has at most
+abbrev pub nodes : options.NumberOption
+nodes = options.option (codes "budget") 1 1000000 50000
+
+-- the same, as it is named for `protect`
+abbrev pub nodes_in : List Row → Option ℕ
+nodes_in given = options.number nodes given
+
+-- how many sections `protect` makes for a table at most
+abbrev pub rounds : options.NumberOption
+rounds = options.option (codes "rounds") 0 1000 100
+
+-- the number of them that is named
+abbrev pub rounds_in : List Row → Option ℕ
+rounds_in given = options.number rounds given
 
 -- the word for an effort
 abbrev pub word_of : Effort → Text
@@ -50,6 +67,8 @@ HasValues given (ExplainState table at run) =
     (table.now ≡ table_in given) × (Some at.now ≡ first_of (codes "at") given) × IsFlag (one_of (codes "run") given) run
 HasValues given (ExplainLine line) = (None ≡ first_of (codes "at") given) × (Some line.now ≡ first_of (codes "line") given)
 HasValues given (Lint before) = option_map (λ s. s.now) before ≡ first_of (codes "before") given
+HasValues given (Protect budget effort made) =
+    (nodes_in given ≡ Some budget) × (rounds_in given ≡ Some made) × IsEffort (first_of (codes "effort") given) effort
 HasValues given AddOrders = Unit {0}
 HasValues given (Certify budget effort) = (budget_in given ≡ Some budget) × IsEffort (first_of (codes "effort") given) effort
 HasValues given (Timetable csv) = IsFlag (one_of (codes "csv") given) csv

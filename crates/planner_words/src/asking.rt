@@ -8,7 +8,8 @@ ghost use Rattle.planner_words.specs.Line as spec;
 use clap::{Arg, ArgAction, Command};
 use std::alloc::{AllocError, Global};
 
-const ABOUT: &str = "Writes documents of ats from plans, certifies, explains, checks and draws them.
+const ABOUT: &str =
+    "Writes documents of ats from plans, certifies, protects, explains, checks and draws them.
 
 It reads standard input and writes standard output. What is wrong goes to standard error, a line each.";
 
@@ -79,6 +80,18 @@ const BUDGET: Choice = Choice::Value {
     help: "The most nodes of a table's certificate, 1 to 1000000 (default: 1000000)",
 };
 
+const NODES: Choice = Choice::Value {
+    name: "budget",
+    value: "NODES",
+    help: "The most nodes of a table's certificate, 1 to 1000000 (default: 50000)",
+};
+
+const ROUNDS: Choice = Choice::Value {
+    name: "rounds",
+    value: "ROUNDS",
+    help: "The most sections that are made for a table, 0 to 1000 (default: 100)",
+};
+
 const EFFORT: Choice = Choice::Value {
     name: "effort",
     value: "EFFORT",
@@ -121,7 +134,7 @@ fn start<'a>(alloc: Global) -> Command<'a>
     ensures { IsBuiltAs spec.start result }
 {
     Command::new(alloc, "planner")
-        .version("1.2.0")
+        .version("1.3.0")
         .about(ABOUT)
         .no_binary_name(true)
         .subcommand_required(true)
@@ -134,6 +147,9 @@ fn with_makers<'a>(alloc: Global, command: Command<'a>) -> Result<Command<'a>, A
 {
     let about = "Reads a document and writes it with certificates that are found by search";
     let command = with_subcommand(alloc, command, "certify", about, &[BUDGET, EFFORT])?;
+    let about =
+        "Reads a document and writes it with sections against states that are lost, and certificates";
+    let command = with_subcommand(alloc, command, "protect", about, &[NODES, EFFORT, ROUNDS])?;
     let about =
         "Reads a document and writes it with sections for the order that its tracks force on trains";
     with_subcommand(alloc, command, "order", about, &[])

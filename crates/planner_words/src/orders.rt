@@ -32,6 +32,12 @@ pub enum Order<'a> {
         budget: u32,
         effort: Effort,
     },
+    /// Add guards to the tables of a document, at most `rounds` each, until each is certified, by searches as for `Certify`.
+    Protect {
+        budget: u32,
+        effort: Effort,
+        rounds: u32,
+    },
     /// Add sections to a document that keep trains in the order that its tracks force.
     AddOrders,
     /// Write the timetable of a timed run, as columns or with commas.

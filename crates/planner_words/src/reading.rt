@@ -3,8 +3,8 @@ ghost use Rattle.std.specs.Prelude.{◌≡◌, IfErr, IfNone, IfOk, IfSome, IsSo
 ghost use Rattle.clap.specs.Words.{first_of, found_of, kind_of, rows_of, subcommand_of, subcommand_rows_of, takes};
 ghost use Rattle.planner_words.specs.Answered.{AnswersWords, MissesNone};
 ghost use Rattle.planner_words.specs.Line.{planner};
-ghost use Rattle.command_words.specs.Options.{number_between};
-ghost use Rattle.planner_words.specs.Named.{AsksFor, IsAsked, IsEffort, budget_in, table_in, word_of};
+ghost use Rattle.command_words.specs.Options.{number, number_between, option};
+ghost use Rattle.planner_words.specs.Named.{AsksFor, IsAsked, IsEffort, table_in, word_of};
 ghost use Rattle.planner_words.specs.declared.orders.Effort as declared;
 
 use crate::asking::command;
@@ -20,7 +20,20 @@ const NO_BUDGET: &str = "planner certify: --budget takes a number of nodes, 1 to
 
 const NO_EFFORT: &str = "planner certify: --effort takes small, usual or great\n";
 
+const NO_NODES: &str = "planner protect: --budget takes a number of nodes, 1 to 1000000\n";
+
+const NO_ROUNDS: &str = "planner protect: --rounds takes a number of rounds, 0 to 1000\n";
+
+const NO_SEARCHES: &str = "planner protect: --effort takes small, usual or great\n";
+
 const MOST_NODES: u32 = 1_000_000;
+
+// The most nodes of a certificate that `protect` looks for, where none are named.
+const FEW_NODES: u32 = 50_000;
+
+const MOST_ROUNDS: u32 = 1000;
+
+const FEW_ROUNDS: u32 = 100;
 
 /// What the words after the program's name ask for.
 ///
@@ -94,6 +107,7 @@ fn order_called<'a>(
             before: matches.get_str("before"),
         }),
         "certify" => certify(alloc, matches),
+        "protect" => protect(alloc, matches),
         "order" => Ok(Order::AddOrders),
         "timetable" => Ok(Order::Timetable {
             csv: matches.get_flag("csv"),
@@ -120,7 +134,7 @@ fn certify<'a>(alloc: Global, matches: &ArgMatches<'a>) -> Result<Order<'a>, Wor
     ensures asked { IfOk result (λ order. AsksFor order (codes "certify", rows_of (found_of matches.now))) }
     ensures answered { IfErr result (MissesNone (Some (codes "certify", rows_of (found_of matches.now)))) }
 {
-    let Some(budget) = budget_in(matches) else {
+    let Some(budget) = number_in(matches, "budget", 1, MOST_NODES, MOST_NODES) else {
         return refused(alloc, NO_BUDGET);
     };
     match effort_in(matches) {
@@ -129,21 +143,47 @@ fn certify<'a>(alloc: Global, matches: &ArgMatches<'a>) -> Result<Order<'a>, Wor
     }
 }
 
-// The number of nodes that is named, or the greatest one.
-fn budget_in(matches: &ArgMatches<'_>) -> Option<u32>
-    ensures { result ≡ budget_in (rows_of (found_of matches.now)) }
+fn protect<'a>(alloc: Global, matches: &ArgMatches<'a>) -> Result<Order<'a>, WordsAnswered>
+    ensures asked { IfOk result (λ order. AsksFor order (codes "protect", rows_of (found_of matches.now))) }
+    ensures answered { IfErr result (MissesNone (Some (codes "protect", rows_of (found_of matches.now)))) }
 {
-    match matches.get_str("budget") {
-        Some(text) => budget_of(text),
-        None => Some(MOST_NODES),
+    let Some(budget) = number_in(matches, "budget", 1, MOST_NODES, FEW_NODES) else {
+        return refused(alloc, NO_NODES);
+    };
+    let Some(rounds) = number_in(matches, "rounds", 0, MOST_ROUNDS, FEW_ROUNDS) else {
+        return refused(alloc, NO_ROUNDS);
+    };
+    match effort_in(matches) {
+        Some(effort) => Ok(Order::Protect {
+            budget,
+            effort,
+            rounds,
+        }),
+        None => refused(alloc, NO_SEARCHES),
     }
 }
 
-fn budget_of(text: &str) -> Option<u32>
-    ensures { result ≡ number_between 1 1000000 text.now }
+// The number that is named for an option, or its default.
+fn number_in(
+    matches: &ArgMatches<'_>,
+    name: &str,
+    least: u32,
+    greatest: u32,
+    default: u32,
+) -> Option<u32>
+    ensures { result ≡ number (option name.now least greatest default) (rows_of (found_of matches.now)) }
+{
+    match matches.get_str(name) {
+        Some(text) => number_between(text, least, greatest),
+        None => Some(default),
+    }
+}
+
+fn number_between(text: &str, least: u32, greatest: u32) -> Option<u32>
+    ensures { result ≡ number_between least greatest text.now }
 {
     let number = number_of(text.as_bytes())?;
-    if 1 <= number && number <= MOST_NODES {
+    if least <= number && number <= greatest {
         Some(number)
     } else {
         None

@@ -1,0 +1,4 @@
+mod Naming
+mod Parts
+mod Rows
+mod Taking

@@ -1,0 +1,103 @@
+// A document with guards and certificates.
+ghost use Rattle.std.specs.Prelude.{◌≤◌, IfOk, IfErr, MatchResult, length};
+ghost use Rattle.rail_model.specs.Certificate.{Accepts};
+ghost use Rattle.rail_model.specs.Table.{Table as TableValue};
+ghost use Rattle.section_protect.specs.Protects.{Ends};
+ghost use Rattle.document_protection.specs.Protected.{ArePartsOf, IsProtected, IsStuckBy, HasNoneOf, HasNone};
+
+use crate::{Guards, Unprotected, Why};
+use cert_tree::Cert;
+use layout_json::{Doc, migrate, tables_apart, version, write_replaced};
+use legal_state::judge;
+use rail_model::Table;
+use section_protect::{Ended, Protected, Searching, protect};
+use std::alloc::Global;
+
+/// The text of a document with guards, and the guards of each table.
+#[derive(Drop)]
+pub struct ProtectedDoc {
+    pub text: Vec<u8>,
+    pub guards: Vec<Guards>,
+}
+
+// Tables with their certificates, and their guards.
+#[derive(Drop)]
+struct Parts {
+    parts: Vec<(Table, Cert)>,
+    guards: Vec<Guards>,
+}
+
+// The certificate with which a search ended, or why it has none.
+fn cert_of(ended: Ended) -> Result<Cert, Why>
+    ensures { (T : TableValue) → Ends T ended → MatchResult result (Accepts T) (IsStuckBy T) }
+{
+    match ended {
+        Ended::Certified(cert) => Ok(cert),
+        Ended::GaveUp { nodes } => Err(Why::GaveUp { nodes }),
+        Ended::Full { at } => Err(Why::Full { at }),
+        Ended::Spent { at } => Err(Why::Spent { at }),
+    }
+}
+
+// Each of these tables with guards and a certificate.
+fn parts_of(
+    alloc: Global,
+    tables: &[Table],
+    searching: Searching,
+    rounds: u32,
+) -> Result<Parts, Unprotected>
+    requires { length tables.now ≤ 16 }
+    ensures parts { IfOk result (λ made. ArePartsOf tables.now made.guards.items made.parts.items) }
+
+    ensures none { IfErr result (HasNoneOf tables.now) }
+{
+    let mut parts = Vec::new(alloc);
+    let mut guards = Vec::new(alloc);
+    for table in tables {
+        let Protected {
+            table: made,
+            guards: some,
+            ended,
+        } = protect(alloc, table, &searching, rounds)?;
+        guards.push(Guards::from(some))?;
+        match cert_of(ended) {
+            Ok(cert) => parts.push((made, cert))?,
+            Err(why) => {
+                let table = parts.len() as u32;
+                return Err(Unprotected::Uncertified { table, guards, why });
+            }
+        }
+    }
+    Ok(Parts { parts, guards })
+}
+
+/// The document with guards behind the sections of each table, and with certificates found by search, all else equal.
+/// In at most `rounds` rounds for each table a guard is made. It is in version 2 if it was in version 1.
+///
+/// # Errors
+///
+/// The guards up to those of the first table of which no certificate is found, and why; or that the guards forbid the
+/// start; or out of memory.
+pub fn protected(
+    alloc: Global,
+    doc: &Doc,
+    searching: Searching,
+    rounds: u32,
+) -> Result<ProtectedDoc, Unprotected>
+    ensures made { IfOk result (λ made. IsProtected doc.now made.guards.items made.text.items) }
+
+    ensures none { IfErr result (HasNone doc.now) }
+{
+    let later = migrate(alloc, doc)?;
+    let is_later = version(&later) > 1;
+    prove!(is_later);
+    let (frame, tables) = tables_apart(alloc, later)?;
+    let Parts { parts, guards } = parts_of(alloc, &tables, searching, rounds)?;
+    match judge(&parts[0].0, frame.start()) {
+        Ok(()) => {
+            let text = write_replaced(alloc, &frame, &parts)?;
+            Ok(ProtectedDoc { text, guards })
+        }
+        Err(_) => Err(Unprotected::Start { guards }),
+    }
+}

@@ -1,0 +1,2 @@
+pub mod Protects
+pub mod Rounds

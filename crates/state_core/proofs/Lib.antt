@@ -1,0 +1,12 @@
+pub mod Combined
+pub mod Doomed
+pub mod FirstStay
+pub mod Holding
+pub mod Listing
+pub mod OneCombination
+pub mod Rows
+pub mod Stays
+pub mod Tables
+pub mod Tests
+pub mod Trapped
+pub mod Waiting

@@ -1,0 +1,18 @@
+use Rattle.std.proofs.Common.{◌&&◌, ◌∙◌, sym, arith}
+use Rattle.rail_model.specs.Checks.{blocks}
+use Rattle.state_core.specs.Core.{has}
+use Rattle.state_core.proofs.Tests.{some_below, none_below, both_true}
+use Rattle.state_core.proofs.cores.is_blocked.Goals as goal
+
+pub returns-then-blocks : goal.returns-then-blocks
+returns-then-blocks c =
+    sym (some_below (λ j. has c.args.group.now j && blocks c.args.table.now c.args.state.now c.args.train j) _
+    c.loop-other.other
+    (omega (arith, c.loop-other-test.true, c.trains_of-other-end.ensures.count))
+    (both_true _ _ (sym c.has.ensures ∙ c.if-has.true) (sym c.blocks-then-has.ensures ∙ c.if-blocks.true)))
+
+pub returns : goal.returns
+returns c =
+    sym (none_below (λ j. has c.args.group.now j && blocks c.args.table.now c.args.state.now c.args.train j) _
+    (λ k lt. c.loop-other.invariant k
+    (omega (arith, lt, c.loop-other-test.false, c.trains_of-other-end.ensures.count))))

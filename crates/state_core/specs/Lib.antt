@@ -1,0 +1,3 @@
+pub mod Core
+pub mod Guard
+pub mod Trap
