@@ -1,5 +1,5 @@
 #!/usr/bin/env python3
-"""Proves every crate below the two programs, several side by side and lowest first, and builds the programs: ats first.
+"""Proves every crate below the three programs, several side by side and lowest first, and builds the programs: ats first.
 
     ./build
 
@@ -28,7 +28,7 @@ SHOWN = f"{ROOT}/out/build.json"
 TELLING = re.compile(r"error|not proved|no proof|could not tell|killed|^rt: ")
 MOST_TELLING = 9
 # The programs, in the order in which they are wanted.
-PROGRAMS = ["ats", "planner"]
+PROGRAMS = ["ats", "planner", "dispatch"]
 # Added to the work of the first program, so that all below it comes before anything else.
 FIRST = 1_000_000
 # After so many seconds without a line comes one that says what is being proved.
@@ -247,7 +247,7 @@ def main():
     open(LOG, "w").close()
     build = Build(rt)
     total, kept = len(build.crates), len(build.kept)
-    print(f"To prove: {total - len(PROGRAMS)} libraries, and the programs {' and '.join(PROGRAMS)}, which are then linked. Processors: {build.lanes}", flush=True)
+    print(f"To prove: {total - len(PROGRAMS)} libraries, and the programs {', '.join(PROGRAMS)}, which are then linked. Processors: {build.lanes}", flush=True)
     if kept:
         print(f"{kept} of these {total} are kept from an earlier run.", flush=True)
     if kept < total:
@@ -255,7 +255,7 @@ def main():
     if not build.run():
         print(f"Not proved: {', '.join(build.failed)}, as is said above.", flush=True)
         return 1
-    print(f"All is proved, and ./ats and ./planner are the proved programs, after {clock(time.time() - build.began)}. Next: ./ats run < examples/first-path.json", flush=True)
+    print(f"All is proved, and ./ats, ./planner and ./dispatch are the proved programs, after {clock(time.time() - build.began)}. Next: ./ats run < examples/first-path.json", flush=True)
     print("To change something: CONTRIBUTING.md. The tests, the must-fail edits and every proof from nothing: .ci/run", flush=True)
     return 0
 

@@ -1,10 +1,10 @@
 #!/usr/bin/env python3
-"""Says whether everything has the same version: planner, the man pages and the newest entry of CHANGELOG.md.
+"""Says whether everything has the same version: planner, dispatch, the man pages and the newest entry of CHANGELOG.md.
 
     tools/version.py            prints each place with its number; exit status 1 if two differ
     tools/version.py 1.2.0      first writes this number wherever it stands; CHANGELOG.md gets its heading by hand
 
-If planner is built, what `planner --version` prints is looked at, too.
+If planner or dispatch is built, what it prints for `--version` is looked at, too.
 """
 import pathlib
 import re
@@ -17,7 +17,9 @@ NUMBER = r"(\d+\.\d+\.\d+)"
 PLACES = {
     "CHANGELOG.md": rf"(?m)^## {NUMBER}",
     "crates/planner_words/src/asking.rt": rf'\.version\("{NUMBER}"\)',
+    "crates/dispatch_run/src/asking.rt": rf'\.version\("{NUMBER}"\)',
     "docs/ats.1": rf'\A\.TH ATS 1 "" "ats {NUMBER}"',
+    "docs/dispatch.1": rf'\A\.TH DISPATCH 1 "" "dispatch {NUMBER}"',
     "docs/planner.1": rf'\A\.TH PLANNER 1 "" "planner {NUMBER}"',
 }
 
@@ -28,11 +30,12 @@ def found():
     for file, pattern in PLACES.items():
         at = re.search(pattern, (ROOT / file).read_text())
         numbers[file] = at and at[1]
-    built = ROOT / "crates/planner/out/planner"
-    if built.exists():
-        said = subprocess.run([built, "--version"], capture_output=True, text=True).stdout
-        at = re.search(NUMBER, said)
-        numbers["planner --version"] = at and at[1]
+    for program in ("planner", "dispatch"):
+        built = ROOT / f"crates/{program}/out/{program}"
+        if built.exists():
+            said = subprocess.run([built, "--version"], capture_output=True, text=True).stdout
+            at = re.search(NUMBER, said)
+            numbers[f"{program} --version"] = at and at[1]
     return numbers
 
 

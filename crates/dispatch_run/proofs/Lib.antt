@@ -1,0 +1,4 @@
+pub mod Dispatches
+pub mod FoundWords
+mod Rows
+pub mod Talks

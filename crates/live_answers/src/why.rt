@@ -1,0 +1,141 @@
+// What a train waits for, directly or through others.
+ghost use Rattle.std.specs.Prelude.{◌≡◌, ◌<◌, ◌≤◌, ◌++◌, All, IfOk, OnOk, filter, length, slice_index};
+ghost use Rattle.rail_model.specs.Table.{trains};
+ghost use Rattle.waiting_trains.specs.Seen.{AreTold, told_at};
+ghost use Rattle.waiting_trains.specs.Waiting.{AreAwaited};
+ghost use Rattle.live_answers.specs.Prospects.{HasNames};
+ghost use Rattle.live_answers.specs.Rows.{AreRows, IsToldRow, Says, TellsWhy, is_away, is_may, of_told, why_line};
+
+use crate::rows::push_told_row;
+use live_replies::{Answer, TrainAnswer, push_answer};
+use rail_model::Names;
+use reported_moves::Told;
+use std::alloc::{AllocError, Global};
+use waiting_trains::{Scene, awaited, tolds_of};
+
+// Adds a row for each train of a list.
+fn push_rows_of(
+    alloc: Global,
+    out: &mut Vec<u8>,
+    tag: &[u8],
+    names: &Names,
+    scene: &Scene<'_>,
+    tolds: &[Told],
+    waiting: &[u32],
+) -> Result<(), AllocError>
+    requires named { HasNames names.now scene.now.table }
+    requires told { AreTold scene.now tolds.now }
+    requires below { All (λ i. i < trains scene.now.table) waiting.now }
+    ensures { OnOk result (Says (AreRows (λ k. IsToldRow names.now scene.now tag.now (slice_index waiting.now k)
+        (told_at tolds.now (slice_index waiting.now k))) (length waiting.now)) out.old.items out.new.items) }
+{
+    for index in 0..waiting.len() {
+        let train = waiting[index];
+        push_told_row(alloc, out, tag, names, scene, train, tolds[train as usize])?;
+    }
+    Ok(())
+}
+
+// Those trains of a list that may go on.
+fn going_of(alloc: Global, tolds: &[Told], waiting: &[u32]) -> Result<Vec<u32>, AllocError>
+    requires { All (λ i. i < length tolds.now) waiting.now }
+    ensures { IfOk result (λ some. some.items ≡ filter (of_told is_may tolds.now) waiting.now) }
+{
+    let mut some = Vec::new(alloc);
+    for train in waiting {
+        if let Told::May = tolds[*train as usize] {
+            some.push(*train)?;
+        }
+    }
+    Ok(some)
+}
+
+// Those trains of a list that haven't reported.
+fn away_of(alloc: Global, tolds: &[Told], waiting: &[u32]) -> Result<Vec<u32>, AllocError>
+    requires { All (λ i. i < length tolds.now) waiting.now }
+    ensures { IfOk result (λ some. some.items ≡ filter (of_told is_away tolds.now) waiting.now) }
+{
+    let mut some = Vec::new(alloc);
+    for train in waiting {
+        if let Told::Away = tolds[*train as usize] {
+            some.push(*train)?;
+        }
+    }
+    Ok(some)
+}
+
+// Adds the answer on a train and those that it waits for.
+fn push_why_answer(
+    alloc: Global,
+    out: &mut Vec<u8>,
+    tag: &[u8],
+    names: &Names,
+    train: u32,
+    tolds: &[Told],
+    waiting: &[u32],
+) -> Result<(), AllocError>
+    requires train { train < length tolds.now }
+    requires below { All (λ i. i < length tolds.now) waiting.now }
+    requires few { length waiting.now ≤ 32 }
+    requires named { length tolds.now ≤ length names.now.trains }
+    ensures { OnOk result (out.new.items ≡ out.old.items ++ why_line names.now tag.now tolds.now waiting.now train) }
+{
+    let may = going_of(alloc, tolds, waiting)?;
+    let away = away_of(alloc, tolds, waiting)?;
+    let why = TrainAnswer::Why {
+        train,
+        trains: waiting.len() as u32,
+        may: &may,
+        away: &away,
+    };
+    push_answer(alloc, out, tag, names, Answer::Train(why))
+}
+
+// Adds a row for each train of a list that one waits for, and then the answer.
+fn push_waiting(
+    alloc: Global,
+    out: &mut Vec<u8>,
+    tag: &[u8],
+    names: &Names,
+    scene: &Scene<'_>,
+    train: u32,
+    tolds: &[Told],
+    waiting: &[u32],
+) -> Result<(), AllocError>
+    requires named { HasNames names.now scene.now.table }
+    requires train { train < trains scene.now.table }
+    requires told { AreTold scene.now tolds.now }
+    requires few { length tolds.now ≤ 32 }
+    requires awaited { AreAwaited scene.now tolds.now train waiting.now }
+    ensures { OnOk result (Says (TellsWhy names.now scene.now tag.now train) out.old.items out.new.items) }
+{
+    push_rows_of(alloc, out, tag, names, scene, tolds, waiting)?;
+    push_why_answer(alloc, out, tag, names, train, tolds, waiting)
+}
+
+/// Adds what a train waits for: a row for it and for each train that one of them waits for, and how many they are.
+pub fn push_why(
+    alloc: Global,
+    out: &mut Vec<u8>,
+    tag: &[u8],
+    names: &Names,
+    scene: &Scene<'_>,
+    train: u32,
+) -> Result<(), AllocError>
+    requires named { HasNames names.now scene.now.table }
+    requires train { train < trains scene.now.table }
+    ensures { OnOk result (Says (TellsWhy names.now scene.now tag.now train) out.old.items out.new.items) }
+{
+    let tolds = tolds_of(alloc, scene)?;
+    let waiting = awaited(alloc, scene, &tolds, train)?;
+    push_waiting(
+        alloc,
+        out,
+        tag,
+        names,
+        scene,
+        train,
+        &tolds,
+        waiting.as_slice(),
+    )
+}

@@ -1,0 +1,3 @@
+pub mod Hearing
+pub mod Verbs
+pub mod Words

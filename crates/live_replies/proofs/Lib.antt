@@ -1,0 +1,3 @@
+mod Beginnings
+mod Steps
+mod WorkedRows

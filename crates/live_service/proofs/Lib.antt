@@ -1,0 +1,2 @@
+pub mod EnoughNames
+pub mod Served

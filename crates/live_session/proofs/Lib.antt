@@ -1,0 +1,5 @@
+pub mod Requests
+mod Rows
+pub mod Standing
+pub mod Tagging
+pub mod Telling

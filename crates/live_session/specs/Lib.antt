@@ -1,0 +1,4 @@
+pub mod Answering
+pub mod News
+pub mod Replies
+pub mod States

@@ -1,0 +1,33 @@
+use Rattle.std.proofs.Common.{◌∙◌, ◌<◌, ap, sym, subst, length}
+use Rattle.rail_model.specs.Move.{Move, advance}
+use Rattle.live_yard.specs.Reported.{MayGoOn, Reported, granted, positions_of, table_of}
+use Rattle.live_yard.proofs.Following.{granted_is, has_room, keeps_granted}
+use Rattle.live_yard.proofs.reported.ReportedYard.grant.Goals as goal
+
+pub move_train-requires : goal.move_train-requires
+move_train-requires g c =
+    subst (λ (v : Reported). Move (table_of v) (positions_of v) c.args.train (advance (positions_of v) c.args.train))
+    (sym c.self.view_is) c.requires.may.moves
+
+pub arrive-requires-clause-train : goal.arrive-requires-clause-train
+arrive-requires-clause-train g c =
+    subst (λ (v : Reported). c.args.train < length v.there) (sym c.self.view_is) c.requires.train
+
+pub arrive-requires-clause-room : goal.arrive-requires-clause-room
+arrive-requires-clause-room g c =
+    has_room _ _ c.args.train c.self.invariant
+    (subst (λ (v : Reported). MayGoOn v c.args.train) (sym c.self.view_is) c.requires.may)
+    c.move_train.ensures.moved c.move_train.ensures.formed
+
+pub invariant_of-self : goal.invariant_of-self
+invariant_of-self g c =
+    keeps_granted _ _ _ c.args.train c.self.invariant
+    (subst (λ (v : Reported). c.args.train < length v.there) (sym c.self.view_is) c.requires.train)
+    c.move_train.ensures.moved c.arrive.ensures c.move_train.ensures.keeps c.move_train.ensures.few
+
+pub returns : goal.returns
+returns g c =
+    let u : Reported =
+    record { run = c.self.inside.run; there = c.self.inside.there; reports = c.self.inside.reports } in
+    granted_is u _ _ c.args.train c.move_train.ensures.moved c.arrive.ensures
+    ∙ ap (λ (v : Reported). granted v c.args.train) c.self.view_is

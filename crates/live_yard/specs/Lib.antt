@@ -1,0 +1,4 @@
+pub mod Answers
+pub mod Firing
+pub mod Reported
+pub mod Sessions

@@ -1,0 +1,44 @@
+-- Sessions: requests that are served one after another, with reports and without.
+use Rattle.std.specs.Prelude.{◌≡◌, List, [], ◌∷◌, Bool, true, false, None}
+use Rattle.std.specs.List.{All}
+use Rattle.live_requests.specs.declared.types.Reply.{Reply}
+use Rattle.live_requests.specs.declared.types.Reply.TheVariants.{Elsewhere, NotThere, NoReports, TriedBefore, TooSoon, NoTable}
+use Rattle.live_requests.specs.declared.types.Request.{Request}
+use Rattle.live_requests.specs.declared.types.Request.TheVariants.{Ask, Table}
+use Rattle.live_requests.specs.declared.types.Served.{Served}
+use Rattle.live_yard.specs.Answers.{IsServed}
+use Rattle.live_yard.specs.Firing.{DispatchState}
+use Rattle.live_yard.specs.Reported.{forgotten}
+
+-- Each request is served at the state after those before it.
+abbrev pub IsSession : DispatchState → List Request → List Served → DispatchState → Type 0
+IsSession v [] [] w = w ≡ v
+IsSession v (request ∷ later) (served ∷ rest) w = (u : DispatchState) × IsServed v request served u × IsSession u later rest w
+IsSession v _ _ w = ⊥
+
+-- the same state of a session without reports, where no want stands: each train is where it was granted
+abbrev pub plain : DispatchState → DispatchState
+plain v = record { yard = forgotten v.yard; wants = [] }
+
+-- A train asks for its next place, or the next table is tried.
+abbrev pub IsPlain : Request → Type 0
+IsPlain (Ask i named) = named ≡ None
+IsPlain (Table named) = named ≡ None
+IsPlain _ = ⊥
+
+-- There is a session without reports and wants from one state to another, whose grants and lines are therefore the same.
+pub record PlainSession (v w : DispatchState) : Type 0 where
+  pub requests : List Request
+  pub served : List Served
+  pub plain_requests : All IsPlain requests
+  pub session : IsSession (plain v) requests served (plain w)
+
+-- whether a reply refuses a request, or repeats an answer that was given before
+abbrev pub is_refusal : Reply → Bool
+is_refusal (Elsewhere place) = true
+is_refusal (NotThere at) = true
+is_refusal NoReports = true
+is_refusal (TriedBefore n) = true
+is_refusal (TooSoon tried) = true
+is_refusal (NoTable n) = true
+is_refusal _ = false

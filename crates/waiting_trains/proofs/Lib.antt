@@ -1,0 +1,4 @@
+pub mod Awaiting
+pub mod Choosing
+pub mod Joining
+mod Rows
