@@ -6,6 +6,7 @@ pub mod From
 pub mod HeldBack
 pub mod InWay
 pub mod Joins
+pub mod Listed
 pub mod Own
 pub mod Room
 pub mod Searched
