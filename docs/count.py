@@ -1,7 +1,10 @@
 #!/usr/bin/env python3
-"""Renews the numbers of lines in docs/definitions.md, and prints which definition files its tables lack or have no more.
+"""Renews the numbers of lines in docs/definitions.md, and prints which definition files its tables have twice or have no more, and for
+which crates the last table has another number of files than there are.
 
-A row with a path and a number is a file. The row `all` sums all files; any other row with a number sums the files of the table that it ends.
+A row with a crate, names of files and a number counts these files of the crate's folder `specs/`. A row of the last table has the number
+of the crate's other files, and counts them. The row `all` sums all of them; any other row with a number sums the rows of the table that it
+ends.
 """
 import glob
 import os
@@ -10,7 +13,9 @@ import re
 HERE = os.path.dirname(os.path.abspath(__file__))
 ROOT = os.path.dirname(HERE)
 PAGE = os.path.join(HERE, "definitions.md")
-ROW = re.compile(r"\| (`?)([^|`]+)\1 \| [\d,]+ \|")
+FILES = re.compile(r"\| `(\w+)` \| ([A-Z][\w, ]+) \| \d+ \|(.*)")
+OTHERS = re.compile(r"\| `(\w+)` \| (\d+) \| \d+ \|")
+SUM = re.compile(r"\| ([\w ]+) \| \| \d+ \|(.*)")
 
 
 def lines_of(path):
@@ -18,32 +23,58 @@ def lines_of(path):
         return file.read().count(b"\n")
 
 
+def count_of(crate, names, seen):
+    """The lines of a crate's files with these names, each of which is added to those seen."""
+    count = 0
+    for name in names.split(", "):
+        path = f"crates/{crate}/specs/{name}.antt"
+        if not os.path.exists(os.path.join(ROOT, path)):
+            print("no such file any more:", path)
+        elif path in seen:
+            print("twice:", path)
+        else:
+            seen.add(path)
+            count += lines_of(path)
+    return count
+
+
+def others_of(crate, seen):
+    """The names of a crate's files that aren't among those seen."""
+    paths = {os.path.relpath(path, ROOT) for path in glob.glob(os.path.join(ROOT, f"crates/{crate}/specs/*.antt"))}
+    return sorted(os.path.basename(path)[:-len(".antt")] for path in paths - seen if not path.endswith("/Lib.antt"))
+
+
 def main():
     with open(PAGE) as page:
         rows = page.read().split("\n")
-    told, part, every = set(), 0, 0
+    seen, part, every = set(), 0, 0
     for number, row in enumerate(rows):
-        found = ROW.fullmatch(row)
-        if not found:
-            continue
-        mark, name = found.groups()
-        if mark and not os.path.exists(os.path.join(ROOT, name)):
-            print("no such file any more:", name)
-        elif mark:
-            count = lines_of(name)
-            told.add(name)
+        files, others, total = FILES.fullmatch(row), OTHERS.fullmatch(row), SUM.fullmatch(row)
+        if files:
+            crate, names, words = files.groups()
+            count = count_of(crate, names, seen)
             part += count
             every += count
-            rows[number] = f"| `{name}` | {count} |"
-        else:
-            rows[number] = f"| {name} | {every if name == 'all' else part} |"
+            rows[number] = f"| `{crate}` | {names} | {count} |{words}"
+        elif others:
+            crate, former = others.groups()
+            names = others_of(crate, seen)
+            if len(names) != int(former):
+                print(f"{crate} has {len(names)} other files, and had {former}:", ", ".join(names))
+            count = count_of(crate, ", ".join(names), seen) if names else 0
+            part += count
+            every += count
+            rows[number] = f"| `{crate}` | {len(names)} | {count} |"
+        elif total:
+            name, words = total.groups()
+            rows[number] = f"| {name} | | {every if name == 'all' else part} |{words}"
             part = 0
     with open(PAGE, "w") as page:
         page.write("\n".join(rows))
-    files = {os.path.relpath(path, ROOT) for path in glob.glob(os.path.join(ROOT, "crates/*/specs/*.antt"))}
-    for name in sorted(files - told):
-        if not name.endswith("/Lib.antt"):
-            print("in no table:", name)
+    found = {os.path.relpath(path, ROOT) for path in glob.glob(os.path.join(ROOT, "crates/*/specs/*.antt"))}
+    for path in sorted(found - seen):
+        if not path.endswith("/Lib.antt"):
+            print("in no table:", path)
 
 
 if __name__ == "__main__":
