@@ -10,7 +10,7 @@ use Rattle.layout_json.specs.Trees.{tree_at, IsNoTree}
 use Rattle.layout_json.specs.Reading.{doc_of}
 use Rattle.ats_run.specs.declared.failure.Failure.{Failure}
 use Rattle.ats_run.specs.declared.failure.Failure.TheVariants as failure
-use Rattle.ats_run.specs.Certificates.{IsBadTable}
+use Rattle.accepted_documents.specs.Accepting.{IsBadTable}
 use Rattle.ats_run.specs.Command.{RefusesCheck}
 use Rattle.ats_run.specs.Complete.{IsAcceptedInput}
 

@@ -16,7 +16,8 @@ use Rattle.layout_json.specs.Replaced.{each_with, exchanged, recertified, replac
 use Rattle.layout_json.specs.Trees.{tree_at}
 use Rattle.layout_json.specs.Written.{written}
 use Rattle.layout_json.proofs.Remade.{length-each_with, each_with-at, no_table}
-use Rattle.ats_run.specs.Certificates.{AreAccepted, IsAcceptedText}
+use Rattle.accepted_documents.specs.Accepting.{AreAccepted}
+use Rattle.ats_run.specs.Certificates.{IsAcceptedText}
 use Rattle.ats_run.specs.Complete.{IsAcceptedInput}
 use Rattle.ats_run.specs.Making.{tables_in, table_in, trees_in, part_in, AreMade, HaveMade, IsMade}
 use Rattle.ats_run.specs.Repairing.{AreRepaired}

@@ -15,10 +15,10 @@ use Rattle.layout_json.specs.Reading.{doc_of}
 use Rattle.layout_json.proofs.Offered.{offer_count, legal_start}
 use Rattle.ats_run.specs.declared.failure.Failure.{Failure}
 use Rattle.ats_run.specs.declared.failure.Failure.TheVariants.{Memory as NoMemory}
-use Rattle.ats_run.specs.declared.checked.Checked.{Checked}
+use Rattle.accepted_documents.specs.declared.accepting.Checked.{Checked}
 use Rattle.ats_run.specs.declared.tasks.Task.{Task}
 use Rattle.ats_run.specs.declared.tasks.Task.TheVariants.{Goes, Printed}
-use Rattle.ats_run.specs.Certificates.{AreAccepted}
+use Rattle.accepted_documents.specs.Accepting.{AreAccepted}
 use Rattle.ats_run.specs.Checking.{nodes_below}
 use Rattle.ats_run.specs.Command.{Comes, IsRunInput, IsResumedInput}
 use Rattle.ats_run.specs.Generating.{IsDrilled}

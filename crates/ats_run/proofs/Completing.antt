@@ -18,7 +18,8 @@ use Rattle.ats_run.specs.declared.status.Status.{Status}
 use Rattle.ats_run.specs.declared.failure.Failure.{Failure}
 use Rattle.ats_run.specs.declared.failure.Failure.TheVariants as failure
 use Rattle.ats_run.specs.Causes.{Call, Asked, IsOrderOf, IsCause, most_bytes}
-use Rattle.ats_run.specs.Command.{Comes, IsDocWith, RefusesDocument, RefusesCheck, IsPairWith, RefusesVerify, RefusesResume, RefusesMake, RefusesDerive, RefusesRepair}
+use Rattle.accepted_documents.specs.Accepting.{IsDocWith}
+use Rattle.ats_run.specs.Command.{Comes, RefusesDocument, RefusesCheck, IsPairWith, RefusesVerify, RefusesResume, RefusesMake, RefusesDerive, RefusesRepair}
 use Rattle.ats_run.specs.Complete.{IsWholeText, IsRightFront, IsJournalInput, IsDerivable, IsGoodInput, IsDoneOrMemory}
 use Rattle.ats_run.specs.Deriving.{derived, FailsToDerive}
 use Rattle.ats_run.specs.Ending.{status_of}

@@ -7,7 +7,7 @@ use Rattle.plain_yard.specs.Keeps.{Keeps}
 use Rattle.layout_json.specs.Doc.{Doc, IsDoc, offers_of, names_of}
 use Rattle.shared_run.specs.declared.crews.Crew.{Crew}
 use Rattle.ats_run.specs.Headline.{Ends, plain_after}
-use Rattle.ats_run.specs.Certificates.{AreAccepted}
+use Rattle.accepted_documents.specs.Accepting.{AreAccepted}
 use Rattle.ats_run.specs.Checking.{nodes_below}
 use Rattle.ats_run.specs.Generating.{IsDrilled, IsDrillLine, drill_text}
 use Rattle.ats_run.proofs.OneTable.{all_moves, none_exchanged}

@@ -22,8 +22,8 @@ use Rattle.layout_json.specs.declared.refused.DocRefused.TheVariants.{Shape}
 use Rattle.layout_json.proofs.FormedDoc.{read-is-formed}
 use Rattle.layout_json.proofs.Remade.{length-each_with}
 use Rattle.layout_json.proofs.Taken.{makes}
-use Rattle.ats_run.specs.Certificates.{AreAccepted}
-use Rattle.ats_run.specs.Command.{IsDocWith, IsDrilledInput}
+use Rattle.accepted_documents.specs.Accepting.{AreAccepted, IsDocWith}
+use Rattle.ats_run.specs.Command.{IsDrilledInput}
 use Rattle.ats_run.specs.Generating.{full_budget, IsDrilled}
 use Rattle.ats_run.specs.Making.{tables_in, AreMade, IsMade}
 use Rattle.ats_run.proofs.AcceptedText.{certified_accepted, made_text}

@@ -1,4 +1,3 @@
-mod Accepting
 mod AcceptedInput
 mod AcceptedText
 mod Begun
@@ -16,12 +15,10 @@ mod Generated
 mod GoodJournals
 mod Inputs
 mod LightMarked
-mod LineFaults
 pub mod Made
 mod MakeRows
 mod OneTable
 mod PairFaults
-mod Passed
 pub mod Reading
 mod Repairable
 mod Repaired
@@ -29,10 +26,10 @@ mod Resumed
 mod Rows
 mod RunRows
 mod Runs
-mod Samples
 pub mod Simulated
 mod SmallNodes
 mod TableRows
+mod Unchecked
 mod Writing
 pub mod Woven
 pub mod WeaveRows

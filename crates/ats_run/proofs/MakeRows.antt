@@ -1,47 +1,22 @@
 -- Worked rows: a certificate that is refused, and one that is made in its place, or is too large for the budget.
 use Rattle.std.proofs.Common.{◌≡◌, ℕ, List, [], ◌∷◌, Ok, Err, refl, arith, lit<, lit≤, inr}
-use Rattle.std.proofs.lemmas.List.Elements.{All-nil}
 use Rattle.command_words.specs.declared.orders.Order.TheVariants.{Check, Make}
 use Rattle.rail_model.specs.declared.types.Bad.TheVariants as bad
 use Rattle.rail_model.specs.declared.types.Node.TheVariants.{Arrived, Move}
-use Rattle.rail_model.specs.Certificate.{arrived, full_box, Accepts, FirstBad, IsGood}
+use Rattle.rail_model.specs.Certificate.{full_box, Accepts}
 use Rattle.cert_maker.specs.Rule.{leaf, split, IsRuleTree, Makes}
 use Rattle.cert_maker.specs.declared.made.Made.TheVariants.{Cert as cert}
-use Rattle.layout_json.specs.Doc.{Doc}
 use Rattle.layout_json.specs.Reading.{doc_of}
-use Rattle.layout_json.specs.Trees.{IsTreeOf, tree_at}
+use Rattle.layout_json.specs.Trees.{tree_at}
 use Rattle.layout_json.specs.Written.{written}
 use Rattle.ats_run.specs.declared.failure.Failure.TheVariants.{Certificate, Spent}
 use Rattle.ats_run.specs.Command.{Comes}
 use Rattle.ats_run.specs.Making.{AreMade, table_in}
-use Rattle.ats_run.proofs.Samples.{table, one_train, good, the_only, trees, accepted}
-
--- a certificate that says of each place that the train has arrived
-abbrev not_good : Doc
-not_good = one_train (Arrived ∷ [])
-
-not_arrived : FirstBad table arrived (bad.Arrived 0 0)
-not_arrived = record {
-  box = full_box table;
-  node = Arrived;
-  front = [];
-  rest = [];
-  spelled = refl;
-  index = refl;
-  earlier = All-nil (λ v. IsGood table v.0 v.1);
-  refused = ((lit< tt, λ at_end. let low : 0 ≡ 1 = at_end.0 in omega (arith, low)), λ j none not_there. omega (arith, none));
-}
+use Rattle.accepted_documents.proofs.Rows.{not_good, bad_table}
+use Rattle.accepted_documents.proofs.Samples.{table, good, the_only, trees, accepted}
 
 refused : (input : List ℕ) → doc_of input ≡ Ok not_good → Comes Check input (Err (Certificate 0 (bad.Arrived 0 0)))
-refused input read = (
-  not_good,
-  read,
-  (
-    arrived ∷ [],
-    record { one_each = refl; spelled = the_only (λ t. IsTreeOf not_good t (tree_at (arrived ∷ []) t)) (refl, lit≤ tt) },
-    record { in_range = lit< tt; earlier = λ u none. absurd (omega (arith, none)); first_bad = not_arrived },
-  ),
-)
+refused input read = (not_good, read, bad_table)
 
 -- the rule's tree of the table has three nodes
 rule_tree : IsRuleTree table (full_box table) (split 0 0 (leaf (Move 0)) (leaf Arrived))

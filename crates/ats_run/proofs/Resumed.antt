@@ -1,29 +1,22 @@
 -- Runs that go on from a journal.
-use Rattle.std.proofs.Common.{◌≡◌, ◌⊎◌, ℕ, ◌+◌, List, [], ◌++◌, length, refl, sym, ◌∙◌, ap, subst, inl, inr}
+use Rattle.std.proofs.Common.{◌≡◌, ℕ, ◌+◌, List, [], ◌++◌, length, sym, ◌∙◌, ap, subst, inl, inr}
 use Rattle.std.proofs.lemmas.List.{append-nil}
-use Rattle.std.specs.Prelude.{Err}
 use Rattle.rail_model.specs.declared.types.Line.{Line}
 use Rattle.rail_model.specs.Certificate.{Tree}
 use Rattle.rail_model.specs.Plain.{Plain}
-use Rattle.rail_model.specs.Yard.{Offer, Yard, opening}
+use Rattle.rail_model.specs.Yard.{opening}
 use Rattle.rail_model.specs.Journal.{Journal, IsWhole, IsRight, after_lines, text, lines_text, end_text, with_counts}
 use Rattle.plain_yard.specs.Keeps.{Keeps}
 use Rattle.plain_yard.proofs.Keeping.{right_append, whole}
 use Rattle.plain_yard.proofs.Reaching.{after_append}
-use Rattle.move_journal.specs.declared.faults.BadLine.{BadLine}
-use Rattle.move_journal.specs.declared.faults.BadLine.TheVariants.{Memory}
 use Rattle.move_journal.specs.Answers.{IsTextOf, IsFrontOf}
-use Rattle.move_journal.specs.Replays.{Replays}
 use Rattle.move_journal.proofs.Fronts.{text_goes_on}
 use Rattle.shared_run.specs.declared.crews.Crew.{Crew}
 use Rattle.layout_json.specs.Doc.{Doc, IsDoc, offers_of, names_of}
 use Rattle.layout_json.proofs.Offered.{legal_start}
-use Rattle.ats_run.specs.declared.failure.Failure.{Failure}
-use Rattle.ats_run.specs.declared.failure.Failure.TheVariants.{Memory as NoMemory}
-use Rattle.ats_run.specs.Ending.{failure_of_line}
-use Rattle.ats_run.specs.Certificates.{AreAccepted}
+use Rattle.accepted_documents.specs.Accepting.{AreAccepted}
 use Rattle.ats_run.specs.Headline.{IsRun, Ends}
-use Rattle.ats_run.specs.Journals.{IsFrontFault, IsResumed}
+use Rattle.ats_run.specs.Journals.{IsResumed}
 use Rattle.ats_run.proofs.Runs.{goes_on_well}
 
 -- the text of a whole journal is that of a run
@@ -72,14 +65,3 @@ resumed_front D trees crew front given written from end doc accepted is_front ri
         record { added = ends.added; by = ends.by; printed = printed ∙ ap (λ (ls : List Line). text (names_of D) (with_counts ls)) ends.adds },
       );
     }
-
-told : (tables : List Offer) (y : Yard) (J : Journal) (cause : BadLine) → Replays tables y J (Err cause)
-    → (failure_of_line cause ≡ NoMemory) ⊎ IsFrontFault tables y J (failure_of_line cause)
-told tables y J Memory h = inl refl
-told tables y J cause h = inr h
-
-pub front_fault : (tables given : List Offer) (y z : Yard) (J : Journal) (cause : BadLine) (e : Failure) → given ≡ tables → z ≡ y → Replays given z J (Err cause)
-    → e ≡ failure_of_line cause → (e ≡ NoMemory) ⊎ IsFrontFault tables y J e
-front_fault tables given y z J cause e same there h is =
-    subst (λ (x : Failure). (x ≡ NoMemory) ⊎ IsFrontFault tables y J x) (sym is)
-    (told tables y J cause (subst (λ (x : Yard). Replays tables x J (Err cause)) there (subst (λ (x : List Offer). Replays x z J (Err cause)) same h)))

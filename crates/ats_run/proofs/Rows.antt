@@ -19,11 +19,13 @@ use Rattle.document_shapes.specs.declared.refused.ShapeRefused.TheVariants as sh
 use Rattle.layout_json.specs.declared.refused.DocRefused.TheVariants as document
 use Rattle.move_journal.specs.declared.faults.BadText.TheVariants as text
 use Rattle.move_journal.specs.declared.faults.BadLine.TheVariants as line
+use Rattle.accepted_documents.specs.declared.refused.Unaccepted.TheVariants as unaccepted
+use Rattle.accepted_documents.specs.declared.refused.BadJournal.TheVariants as journal
 use Rattle.ats_run.specs.declared.failure.Failure.TheVariants as failure
 use Rattle.ats_run.specs.declared.status.Status.TheVariants as status
 use Rattle.ats_run.specs.Causes.{most_bytes}
 use Rattle.ats_run.specs.Checking.{checked_text}
-use Rattle.ats_run.specs.Ending.{code, status_of, failure_of_text, failure_of_line}
+use Rattle.ats_run.specs.Ending.{code, status_of, failure_of_document, failure_of_journal}
 use Rattle.ats_run.specs.Generating.{drill_text}
 use Rattle.ats_run.specs.Journals.{verified_text}
 use Rattle.shared_run.specs.Crews.{crew_of}
@@ -93,12 +95,14 @@ codes_of_making = refl
 codes_of_journals : map (λ e. code (status_of e)) (failure.NoJournal ∷ failure.Text text.NoEnd ∷ failure.Line line.Counts ∷ []) ≡ 9 ∷ 9 ∷ 9 ∷ []
 codes_of_journals = refl
 
--- out of memory isn't the journal's fault
-faults_of_texts : map failure_of_text (text.Memory ∷ text.NoEnd ∷ text.Line 3 ∷ []) ≡ failure.Memory ∷ failure.Text text.NoEnd ∷ failure.Text (text.Line 3) ∷ []
-faults_of_texts = refl
+-- what refuses a document or a journal refuses the input
+failures_of_documents : map failure_of_document (unaccepted.Memory ∷ unaccepted.Document (document.Tables 0) ∷ unaccepted.Tree 2 (tree.Short 1) ∷ unaccepted.Certificate 2 (bad.Name 1) ∷ [])
+    ≡ failure.Memory ∷ failure.Document (document.Tables 0) ∷ failure.Tree 2 (tree.Short 1) ∷ failure.Certificate 2 (bad.Name 1) ∷ []
+failures_of_documents = refl
 
-faults_of_lines : map failure_of_line (line.Memory ∷ line.Counts ∷ line.Table 3 ∷ []) ≡ failure.Memory ∷ failure.Line line.Counts ∷ failure.Line (line.Table 3) ∷ []
-faults_of_lines = refl
+failures_of_journals : map failure_of_journal (journal.Memory ∷ journal.Text text.NoEnd ∷ journal.Line line.Counts ∷ [])
+    ≡ failure.Memory ∷ failure.Text text.NoEnd ∷ failure.Line line.Counts ∷ []
+failures_of_journals = refl
 
 told_outside : map line_of (failure.Words ∷ failure.Memory ∷ failure.ReadFault ∷ failure.WriteFault ∷ failure.TooLong ∷ [])
     ≡ codes "ats: 201 Words\n" ∷ codes "ats: 202 Memory\n" ∷ codes "ats: 207 ReadFault\n" ∷ codes "ats: 208 WriteFault\n" ∷ codes "ats: 104 TooLong limit=16777216\n" ∷ []

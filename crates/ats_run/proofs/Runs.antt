@@ -19,7 +19,7 @@ use Rattle.move_journal.proofs.Named.{named_right}
 use Rattle.shared_run.specs.declared.crews.Crew.{Crew}
 use Rattle.layout_json.specs.Doc.{Doc, IsDoc, table_at, offers_of, names_of}
 use Rattle.layout_json.proofs.Offered.{offer_count, table_offered, legal_start}
-use Rattle.ats_run.specs.Certificates.{AreAccepted}
+use Rattle.accepted_documents.specs.Accepting.{AreAccepted}
 use Rattle.ats_run.specs.Headline.{GoesOnWell, IsRun, IsRunBy, Ends, plain_after}
 
 right_front : (tables : List Offer) (y : Yard) (front later : List Line) → IsRight tables y (front ++ later) → IsRight tables y front

@@ -4,7 +4,7 @@ use Rattle.rail_model.specs.declared.types.Ask.TheVariants.{Yes}
 use Rattle.rail_model.specs.declared.types.Reply.TheVariants.{Driver}
 use Rattle.rail_model.specs.Yard.{control}
 use Rattle.ats_run.specs.Weaving.{drawn_actor, woven}
-use Rattle.ats_run.proofs.Samples.{good}
+use Rattle.accepted_documents.proofs.Samples.{good}
 
 -- of two trains each has its number, and the number after them is the control's
 actors : map (drawn_actor 2) (0 ∷ 1 ∷ 2 ∷ 3 ∷ 4 ∷ 5 ∷ []) ≡ 0 ∷ 1 ∷ control ∷ 0 ∷ 1 ∷ control ∷ []

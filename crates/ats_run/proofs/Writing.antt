@@ -7,7 +7,8 @@ use Rattle.layout_json.specs.Replaced.{replaced}
 use Rattle.rail_model.specs.Yard.{opening}
 use Rattle.shared_run.specs.Crews.{crew_of}
 use Rattle.ats_run.specs.Causes.{IsServed}
-use Rattle.ats_run.specs.Command.{Comes, IsDocWith, IsRunInput, IsAnyDrill}
+use Rattle.accepted_documents.specs.Accepting.{IsDocWith}
+use Rattle.ats_run.specs.Command.{Comes, IsRunInput, IsAnyDrill}
 use Rattle.ats_run.specs.Complete.{IsAcceptedInput}
 use Rattle.ats_run.specs.Generating.{full_budget}
 use Rattle.ats_run.specs.Headline.{IsRun, IsRoundRobin}

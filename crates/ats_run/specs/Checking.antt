@@ -4,7 +4,7 @@ use Rattle.rail_model.specs.Certificate.{Tree, preorder}
 use Rattle.rail_model.specs.Sums.{sum_below}
 use Rattle.layout_json.specs.Doc.{Doc}
 use Rattle.layout_json.specs.Trees.{tree_at}
-use Rattle.ats_run.specs.Certificates.{AreAccepted}
+use Rattle.accepted_documents.specs.Accepting.{AreAccepted}
 
 -- the number of nodes of the first trees
 abbrev pub nodes_below : List Tree → ℕ → ℕ

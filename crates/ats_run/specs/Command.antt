@@ -14,7 +14,7 @@ use Rattle.layout_json.specs.Reading.{doc_of}
 use Rattle.layout_json.specs.declared.refused.DocRefused.{DocRefused}
 use Rattle.ats_run.specs.declared.failure.Failure.{Failure}
 use Rattle.ats_run.specs.declared.failure.Failure.TheVariants.{Document, Tree, Certificate, NoJournal, Text, Line}
-use Rattle.ats_run.specs.Certificates.{IsBadTable}
+use Rattle.accepted_documents.specs.Accepting.{IsBadTable, IsDocWith}
 use Rattle.ats_run.specs.Checking.{WritesChecked}
 use Rattle.ats_run.specs.Journals.{IsCutAt, HasNoCut, document_part, journal_part, IsVerified, IsUnreadable, FailsToVerify, IsResumed, FailsToResume}
 use Rattle.ats_run.specs.Generating.{full_budget, IsDrilled, IsDrillLine}
@@ -26,10 +26,6 @@ use Rattle.ats_run.specs.Orders.{drill_crew}
 use Rattle.ats_run.specs.Repairing.{IsRepaired, FailsToRepair}
 use Rattle.ats_run.specs.Simulating.{IsSimulated}
 use Rattle.ats_run.specs.Weaving.{IsWoven}
-
--- The bytes are a document, of which the fact holds.
-abbrev pub IsDocWith : List ℕ → (Doc → Type 0) → Type 0
-IsDocWith input P = (D : Doc) × (doc_of input ≡ Ok D) × P D
 
 -- The bytes are no document, for the first cause.
 abbrev pub RefusesDocument : List ℕ → Failure → Type 0

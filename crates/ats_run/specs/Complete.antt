@@ -13,8 +13,7 @@ use Rattle.layout_json.specs.Reading.{doc_of}
 use Rattle.ats_run.specs.declared.status.Status.{Status}
 use Rattle.ats_run.specs.declared.status.Status.TheVariants.{Done, Memory}
 use Rattle.ats_run.specs.Causes.{most_bytes}
-use Rattle.ats_run.specs.Certificates.{AreAccepted}
-use Rattle.ats_run.specs.Command.{IsDocWith}
+use Rattle.accepted_documents.specs.Accepting.{AreAccepted, IsDocWith}
 use Rattle.ats_run.specs.Generating.{full_budget}
 use Rattle.ats_run.specs.Journals.{IsCutAt, document_part, journal_part}
 use Rattle.ats_run.specs.Deriving.{derived, HaveFewRings}

@@ -4,10 +4,10 @@ use Rattle.ats_run.specs.declared.status.Status.{Status}
 use Rattle.ats_run.specs.declared.status.Status.TheVariants as status
 use Rattle.ats_run.specs.declared.failure.Failure.{Failure}
 use Rattle.ats_run.specs.declared.failure.Failure.TheVariants as failure
-use Rattle.move_journal.specs.declared.faults.BadText.{BadText}
-use Rattle.move_journal.specs.declared.faults.BadText.TheVariants as text
-use Rattle.move_journal.specs.declared.faults.BadLine.{BadLine}
-use Rattle.move_journal.specs.declared.faults.BadLine.TheVariants as line
+use Rattle.accepted_documents.specs.declared.refused.Unaccepted.{Unaccepted}
+use Rattle.accepted_documents.specs.declared.refused.Unaccepted.TheVariants as unaccepted
+use Rattle.accepted_documents.specs.declared.refused.BadJournal.{BadJournal}
+use Rattle.accepted_documents.specs.declared.refused.BadJournal.TheVariants as journal
 
 -- the exit code of a status
 abbrev pub code : Status → ℕ
@@ -41,12 +41,15 @@ status_of failure.NoJournal = status.BadJournal
 status_of (failure.Text e) = status.BadJournal
 status_of (failure.Line e) = status.BadJournal
 
--- what the fault of a journal's text is in the program
-abbrev pub failure_of_text : BadText → Failure
-failure_of_text text.Memory = failure.Memory
-failure_of_text e = failure.Text e
+-- what the refusal of a document is in the program
+abbrev pub failure_of_document : Unaccepted → Failure
+failure_of_document unaccepted.Memory = failure.Memory
+failure_of_document (unaccepted.Document e) = failure.Document e
+failure_of_document (unaccepted.Tree t e) = failure.Tree t e
+failure_of_document (unaccepted.Certificate t e) = failure.Certificate t e
 
--- what the fault of a journal's lines is in the program
-abbrev pub failure_of_line : BadLine → Failure
-failure_of_line line.Memory = failure.Memory
-failure_of_line e = failure.Line e
+-- what the refusal of a journal is in the program
+abbrev pub failure_of_journal : BadJournal → Failure
+failure_of_journal journal.Memory = failure.Memory
+failure_of_journal (journal.Text e) = failure.Text e
+failure_of_journal (journal.Line e) = failure.Line e

@@ -4,7 +4,7 @@ use Rattle.rail_model.specs.Certificate.{Tree}
 use Rattle.rail_model.specs.State.{remaining}
 use Rattle.shared_run.specs.declared.crews.Crew.{Crew}
 use Rattle.layout_json.specs.Doc.{Doc, table_at}
-use Rattle.ats_run.specs.Certificates.{AreAccepted}
+use Rattle.accepted_documents.specs.Accepting.{AreAccepted}
 use Rattle.ats_run.specs.Checking.{nodes_below}
 use Rattle.ats_run.specs.Headline.{IsRun, IsRunBy}
 

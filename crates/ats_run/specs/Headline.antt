@@ -11,7 +11,7 @@ use Rattle.rail_model.specs.Journal.{Journal, IsRight, IsDone, IsWhole, IsRound,
 use Rattle.shared_run.specs.declared.crews.Crew.{Crew}
 use Rattle.shared_run.specs.Shared.{setup, IsAddedBy}
 use Rattle.layout_json.specs.Doc.{Doc, offers_of, names_of}
-use Rattle.ats_run.specs.Certificates.{AreAccepted}
+use Rattle.accepted_documents.specs.Accepting.{AreAccepted}
 
 -- From the state after any first lines on, each legal way of going on ends with all trains arrived after exactly the remaining moves.
 abbrev pub GoesOnWell : List Offer → Yard → List Line → Type 0

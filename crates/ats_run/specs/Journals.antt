@@ -1,24 +1,22 @@
 -- Inputs of a document and a journal, and what is said of them.
-use Rattle.std.specs.Prelude.{◌≡◌, ◌≢◌, ◌⊎◌, ℕ, ◌+◌, List, Option, Some, None, ◌++◌, length, take, drop, codes, decimal}
+use Rattle.std.specs.Prelude.{◌≡◌, ◌⊎◌, ℕ, ◌+◌, List, ◌++◌, length, take, drop, codes, decimal}
 use Rattle.memchr.specs.Find.{OccursAt}
 use Rattle.rail_model.specs.declared.types.Line.{Line as Step}
 use Rattle.rail_model.specs.Move.{IsFirst}
 use Rattle.rail_model.specs.Certificate.{Tree}
-use Rattle.rail_model.specs.Yard.{Offer, Yard, opening}
-use Rattle.rail_model.specs.Names.{Names}
-use Rattle.rail_model.specs.Plain.{Plain}
-use Rattle.rail_model.specs.Journal.{Journal, IsRight, IsWhole, after_lines, text, with_counts}
-use Rattle.plain_yard.specs.Keeps.{Keeps}
+use Rattle.rail_model.specs.Yard.{opening}
+use Rattle.rail_model.specs.Journal.{Journal, IsWhole, text, with_counts}
 use Rattle.move_journal.specs.declared.faults.BadText.{BadText}
-use Rattle.move_journal.specs.declared.faults.BadText.TheVariants.{NoEnd}
 use Rattle.move_journal.specs.declared.faults.BadLine.{BadLine}
 use Rattle.move_journal.specs.Answers.{IsTextOf, IsFrontOf, HasTextFault}
 use Rattle.move_journal.specs.Replays.{HasBadLine, IsBrokenJournal}
 use Rattle.shared_run.specs.declared.crews.Crew.{Crew}
 use Rattle.layout_json.specs.Doc.{Doc, IsDoc, offers_of, names_of}
+use Rattle.accepted_documents.specs.Accepting.{AreAccepted}
+use Rattle.accepted_documents.specs.Replaying.{IsNotWhole}
+use Rattle.accepted_documents.specs.declared.refused.BadJournal.{BadJournal}
 use Rattle.ats_run.specs.declared.failure.Failure.{Failure}
-use Rattle.ats_run.specs.declared.failure.Failure.TheVariants.{Line, Text}
-use Rattle.ats_run.specs.Certificates.{AreAccepted}
+use Rattle.ats_run.specs.Ending.{failure_of_journal}
 use Rattle.ats_run.specs.Headline.{IsRun, IsRunBy}
 
 -- the line that parts a document from a journal, with the newline before it
@@ -51,26 +49,6 @@ pub record IsVerified (D : Doc) (given written : List ℕ) : Type 0 where
   pub text : IsTextOf (names_of D) given journal
   pub whole : IsWhole (offers_of D) (opening D.start) journal
   pub printed : written ≡ verified_text journal
-
--- Why bytes are no journal's text, as a failure of the program.
-abbrev pub IsTextFault : Names → List ℕ → Failure → Type 0
-IsTextFault N given (Text cause) = HasTextFault N given cause
-IsTextFault N given e = ⊥
-
--- Why bytes are no front of a text either: an end line isn't asked for.
-abbrev pub IsPartFault : Names → List ℕ → Failure → Type 0
-IsPartFault N given (Text cause) = HasTextFault N given cause × (cause ≢ NoEnd)
-IsPartFault N given e = ⊥
-
--- What a journal lacks, as a failure of the program.
-abbrev pub IsLineFault : List Offer → Yard → Journal → Failure → Type 0
-IsLineFault tables y J (Line cause) = IsBrokenJournal tables y J cause
-IsLineFault tables y J e = ⊥
-
--- The first line of a front that isn't right, as a failure of the program.
-abbrev pub IsFrontFault : List Offer → Yard → Journal → Failure → Type 0
-IsFrontFault tables y J (Line cause) = HasBadLine tables y J.lines cause
-IsFrontFault tables y J e = ⊥
 
 -- The bytes are no journal's text, for the first cause.
 pub record IsUnreadable (D : Doc) (given : List ℕ) (cause : BadText) : Type 0 where
@@ -117,27 +95,5 @@ pub record FailsToResume (D : Doc) (given : List ℕ) (cause : BadLine) : Type 0
       ⊎ (IsFrontOf (names_of D) given journal × HasBadLine (offers_of D) (opening D.start) journal.lines cause)
 
 -- Why bytes are no text of a whole journal of the document, as a failure of the program.
-abbrev pub IsVerifyFault : Doc → List ℕ → Failure → Type 0
-IsVerifyFault D given (Text cause) = IsUnreadable D given cause
-IsVerifyFault D given (Line cause) = FailsToVerify D given cause
-IsVerifyFault D given e = ⊥
-
--- The bytes are the text of a front of the document, which leads to this state.
-pub record IsFrontTo (D : Doc) (given : List ℕ) (state : Plain) : Type 0 where
-  pub front : Journal
-  pub text : IsFrontOf (names_of D) given front
-  pub right : IsRight (offers_of D) (opening D.start) front.lines
-  pub yard : state.yard ≡ after_lines (opening D.start) front.lines
-  pub lines : state.lines ≡ front.lines
-  pub keeps : Keeps (offers_of D) state.yard state.lines
-
--- The bytes lead to this state; or if there is none, they are the text of a whole journal.
-abbrev pub LeadsOnTo : Doc → List ℕ → Option Plain → Type 0
-LeadsOnTo D given (Some state) = IsFrontTo D given state
-LeadsOnTo D given None = (crew : Crew) → IsResumed D crew given given
-
--- Why nothing goes on from the bytes, as a failure of the program.
-abbrev pub IsResumeFault : Doc → List ℕ → Failure → Type 0
-IsResumeFault D given (Text cause) = IsUnreadable D given cause × (cause ≢ NoEnd)
-IsResumeFault D given (Line cause) = FailsToResume D given cause
-IsResumeFault D given e = ⊥
+abbrev pub IsUnverified : Doc → List ℕ → Failure → Type 0
+IsUnverified D given e = (cause : BadJournal) × (e ≡ failure_of_journal cause) × IsNotWhole D given cause

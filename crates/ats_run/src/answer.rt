@@ -11,7 +11,6 @@ ghost use Rattle.ats_run.specs.declared.failure.Failure.TheVariants.{Memory as N
 
 use crate::Failure;
 use crate::check::check;
-use crate::checked::Checked;
 use crate::derive::derive;
 use crate::drill::{begin_drill, counts_of_run};
 use crate::finishing::{finish_alone, finish_by};
@@ -25,6 +24,7 @@ use crate::simulate::simulate;
 use crate::tasks::Task;
 use crate::verify::verify;
 use crate::weave::weave;
+use accepted_documents::Checked;
 use ats_io::Gate;
 use command_words::Order;
 use rail_model::PlainState;

@@ -1,29 +1,16 @@
-// Documents whose tables accept their certificates.
-ghost use Rattle.std.specs.Prelude.{◌≡◌, ◌⊎◌, Ok, map, IfOk, IfErr, OnOk};
-ghost use Rattle.rail_model.specs.declared.types.Bad.{Bad as BadValue};
-ghost use Rattle.rail_model.specs.Certificate.{Accepts, FirstBad};
-ghost use Rattle.layout_json.specs.Doc.{IsDoc, offers_of};
-ghost use Rattle.layout_json.specs.Trees.{AreTrees};
+// Documents that are read, and documents whose tables accept their certificates.
+ghost use Rattle.std.specs.Prelude.{◌≡◌, ◌⊎◌, Ok, IfOk, IfErr};
+ghost use Rattle.accepted_documents.specs.Accepting.{AreAccepted};
+ghost use Rattle.layout_json.specs.Doc.{offers_of};
 ghost use Rattle.layout_json.specs.Reading.{doc_of};
-ghost use Rattle.ats_run.specs.Certificates.{AreAccepted, IsRejected};
 ghost use Rattle.ats_run.specs.Command.{RefusesDocument, RefusesCheck};
-ghost use Rattle.ats_run.specs.declared.failure.Failure.TheVariants.{Memory as NoMemory, Certificate as BadCertificate};
+ghost use Rattle.ats_run.specs.declared.failure.Failure.TheVariants.{Memory as NoMemory};
 
 use crate::Failure;
-use cert_checker::{Accepted, CheckFault, accept_par};
-use cert_tree::Cert;
-use layout_json::{Certified, Doc, DocRefused, Frame, TreeRefused, certificates, document};
-use rail_model::Table;
+use accepted_documents::{Checked, check_document_par};
+use layout_json::{Doc, DocRefused, document};
 use std::alloc::Global;
 use std::thread::Threads;
-
-/// A document, a certificate for each of its tables, which accepts it, and the tables.
-#[derive(Drop)]
-pub struct Checked {
-    pub doc: Frame,
-    pub certs: Vec<Cert>,
-    pub tables: Vec<Accepted>,
-}
 
 /// Reads a document.
 pub fn read_document(alloc: Global, input: &[u8]) -> Result<Doc, Failure>
@@ -50,59 +37,8 @@ pub fn check_document(
 
     ensures unchecked { IfErr result (λ e. (e ≡ NoMemory) ⊎ RefusesCheck input.now e) }
 {
-    let doc = read_document(alloc, input)?;
-    match certificates(alloc, doc) {
-        Ok((frame, parts)) => accept_all(rt, alloc, frame, parts),
-        Err(TreeRefused::Memory) => Err(Failure::Memory),
-        Err(TreeRefused::Tree { table, refused }) => Err(Failure::Tree { table, refused }),
-    }
-}
-
-// The document, if each of its tables accepts its certificate.
-fn accept_all(
-    rt: &(impl Threads + Sync),
-    alloc: Global,
-    doc: Frame,
-    parts: Vec<Certified>,
-) -> Result<Checked, Failure>
-    requires formed { IsDoc doc }
-    requires trees { AreTrees doc (map (λ p. p.cert) parts.items) }
-    requires tables { map (λ p. record { table = p.table; after = p.after }) parts.items ≡ offers_of doc }
-    ensures document { IfOk result (λ c. c.doc ≡ doc) }
-    ensures offers { IfOk result (λ c. c.tables.items ≡ offers_of c.doc) }
-    ensures accepted { IfOk result (λ c. AreAccepted c.doc c.certs.items) }
-
-    ensures rejected { IfErr result (λ e. (e ≡ NoMemory) ⊎ IsRejected doc (map (λ p. p.cert) parts.items) e) }
-{
-    let mut certs = Vec::new(alloc);
-    let mut tables = Vec::new(alloc);
-    for part in parts {
-        let Certified { table, after, cert } = part;
-        let number = tables.len() as u32;
-        tables.push(accept_one(rt, alloc, number, table, after, &cert)?)?;
-        certs.push(cert)?;
-    }
-    Ok(Checked { doc, certs, tables })
-}
-
-// One table of a document, which has this number, if it accepts its certificate.
-fn accept_one(
-    rt: &(impl Threads + Sync),
-    alloc: Global,
-    number: u32,
-    table: Table,
-    after: u32,
-    cert: &Cert,
-) -> Result<Accepted, Failure>
-    ensures accepted { OnOk result (Accepts table cert.now) }
-    ensures offer { IfOk result (λ a. a ≡ record { table = table; after = after }) }
-
-    ensures rejected { IfErr result (λ e. (e ≡ NoMemory)
-        ⊎ ((bad : BadValue) × (e ≡ BadCertificate number bad) × FirstBad table cert.now bad)) }
-{
-    match accept_par(rt, alloc, table, after, cert) {
-        Ok(accepted) => Ok(accepted),
-        Err((_, CheckFault::Memory)) => Err(Failure::Memory),
-        Err((_, CheckFault::Bad(bad))) => Err(Failure::Certificate { table: number, bad }),
+    match check_document_par(rt, alloc, input) {
+        Ok(checked) => Ok(checked),
+        Err(refused) => Err(Failure::from(refused)),
     }
 }

@@ -1,7 +1,8 @@
 // Sections that are derived from rings.
 ghost use Rattle.std.specs.Prelude.{◌≡◌, ◌⊎◌, ◌≤◌, IfOk, IfErr, OnOk};
 ghost use Rattle.layout_json.specs.Keeps.{IsTaken};
-ghost use Rattle.ats_run.specs.Command.{IsDocWith, RefusesDerive};
+ghost use Rattle.accepted_documents.specs.Accepting.{IsDocWith};
+ghost use Rattle.ats_run.specs.Command.{RefusesDerive};
 ghost use Rattle.ats_run.specs.Deriving.{derived, derived_table, HasFewRings, HaveFewRings, HasTooManyRings, HasManyRings, IsDerived, FailsToDerive};
 ghost use Rattle.ats_run.specs.declared.failure.Failure.TheVariants.{Memory as NoMemory};
 

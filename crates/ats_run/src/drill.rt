@@ -11,10 +11,10 @@ ghost use Rattle.ats_run.specs.declared.failure.Failure.TheVariants.{Memory as N
 
 use crate::Failure;
 use crate::check::nodes;
-use crate::checked::Checked;
 use crate::generate::{FULL_BUDGET, generated_document};
 use crate::make::make_all;
 use crate::tasks::Task;
+use accepted_documents::Checked;
 use cert_checker::Accepted;
 use cert_tree::Cert;
 use layout_json::{Doc, tables_apart};

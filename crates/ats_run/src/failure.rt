@@ -1,9 +1,10 @@
 // Why a call did not end well.
 ghost use Rattle.std.specs.Prelude.{◌≡◌};
-ghost use Rattle.ats_run.specs.Ending.{failure_of_text, failure_of_line};
+ghost use Rattle.ats_run.specs.Ending.{failure_of_document, failure_of_journal};
 ghost use Rattle.ats_run.specs.declared.failure.Failure.TheVariants.{Memory as NoMemory};
 
 use crate::Status;
+use accepted_documents::{BadJournal, Unaccepted};
 use cert_tree::CertRefused;
 use layout_json::DocRefused;
 use move_journal::{BadLine, BadText};
@@ -63,24 +64,27 @@ impl<T: Drop> From<AllocFailed<T>> for Failure {
     }
 }
 
-impl From<BadText> for Failure {
-    ghost from_gives = { λ cause e. e ≡ failure_of_text cause };
+impl From<Unaccepted> for Failure {
+    ghost from_gives = { λ cause e. e ≡ failure_of_document cause };
 
-    fn from(cause: BadText) -> Self {
+    fn from(cause: Unaccepted) -> Self {
         match cause {
-            BadText::Memory => Failure::Memory,
-            cause => Failure::Text(cause),
+            Unaccepted::Memory => Failure::Memory,
+            Unaccepted::Document(refused) => Failure::Document(refused),
+            Unaccepted::Tree { table, refused } => Failure::Tree { table, refused },
+            Unaccepted::Certificate { table, bad } => Failure::Certificate { table, bad },
         }
     }
 }
 
-impl From<BadLine> for Failure {
-    ghost from_gives = { λ cause e. e ≡ failure_of_line cause };
+impl From<BadJournal> for Failure {
+    ghost from_gives = { λ cause e. e ≡ failure_of_journal cause };
 
-    fn from(cause: BadLine) -> Self {
+    fn from(cause: BadJournal) -> Self {
         match cause {
-            BadLine::Memory => Failure::Memory,
-            cause => Failure::Line(cause),
+            BadJournal::Memory => Failure::Memory,
+            BadJournal::Text(fault) => Failure::Text(fault),
+            BadJournal::Line(fault) => Failure::Line(fault),
         }
     }
 }

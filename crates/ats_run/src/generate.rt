@@ -2,7 +2,8 @@
 ghost use Rattle.std.specs.Prelude.{◌≡◌, ◌⊎◌, ◌≤◌, Ok, length, IfOk, IfErr};
 ghost use Rattle.document_generator.specs.Generated.{generated};
 ghost use Rattle.layout_json.specs.Reading.{doc_of};
-ghost use Rattle.ats_run.specs.Command.{IsDocWith, RefusesDocument, RefusesMake};
+ghost use Rattle.accepted_documents.specs.Accepting.{IsDocWith};
+ghost use Rattle.ats_run.specs.Command.{RefusesDocument, RefusesMake};
 ghost use Rattle.ats_run.specs.Generating.{full_budget};
 ghost use Rattle.ats_run.specs.Making.{IsMade};
 ghost use Rattle.ats_run.specs.declared.failure.Failure.TheVariants.{Memory as NoMemory};

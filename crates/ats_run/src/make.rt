@@ -7,7 +7,8 @@ ghost use Rattle.layout_json.specs.Keeps.{IsTaken};
 ghost use Rattle.layout_json.specs.Reading.{doc_of};
 ghost use Rattle.layout_json.specs.Replaced.{replaced};
 ghost use Rattle.layout_json.specs.Written.{written};
-ghost use Rattle.ats_run.specs.Command.{IsDocWith, RefusesMake};
+ghost use Rattle.accepted_documents.specs.Accepting.{IsDocWith};
+ghost use Rattle.ats_run.specs.Command.{RefusesMake};
 ghost use Rattle.ats_run.specs.Making.{tables_in, AreMade, HaveMade, IsMade, FailsToMake, MakesNone};
 ghost use Rattle.ats_run.specs.declared.failure.Failure.TheVariants.{Memory as NoMemory};
 

@@ -1,6 +1,7 @@
 // Documents that are brought to version 2.
 ghost use Rattle.std.specs.Prelude.{◌≡◌, ◌⊎◌, IfOk, IfErr};
-ghost use Rattle.ats_run.specs.Command.{IsDocWith, RefusesDocument};
+ghost use Rattle.accepted_documents.specs.Accepting.{IsDocWith};
+ghost use Rattle.ats_run.specs.Command.{RefusesDocument};
 ghost use Rattle.ats_run.specs.Migrating.{IsMigratedText};
 ghost use Rattle.ats_run.specs.declared.failure.Failure.TheVariants.{Memory as NoMemory};
 

@@ -4,7 +4,8 @@ ghost use Rattle.rail_model.specs.State.{Legal};
 ghost use Rattle.layout_json.specs.Doc.{table_at};
 ghost use Rattle.section_repair.specs.Claims.{DoomsAlike};
 ghost use Rattle.section_repair.specs.declared.repaired.Repair.TheVariants.{Done};
-ghost use Rattle.ats_run.specs.Command.{IsDocWith, RefusesRepair};
+ghost use Rattle.accepted_documents.specs.Accepting.{IsDocWith};
+ghost use Rattle.ats_run.specs.Command.{RefusesRepair};
 ghost use Rattle.ats_run.specs.Repairing.{IsRepairedAs, RepairsNone, AreRepaired, IsUnconnected, IsRepaired, FailsToRepair, HasConnection, IsRefusedStart};
 ghost use Rattle.ats_run.specs.declared.failure.Failure.TheVariants.{Memory as NoMemory};
 

@@ -7,8 +7,8 @@ ghost use Rattle.plain_yard.specs.Keeps.{Keeps};
 ghost use Rattle.move_journal.specs.Printable.{IsNamed};
 ghost use Rattle.train_sim.specs.Report.{Simulates, IsSoon};
 ghost use Rattle.layout_json.specs.Doc.{IsDoc, offers_of, times_of, names_of};
-ghost use Rattle.ats_run.specs.Certificates.{AreAccepted};
-ghost use Rattle.ats_run.specs.Command.{IsDocWith, RefusesCheck};
+ghost use Rattle.accepted_documents.specs.Accepting.{AreAccepted, IsDocWith};
+ghost use Rattle.ats_run.specs.Command.{RefusesCheck};
 ghost use Rattle.ats_run.specs.Simulating.{IsSimulated, timed_text, last_text};
 ghost use Rattle.ats_run.specs.declared.failure.Failure.TheVariants.{Memory as NoMemory};
 

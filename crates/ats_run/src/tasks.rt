@@ -1,5 +1,5 @@
 // What is left to do of an order that runs trains, once its document is checked.
-use crate::checked::Checked;
+use accepted_documents::Checked;
 use rail_model::PlainState;
 
 /// A run that is to be ended, or bytes that are printed already.

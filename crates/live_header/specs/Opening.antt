@@ -2,7 +2,8 @@
 use Rattle.std.specs.Prelude.{◌≡◌, Ok, true, false, string_bytes}
 use Rattle.layout_json.specs.Doc.{offers_of}
 use Rattle.layout_json.specs.Reading.{doc_of}
-use Rattle.live_header.specs.Accepting.{AreAccepted, IsDocWith, RefusesCheck}
+use Rattle.accepted_documents.specs.Accepting.{AreAccepted, IsDocWith}
+use Rattle.live_header.specs.Accepting.{RefusesCheck}
 use Rattle.live_header.specs.Hashing.{hash_text}
 use Rattle.live_header.specs.Journals.{IsBroken, LeadsTo}
 use Rattle.live_header.specs.Naming.{has_reports, suits}

@@ -1,17 +1,20 @@
--- What the fault of a journal is as a refusal.
-use Rattle.move_journal.specs.declared.faults.BadText.{BadText}
-use Rattle.move_journal.specs.declared.faults.BadText.TheVariants as text
-use Rattle.move_journal.specs.declared.faults.BadLine.{BadLine}
-use Rattle.move_journal.specs.declared.faults.BadLine.TheVariants as line
+-- What the refusal of a document or of a journal is as the refusal of a header.
+use Rattle.accepted_documents.specs.declared.refused.Unaccepted.{Unaccepted}
+use Rattle.accepted_documents.specs.declared.refused.Unaccepted.TheVariants as unaccepted
+use Rattle.accepted_documents.specs.declared.refused.BadJournal.{BadJournal}
+use Rattle.accepted_documents.specs.declared.refused.BadJournal.TheVariants as bad
 use Rattle.live_header.specs.declared.refused.Refused.{Refused}
 use Rattle.live_header.specs.declared.refused.Refused.TheVariants as refused
 
--- what the fault of a journal's text is as a refusal
-abbrev pub refused_text : BadText → Refused
-refused_text text.Memory = refused.Memory
-refused_text e = refused.Text e
+-- what the refusal of a document is as the refusal of a header
+abbrev pub refused_document : Unaccepted → Refused
+refused_document unaccepted.Memory = refused.Memory
+refused_document (unaccepted.Document e) = refused.Document e
+refused_document (unaccepted.Tree t e) = refused.Tree t e
+refused_document (unaccepted.Certificate t e) = refused.Certificate t e
 
--- what the fault of a journal's lines is as a refusal
-abbrev pub refused_line : BadLine → Refused
-refused_line line.Memory = refused.Memory
-refused_line e = refused.Line e
+-- what the refusal of a journal is as the refusal of a header
+abbrev pub refused_journal : BadJournal → Refused
+refused_journal bad.Memory = refused.Memory
+refused_journal (bad.Text e) = refused.Text e
+refused_journal (bad.Line e) = refused.Line e

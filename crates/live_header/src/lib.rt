@@ -2,7 +2,6 @@
 //! which goes on from there.
 #![tactic(auto)]
 
-mod accepting;
 mod hashing;
 mod journals;
 mod laws;

@@ -5,11 +5,11 @@ ghost use Rattle.live_header.specs.Naming.{suits};
 ghost use Rattle.live_header.specs.Opening.{IsOpened, IsOther, RefusesHeader};
 ghost use Rattle.live_header.specs.declared.refused.Refused.TheVariants.{Memory as NoMemory};
 
-use crate::accepting::{Checked, check_document};
 use crate::hashing::document_hash;
 use crate::journals::state_after;
 use crate::naming::{has_reports, suits};
 use crate::{Header, Refused};
+use accepted_documents::{Checked, check_document};
 use cert_checker::Accepted;
 use cert_tree::Cert;
 use layout_json::Frame;

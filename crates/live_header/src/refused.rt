@@ -1,13 +1,14 @@
 // Why a header begins no session.
 ghost use Rattle.std.specs.Prelude.{◌≡◌};
-ghost use Rattle.live_header.specs.Refusing.{refused_text, refused_line};
+ghost use Rattle.live_header.specs.Refusing.{refused_document, refused_journal};
 ghost use Rattle.live_header.specs.declared.refused.Refused.TheVariants.{Memory as NoMemory};
 
+use accepted_documents::{BadJournal, Unaccepted};
 use cert_tree::CertRefused;
 use layout_json::DocRefused;
 use move_journal::{BadLine, BadText};
 use rail_model::Bad;
-use std::alloc::{AllocError, AllocFailed};
+use std::alloc::AllocError;
 
 /// Why a whole header begins no session: the first cause, in this order.
 #[derive(Clone, Copy)]
@@ -36,32 +37,27 @@ impl From<AllocError> for Refused {
     }
 }
 
-impl<T: Drop> From<AllocFailed<T>> for Refused {
-    ghost from_gives = { λ _ e. e ≡ NoMemory };
+impl From<Unaccepted> for Refused {
+    ghost from_gives = { λ cause e. e ≡ refused_document cause };
 
-    fn from(_: AllocFailed<T>) -> Self {
-        Refused::Memory
-    }
-}
-
-impl From<BadText> for Refused {
-    ghost from_gives = { λ cause e. e ≡ refused_text cause };
-
-    fn from(cause: BadText) -> Self {
+    fn from(cause: Unaccepted) -> Self {
         match cause {
-            BadText::Memory => Refused::Memory,
-            cause => Refused::Text(cause),
+            Unaccepted::Memory => Refused::Memory,
+            Unaccepted::Document(refused) => Refused::Document(refused),
+            Unaccepted::Tree { table, refused } => Refused::Tree { table, refused },
+            Unaccepted::Certificate { table, bad } => Refused::Certificate { table, bad },
         }
     }
 }
 
-impl From<BadLine> for Refused {
-    ghost from_gives = { λ cause e. e ≡ refused_line cause };
+impl From<BadJournal> for Refused {
+    ghost from_gives = { λ cause e. e ≡ refused_journal cause };
 
-    fn from(cause: BadLine) -> Self {
+    fn from(cause: BadJournal) -> Self {
         match cause {
-            BadLine::Memory => Refused::Memory,
-            cause => Refused::Line(cause),
+            BadJournal::Memory => Refused::Memory,
+            BadJournal::Text(fault) => Refused::Text(fault),
+            BadJournal::Line(fault) => Refused::Line(fault),
         }
     }
 }

@@ -1,17 +1,18 @@
-use Rattle.std.proofs.Math.Logic.{⊎_map}
 use Rattle.std.proofs.lemmas.Result.{IfOk-weaker, IfErr-weaker}
-use Rattle.ats_run.proofs.PairFaults.{verified_input, verify_refused}
+use Rattle.ats_run.proofs.PairFaults.{unverified_input, verified_input}
 use Rattle.ats_run.proofs.verify.verify.Goals as goal
 
 pub returns-clause-verified : goal.returns-clause-verified
 returns-clause-verified g c =
     IfOk-weaker c.verify_given.result _ _
-    (λ text h. verified_input c.args.input.now c.in-Some.document.now c.in-Some.given.now c.in-Some.ensures c.in_ok-checked.checked.doc c.in_ok-checked.ensures.document text.items h)
+    (λ text h. verified_input c.args.input.now c.in-Some.document.now c.in-Some.given.now c.in-Some.ensures
+    c.in_ok-checked.checked.doc c.in_ok-checked.ensures.document text.items h)
     c.verify_given.ensures.verified
 
 pub returns-clause-refused : goal.returns-clause-refused
 returns-clause-refused g c =
     IfErr-weaker c.verify_given.result _ _
-    (λ e h. ⊎_map (λ m. m)
-    (verify_refused c.args.input.now c.in-Some.document.now c.in-Some.given.now c.in-Some.ensures c.in_ok-checked.checked.doc c.in_ok-checked.ensures.document e) h)
+    (unverified_input c.args.input.now c.in-Some.document.now c.in-Some.given.now c.in-Some.ensures
+    c.in_ok-checked.checked.doc c.in_ok-checked.ensures.document c.in_ok-checked.checked.certs.items
+    c.verify_given.ensures.formed c.in_ok-checked.ensures.accepted)
     c.verify_given.ensures.refused

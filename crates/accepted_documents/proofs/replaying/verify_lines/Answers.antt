@@ -1,0 +1,18 @@
+use Rattle.std.proofs.Common.{◌∙◌, sym, ap, subst}
+use Rattle.std.specs.Prelude.{IfErr}
+use Rattle.std.proofs.lemmas.List.{map-id}
+use Rattle.std.proofs.lemmas.Result.{err_from_is_err_and}
+use Rattle.rail_model.specs.Yard.{opening}
+use Rattle.layout_json.specs.Doc.{offers_of}
+use Rattle.accepted_documents.specs.Refusing.{IsBadLine}
+use Rattle.accepted_documents.proofs.RefusedJournals.{not_whole}
+use Rattle.accepted_documents.proofs.replaying.verify_lines.Goals as goal
+
+pub returns-in_err-verify-clause-lacks : goal.returns-in_err-verify-clause-lacks
+returns-in_err-verify-clause-lacks c =
+    let tables = offers_of c.args.doc.now in
+    let start = opening c.args.doc.now.start in
+    let got = err_from_is_err_and c.from_residual.result c.from_residual.ensures.1 in
+    subst (λ r. IfErr r (IsBadLine tables start c.args.journal.now)) (sym got.1)
+    (not_whole tables _ start _ c.args.journal.now c.in_err-verify.field-0.0 got.0
+    (map-id c.args.tables.now ∙ c.requires) (ap opening c.start.ensures.start) c.in_err-verify.ensures got.2)
