@@ -1,4 +1,5 @@
-//! The program `dispatch`: its words, the file of the document and the standard streams, handed to the calls of `dispatch_run`.
+//! The program `dispatch`: its words, the file of the document and the standard streams, handed to the calls of
+//! `dispatch_run`.
 #![tactic(auto)]
 
 use ats_io::{ReadAll, Reading, Writing, read_all};
@@ -6,7 +7,6 @@ use dispatch_run::{
     Failure, Order, Status, WordsAnswered, code, dispatch, refuse, turn_down, words,
 };
 use live_header::{MOST_BYTES, Unread};
-use live_service::LiveSessions;
 use std::fs::File;
 use std::process::ExitCode;
 use std::{env, io};
@@ -57,7 +57,7 @@ fn document(rt: &HostRuntime, order: Order<'_>) -> Result<Vec<u8>, Unread> {
 fn answer(rt: &HostRuntime, order: Order<'_>) -> Status {
     let mut err = Writing::new(rt.stderr());
     match document(rt, order) {
-        Ok(document) => dispatch::<LiveSessions, _, _, _>(
+        Ok(document) => dispatch(
             rt.alloc(),
             document,
             &mut Reading::new(rt.stdin()),

@@ -102,14 +102,20 @@ module _ (Q : Sessions) where
         | inr began ↦ inr (
           began.0,
           began.1,
-          began.2,
-          elim began.3 [
-            | inl first ↦ inl first
-            | inr after ↦ inr (
-              after.0,
-              after.1,
-              stops_later began.0 (h.line ++ more) (failed ⊎ IsEndless all)
-                  (failed_now ⊎ IsEndless more) sink_failed sink_failed after.0 new e source (λ so. so) after.2,
+          elim began.2 [
+            | inl none ↦ inl none
+            | inr talked ↦ inr (
+              talked.0,
+              talked.1,
+              elim talked.2 [
+                | inl first ↦ inl first
+                | inr after ↦ inr (
+                  after.0,
+                  after.1,
+                  stops_later began.0 (h.line ++ more) (failed ⊎ IsEndless all)
+                      (failed_now ⊎ IsEndless more) sink_failed sink_failed after.0 new e source (λ so. so) after.2,
+                )
+              ],
             )
           ],
         )

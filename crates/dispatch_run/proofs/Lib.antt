@@ -1,4 +1,8 @@
 pub mod Dispatches
+pub mod EnoughNames
 pub mod FoundWords
 mod Rows
+mod RowsOfSessions
+pub mod Runs
+pub mod Served
 pub mod Talks

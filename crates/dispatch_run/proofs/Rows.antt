@@ -11,7 +11,7 @@ use Rattle.live_header.specs.declared.reading.Unread.TheVariants.{NoLive, NoJour
 use Rattle.live_header.specs.declared.refused.Refused.TheVariants.{Other}
 use Rattle.dispatch_run.specs.declared.failure.Failure.TheVariants.{Unread, Header, Broken}
 use Rattle.dispatch_run.specs.declared.status.Status.TheVariants as status
-use Rattle.dispatch_run.specs.Dispatching.{BreaksOffServing, IsCause, IsDispatched, IsServed, Sessions, TellsCause, header_of}
+use Rattle.dispatch_run.specs.Dispatching.{BreaksOffServing, BreaksOffTalking, IsCause, IsDispatched, IsServed, IsTalk, Sessions, TellsCause, header_of}
 use Rattle.dispatch_run.specs.Ending.{code, status_of}
 use Rattle.dispatch_run.specs.Report.{Tells, line_of}
 use Rattle.dispatch_run.specs.Words.{document_in}
@@ -58,25 +58,36 @@ Silent from line to text GoesOn = (to ≡ from) × (text ≡ [])
 Silent from line to text Ends = ⊥
 
 abbrev silent : Sessions
-silent = record { State = ℕ; answers = Silent; last = λ s. codes "z"; begins = λ opened s text. text ≡ codes "a" }
+silent = record {
+  State = ℕ;
+  answers = Silent;
+  last = λ s. codes "z";
+  opens = λ s text. text ≡ codes "a";
+  begins = λ opened s. s ≡ 0;
+}
 
 -- one whose input is a line
-pub served : (opened : Opened) → IsServed silent opened (codes "ping\n") (codes "az")
-served opened = record {
-  session = 0;
+pub talk : IsTalk silent 0 (codes "ping\n") (codes "az")
+talk = record {
   ready = codes "a";
-  begun = refl;
+  opens = refl;
   told = codes "z";
   answered = (0, [], GoesOn, inr (0, [], [], (refl, refl), (refl, refl, refl), refl), refl);
   whole = refl;
 }
+
+pub served : (opened : Opened) → IsServed silent opened (codes "ping\n") (codes "az")
+served opened = record { session = 0; begun = refl; talk = talk }
 
 -- the input of one, with its header
 pub dispatched : (opened : Opened) → IsOpened (header_of [] (codes "{}\njournal\nlive\nping\n")) opened
     → IsDispatched silent [] (codes "{}\njournal\nlive\nping\n") (codes "az")
 dispatched opened opens = record { whole = refl; opened = opened; opens = opens; served = served opened }
 
--- without memory before the first text nothing is written
+-- without memory for the first text nothing is written, nor without memory for the session
+pub no_talk : BreaksOffTalking silent 0 [] ⊥ ⊥ (Some []) (Some []) Memory
+no_talk = inl (refl, refl)
+
 pub unbegun : (opened : Opened) → BreaksOffServing silent opened [] ⊥ ⊥ (Some []) (Some []) Memory
 unbegun opened = inl (refl, refl)
 

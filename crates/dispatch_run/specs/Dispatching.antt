@@ -19,22 +19,29 @@ use Rattle.dispatch_run.specs.Conversing.{StopsTalking}
 use Rattle.dispatch_run.specs.Ending.{status_of}
 use Rattle.dispatch_run.specs.Report.{Tells, line_of, no_memory_line}
 
--- The sessions: what lines are answered with, what is written last, and with which first text a session of what a
--- header opens begins.
+-- The sessions: what lines are answered with, what is written last, with which first text a session begins, and which
+-- sessions what a header opens begins.
 pub record Sessions : Type 1 where
   pub State : Type 0
   pub answers : AnswerRelation State
   pub last : State → List ℕ
-  pub begins : Opened → State → List ℕ → Type 0
+  pub opens : State → List ℕ → Type 0
+  pub begins : Opened → State → Type 0
 
--- The text is what is written in a session of what a header opens, whose lines are in these bytes.
-pub record IsServed (Q : Sessions) (opened : Opened) (bytes written : List ℕ) : Type 0 where
-  pub session : Q.State
+-- The text is what is written in this session, whose lines are in these bytes: its first text, and then the answers and
+-- the last line.
+pub record IsTalk (Q : Sessions) (session : Q.State) (bytes written : List ℕ) : Type 0 where
   pub ready : List ℕ
-  pub begun : Q.begins opened session ready
+  pub opens : Q.opens session ready
   pub told : List ℕ
   pub answered : IsSession Q.answers Q.last session bytes told
   pub whole : written ≡ ready ++ told
+
+-- The text is what is written in a session of what a header opens.
+pub record IsServed (Q : Sessions) (opened : Opened) (bytes written : List ℕ) : Type 0 where
+  pub session : Q.State
+  pub begun : Q.begins opened session
+  pub talk : IsTalk Q session bytes written
 
 -- The header that these bytes of an input make, after those of its document.
 abbrev pub header_of : List ℕ → List ℕ → Header
@@ -47,14 +54,22 @@ pub record IsDispatched (Q : Sessions) (document input written : List ℕ) : Typ
   pub opens : IsOpened (header_of document input) opened
   pub served : IsServed Q opened (header_of document input).line written
 
--- What the sink took where a session broke off: nothing, where there was no memory before the first text; else a
--- first part of what is written for these bytes.
+-- What the sink took where this session broke off: nothing, where there was no memory for the first text; else a first
+-- part of what is written for these bytes.
+abbrev pub BreaksOffTalking : (Q : Sessions) → Q.State → List ℕ → Type 0 → Type 0 → Option (List ℕ) → Option (List ℕ)
+    → ServeFault → Type 0
+BreaksOffTalking Q session bytes source_failed sink_failed old new fault =
+    ((fault ≡ Memory) × Adds old new [])
+    ⊎ ((ready : List ℕ) × Q.opens session ready
+    × StopsTalking Q.answers Q.last session ready bytes source_failed sink_failed old new fault)
+
+-- The same of a session of what a header opens; nothing, too, where there was no memory for the session.
 abbrev pub BreaksOffServing : Sessions → Opened → List ℕ → Type 0 → Type 0 → Option (List ℕ) → Option (List ℕ)
     → ServeFault → Type 0
 BreaksOffServing Q opened bytes source_failed sink_failed old new fault =
     ((fault ≡ Memory) × Adds old new [])
-    ⊎ ((session : Q.State) × (ready : List ℕ) × Q.begins opened session ready
-    × StopsTalking Q.answers Q.last session ready bytes source_failed sink_failed old new fault)
+    ⊎ ((session : Q.State) × Q.begins opened session
+    × BreaksOffTalking Q session bytes source_failed sink_failed old new fault)
 
 -- The cause of a failure, and what was written: nothing where there was no session.
 abbrev pub IsCause : Sessions → List ℕ → List ℕ → Type 0 → Type 0 → Type 0 → Option (List ℕ) → Option (List ℕ)

@@ -2,5 +2,8 @@ pub mod Beginning
 pub mod Conversing
 pub mod Dispatching
 pub mod Ending
+pub mod LiveSessions
 pub mod Report
+pub mod Restoring
+pub mod Running
 pub mod Words

@@ -6,7 +6,7 @@ ghost use Rattle.line_service.specs.declared.server.ServeFault.TheVariants.{Memo
 use std::alloc::{AllocError, AllocFailed};
 
 /// What becomes of a session after a line.
-#[derive(Clone, Copy, Debug, PartialEq, Eq)]
+#[derive(Clone, Copy)]
 pub enum Course {
     GoesOn,
     Ends,
@@ -31,7 +31,7 @@ pub trait LineServer {
 }
 
 /// Why a service broke off.
-#[derive(Clone, Copy, Debug, PartialEq, Eq)]
+#[derive(Clone, Copy)]
 pub enum ServeFault {
     /// There was no memory.
     Memory,

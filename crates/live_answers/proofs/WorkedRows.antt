@@ -2,11 +2,11 @@
 use Rattle.std.proofs.Common.{◌≡◌, ◌∷◌, [], true, false, None, Some, refl, lit≤}
 use Rattle.rail_model.proofs.Samples.{corridor}
 use Rattle.rail_model.specs.Yard.{Yard}
-use Rattle.reported_moves.specs.declared.told.Told.TheVariants.{Arrived, Away, May, Occupied}
-use Rattle.waiting_trains.specs.Seen.{Seen}
-use Rattle.live_replies.specs.declared.tables.TableAnswer.TheVariants.{NoMore}
-use Rattle.live_replies.specs.declared.told.Cause.TheVariants as cause
-use Rattle.live_replies.specs.declared.told.Prospect.TheVariants as prospect
+use Rattle.live_yard.specs.declared.told.Told.TheVariants.{Arrived, Away, May, Occupied}
+use Rattle.live_answers.specs.Seen.{Seen}
+use Rattle.live_lines.specs.declared.tables.TableAnswer.TheVariants.{NoMore}
+use Rattle.live_lines.specs.declared.told.Cause.TheVariants as cause
+use Rattle.live_lines.specs.declared.told.Prospect.TheVariants as prospect
 use Rattle.live_answers.specs.Fits.{IsFit}
 use Rattle.live_answers.specs.Prospects.{IsCause, IsProspect, next_spot, spot_at}
 use Rattle.live_answers.specs.Rows.{AreRows, Says, is_arrived, is_away, is_may, of_told, there_of, waits}

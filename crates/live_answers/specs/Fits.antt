@@ -3,8 +3,8 @@ use Rattle.std.specs.Prelude.{◌≡◌, ◌↔◌, ℕ, ◌+◌, ◌≤◌, Lis
 use Rattle.rail_model.specs.declared.types.Tried.TheVariants as tried
 use Rattle.rail_model.specs.Exchange.{Admits}
 use Rattle.rail_model.specs.Yard.{Offer, Yard, in_force, next_offer, IsNextDue, IsOpen}
-use Rattle.live_replies.specs.declared.tables.TableAnswer.{TableAnswer}
-use Rattle.live_replies.specs.declared.tables.TableAnswer.TheVariants.{NoMore, Fits, Differs, Over}
+use Rattle.live_lines.specs.declared.tables.TableAnswer.{TableAnswer}
+use Rattle.live_lines.specs.declared.tables.TableAnswer.TheVariants.{NoMore, Fits, Differs, Over}
 
 -- The next table has this number, and this says whether it is due.
 abbrev pub IsNextTable : List Offer → Yard → ℕ → Bool → Type 0

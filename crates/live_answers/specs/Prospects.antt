@@ -2,16 +2,16 @@
 use Rattle.std.specs.Prelude.{◌≡◌, ℕ, ◌+◌, ◌<◌, ◌≤◌, pos, List, length, Some, slice_get}
 use Rattle.rail_model.specs.Names.{Names}
 use Rattle.rail_model.specs.Table.{Table, Connection, trains, change, limit, place, point}
-use Rattle.reported_moves.specs.declared.told.Told.{Told}
-use Rattle.reported_moves.specs.declared.told.Told.TheVariants.{May, Arrived, Occupied, Full, Waits, Away, Leaving, Clearing}
-use Rattle.waiting_trains.specs.Causes.{in_the_way}
-use Rattle.waiting_trains.specs.Seen.{Seen}
-use Rattle.live_replies.specs.declared.told.Spot.{Spot}
-use Rattle.live_replies.specs.declared.told.Room.{Room}
-use Rattle.live_replies.specs.declared.told.Cause.{Cause}
-use Rattle.live_replies.specs.declared.told.Cause.TheVariants as cause
-use Rattle.live_replies.specs.declared.told.Prospect.{Prospect}
-use Rattle.live_replies.specs.declared.told.Prospect.TheVariants as prospect
+use Rattle.live_yard.specs.declared.told.Told.{Told}
+use Rattle.live_yard.specs.declared.told.Told.TheVariants.{May, Arrived, Occupied, Full, Waits, Away, Leaving, Clearing}
+use Rattle.live_answers.specs.Causes.{in_the_way}
+use Rattle.live_answers.specs.Seen.{Seen}
+use Rattle.live_lines.specs.declared.told.Spot.{Spot}
+use Rattle.live_lines.specs.declared.told.Room.{Room}
+use Rattle.live_lines.specs.declared.told.Cause.{Cause}
+use Rattle.live_lines.specs.declared.told.Cause.TheVariants as cause
+use Rattle.live_lines.specs.declared.told.Prospect.{Prospect}
+use Rattle.live_lines.specs.declared.told.Prospect.TheVariants as prospect
 
 -- Each train and each point of the table has a name.
 pub record HasNames (N : Names) (T : Table) : Type 0 where
@@ -39,7 +39,8 @@ abbrev pub IsCause : Seen → ℕ → Told → Cause → Type 0
 IsCause v i (Occupied by) (cause.Occupied j) = j ≡ by
 IsCause v i (Full s n) (cause.Full room) = IsRoom v i s n (in_the_way v (Full s n)) room
 IsCause v i (Waits c) (cause.Connection d j k) =
-    (d ≡ c) × ((held : Connection) × (slice_get v.table.connections c ≡ Some held) × (j ≡ held.other) × (k ≡ held.reached))
+    (d ≡ c) × ((held : Connection) × (slice_get v.table.connections c ≡ Some held) × (j ≡ held.other)
+    × (k ≡ held.reached))
 IsCause v i Away (cause.Away k) = k ≡ place v.positions i
 IsCause v i (Leaving by) (cause.Leaving j) = j ≡ by
 IsCause v i (Clearing s n) (cause.Clearing room) = IsRoom v i s n (in_the_way v (Clearing s n)) room

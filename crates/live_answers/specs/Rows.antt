@@ -2,19 +2,19 @@
 use Rattle.std.specs.Prelude.{◌≡◌, ℕ, zero, suc, List, [], ◌++◌, length, slice_index, filter, count_by, codes, Bool, true, false, not, ◌||◌, Option, Some, None, if◌then◌else◌}
 use Rattle.rail_model.specs.Names.{Names, train_name}
 use Rattle.rail_model.specs.Table.{trains, place}
-use Rattle.reported_moves.specs.declared.told.Told.{Told}
-use Rattle.reported_moves.specs.declared.told.Told.TheVariants.{May, Arrived, Away}
-use Rattle.waiting_trains.specs.Seen.{Seen, AreTold, told_at}
-use Rattle.waiting_trains.specs.Waiting.{AreAwaited}
-use Rattle.live_replies.specs.Answers.{train_words, why_words}
-use Rattle.live_replies.specs.Lines.{line_of}
-use Rattle.live_replies.specs.Rows.{row_words}
-use Rattle.live_replies.specs.Session.{session_words}
-use Rattle.live_replies.specs.declared.rows.Row.TheVariants as row
-use Rattle.live_replies.specs.declared.session.Counts.{Counts}
-use Rattle.live_replies.specs.declared.session.SessionAnswer.TheVariants.{Could, State}
-use Rattle.live_replies.specs.declared.told.Prospect.{Prospect}
-use Rattle.live_replies.specs.declared.trains.TrainAnswer.TheVariants as answer
+use Rattle.live_yard.specs.declared.told.Told.{Told}
+use Rattle.live_yard.specs.declared.told.Told.TheVariants.{May, Arrived, Away}
+use Rattle.live_answers.specs.Seen.{Seen, AreTold, told_at}
+use Rattle.live_answers.specs.Waiting.{AreAwaited}
+use Rattle.live_lines.specs.Answers.{train_words, why_words}
+use Rattle.live_lines.specs.Lines.{line_of}
+use Rattle.live_lines.specs.Rows.{row_words}
+use Rattle.live_lines.specs.Session.{session_words}
+use Rattle.live_lines.specs.declared.rows.Row.TheVariants as row
+use Rattle.live_lines.specs.declared.session.Counts.{Counts}
+use Rattle.live_lines.specs.declared.session.SessionAnswer.TheVariants.{Could, State}
+use Rattle.live_lines.specs.declared.told.Prospect.{Prospect}
+use Rattle.live_lines.specs.declared.trains.TrainAnswer.TheVariants as answer
 use Rattle.live_answers.specs.Prospects.{IsProspect, spot_at}
 
 -- The text grew by one of which the fact holds.
@@ -57,7 +57,8 @@ abbrev pub TellsAll : Names → Seen → List ℕ → List ℕ → Type 0
 TellsAll N v tag text =
     (tolds : List Told) × (rows : List ℕ) × AreTold v tolds
     × AreRows (λ i. IsToldRow N v tag i (told_at tolds i)) (trains v.table) rows
-    × (text ≡ rows ++ line_of tag (session_words (Could (count_by is_may tolds) (count_by waits tolds) (count_by is_arrived tolds))))
+    × (text ≡ rows ++ line_of tag (session_words (Could (count_by is_may tolds) (count_by waits tolds)
+    (count_by is_arrived tolds))))
 
 -- the place that a train has reported, where trains report
 abbrev pub there_of : Seen → Bool → ℕ → Option ℕ
@@ -66,12 +67,14 @@ there_of v reports i = if reports then Some (place v.reported i) else None
 -- A row on where train i is, and what it is told.
 abbrev pub IsAtRow : Names → Seen → List ℕ → Bool → List Told → ℕ → List ℕ → Type 0
 IsAtRow N v tag reports tolds i text =
-    text ≡ line_of tag (row_words N (row.At (spot_at v i (place v.positions i)) (told_at tolds i) (there_of v reports i)))
+    text ≡ line_of tag (row_words N (row.At (spot_at v i (place v.positions i)) (told_at tolds i)
+    (there_of v reports i)))
 
 -- The answer to `state`: a row for each train, and the counts.
 abbrev pub TellsState : Names → Seen → List ℕ → Bool → Counts → List ℕ → Type 0
 TellsState N v tag reports counts text =
-    (tolds : List Told) × (rows : List ℕ) × AreTold v tolds × AreRows (IsAtRow N v tag reports tolds) (trains v.table) rows
+    (tolds : List Told) × (rows : List ℕ) × AreTold v tolds
+    × AreRows (IsAtRow N v tag reports tolds) (trains v.table) rows
     × (text ≡ rows ++ line_of tag (session_words (State counts)))
 
 -- whether a train is told this
@@ -88,5 +91,6 @@ why_line N tag tolds waiting i =
 abbrev pub TellsWhy : Names → Seen → List ℕ → ℕ → List ℕ → Type 0
 TellsWhy N v tag i text =
     (tolds : List Told) × (waiting : List ℕ) × (rows : List ℕ) × AreTold v tolds × AreAwaited v tolds i waiting
-    × AreRows (λ k. IsToldRow N v tag (slice_index waiting k) (told_at tolds (slice_index waiting k))) (length waiting) rows
+    × AreRows (λ k. IsToldRow N v tag (slice_index waiting k) (told_at tolds (slice_index waiting k))) (length waiting)
+    rows
     × (text ≡ rows ++ why_line N tag tolds waiting i)

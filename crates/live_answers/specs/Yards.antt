@@ -2,8 +2,8 @@
 use Rattle.std.specs.Prelude.{ℕ, zero, suc, ◌+◌, ◌==◌, List, length, Bool, if◌then◌else◌}
 use Rattle.rail_model.specs.Table.{trains, last, place}
 use Rattle.rail_model.specs.Yard.{Offer, Yard}
-use Rattle.waiting_trains.specs.Seen.{Seen}
-use Rattle.live_replies.specs.declared.session.Counts.{Counts}
+use Rattle.live_answers.specs.Seen.{Seen}
+use Rattle.live_lines.specs.declared.session.Counts.{Counts}
 
 -- how many numbers below n are chosen
 abbrev pub number_of : (ℕ → Bool) → ℕ → ℕ

@@ -4,9 +4,9 @@ ghost use Rattle.rail_model.specs.Table.{trains};
 ghost use Rattle.live_answers.specs.Yards.{counts_of as counts_of_yard, is_last, number_of};
 ghost use Rattle.table_exchange.specs.Tables.{AreTables};
 
-use live_replies::Counts;
+use crate::Scene;
+use live_lines::Counts;
 use rail_model::{HasTable, Standing};
-use waiting_trains::Scene;
 
 // How many trains are at their last places.
 fn arrived_of(scene: &Scene<'_>) -> u32

@@ -2,17 +2,17 @@
 ghost use Rattle.std.specs.Prelude.{◌≡◌, ◌+◌, ◌<◌, ◌<ℤ◌, All, length, pos};
 ghost use Rattle.rail_model.specs.Names.{Names as NameLists};
 ghost use Rattle.rail_model.specs.Table.{change, last, place as place_of, trains};
-ghost use Rattle.reported_moves.specs.declared.told.Told.TheVariants.{Waits};
-ghost use Rattle.waiting_trains.specs.Causes.{in_the_way};
-ghost use Rattle.waiting_trains.specs.Seen.{IsTold};
-ghost use Rattle.live_replies.specs.Told.{IsNamedCause, IsNamedProspect, IsNamedSpot};
-ghost use Rattle.live_replies.specs.declared.told.Prospect.TheVariants.{Waits as HasToWait};
+ghost use Rattle.live_yard.specs.declared.told.Told.TheVariants.{Waits};
+ghost use Rattle.live_answers.specs.Causes.{in_the_way};
+ghost use Rattle.live_answers.specs.Seen.{IsTold};
+ghost use Rattle.live_lines.specs.Told.{IsNamedCause, IsNamedProspect, IsNamedSpot};
+ghost use Rattle.live_lines.specs.declared.told.Prospect.TheVariants.{Waits as HasToWait};
 ghost use Rattle.live_answers.specs.Prospects.{HasNames, IsCause, IsProspect, IsRoom, next_spot as next_spot_of, spot_at};
 
-use live_replies::{Cause, Prospect, Room, Spot};
+use crate::{Scene, connection};
+use live_lines::{Cause, Prospect, Room, Spot};
+use live_yard::Told;
 use rail_model::{change_at, limit_of, point_of};
-use reported_moves::Told;
-use waiting_trains::{Scene, connection};
 
 /// A train at one of its places.
 pub(crate) fn spot(scene: &Scene<'_>, train: u32, place: u32) -> Spot

@@ -1,17 +1,17 @@
 // Rows and answers on what trains are told.
 ghost use Rattle.std.specs.Prelude.{◌≡◌, ◌<◌, ◌≤◌, OnOk, count_by, length};
 ghost use Rattle.rail_model.specs.Table.{trains};
-ghost use Rattle.waiting_trains.specs.Seen.{AreTold, IsTold, told_at};
-ghost use Rattle.live_replies.specs.declared.session.SessionAnswer.TheVariants.{Could};
+ghost use Rattle.live_answers.specs.Seen.{AreTold, IsTold, told_at};
+ghost use Rattle.live_lines.specs.declared.session.SessionAnswer.TheVariants.{Could};
 ghost use Rattle.live_answers.specs.Prospects.{HasNames};
 ghost use Rattle.live_answers.specs.Rows.{AreRows, IsAtRow, IsToldAnswer, IsToldRow, Says, TellsAll, TellsState, is_arrived as is_arrived_told, is_may as is_may_told, there_of, waits as waits_told};
 
 use crate::prospects::{prospect_of, spot};
-use live_replies::{Answer, Counts, Row, SessionAnswer, TrainAnswer, push_answer, push_row};
+use crate::{Scene, in_the_way, tolds_of};
+use live_lines::{Answer, Counts, Row, SessionAnswer, TrainAnswer, push_answer, push_row};
+use live_yard::Told;
 use rail_model::Names;
-use reported_moves::Told;
 use std::alloc::{AllocError, Global};
-use waiting_trains::{Scene, in_the_way, tolds_of};
 
 /// Adds what a train was told, as the answer to its request.
 pub fn push_told(
@@ -70,7 +70,8 @@ fn push_told_rows(
 ) -> Result<(), AllocError>
     requires named { HasNames names.now scene.now.table }
     requires told { AreTold scene.now tolds.now }
-    ensures { OnOk result (Says (AreRows (λ i. IsToldRow names.now scene.now tag.now i (told_at tolds.now i)) (trains scene.now.table))
+    ensures { OnOk result (Says (AreRows (λ i. IsToldRow names.now scene.now tag.now i (told_at tolds.now i))
+        (trains scene.now.table))
         out.old.items out.new.items) }
 {
     for train in 0..scene.trains() {
@@ -112,7 +113,8 @@ fn waiting_of(tolds: &[Told]) -> usize
 // How many trains may go on, wait and have arrived.
 fn could_of(tolds: &[Told]) -> SessionAnswer<'static>
     requires { length tolds.now ≤ 32 }
-    ensures { result ≡ Could (count_by is_may_told tolds.now) (count_by waits_told tolds.now) (count_by is_arrived_told tolds.now) }
+    ensures { result ≡ Could (count_by is_may_told tolds.now) (count_by waits_told tolds.now)
+        (count_by is_arrived_told tolds.now) }
 {
     let may = may_of(tolds) as u32;
     let wait = waiting_of(tolds) as u32;
@@ -179,7 +181,8 @@ fn push_at_row(
     requires named { HasNames names.now scene.now.table }
     requires train { train < trains scene.now.table }
     requires told { AreTold scene.now tolds.now }
-    ensures { OnOk result (Says (IsAtRow names.now scene.now tag.now reports tolds.now train) out.old.items out.new.items) }
+    ensures { OnOk result (Says (IsAtRow names.now scene.now tag.now reports tolds.now train) out.old.items
+        out.new.items) }
 {
     let row = Row::At {
         spot: spot(scene, train, scene.place(train)),
@@ -201,7 +204,8 @@ fn push_at_rows(
 ) -> Result<(), AllocError>
     requires named { HasNames names.now scene.now.table }
     requires told { AreTold scene.now tolds.now }
-    ensures { OnOk result (Says (AreRows (IsAtRow names.now scene.now tag.now reports tolds.now) (trains scene.now.table))
+    ensures { OnOk result (Says (AreRows (IsAtRow names.now scene.now tag.now reports tolds.now)
+        (trains scene.now.table))
         out.old.items out.new.items) }
 {
     for train in 0..scene.trains() {

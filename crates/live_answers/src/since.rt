@@ -4,7 +4,7 @@ ghost use Rattle.move_journal.specs.Printable.{IsNamed};
 ghost use Rattle.live_answers.specs.Rows.{AreRows, Says};
 ghost use Rattle.live_answers.specs.Since.{IsSinceRow, TellsSince};
 
-use live_replies::{Answer, Refusal, SessionAnswer, push_answer, push_journal_row};
+use live_lines::{Answer, Refusal, SessionAnswer, push_answer, push_journal_row};
 use rail_model::{Line, Names};
 use std::alloc::{AllocError, Global};
 

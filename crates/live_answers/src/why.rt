@@ -1,17 +1,17 @@
 // What a train waits for, directly or through others.
 ghost use Rattle.std.specs.Prelude.{◌≡◌, ◌<◌, ◌≤◌, ◌++◌, All, IfOk, OnOk, filter, length, slice_index};
 ghost use Rattle.rail_model.specs.Table.{trains};
-ghost use Rattle.waiting_trains.specs.Seen.{AreTold, told_at};
-ghost use Rattle.waiting_trains.specs.Waiting.{AreAwaited};
+ghost use Rattle.live_answers.specs.Seen.{AreTold, told_at};
+ghost use Rattle.live_answers.specs.Waiting.{AreAwaited};
 ghost use Rattle.live_answers.specs.Prospects.{HasNames};
 ghost use Rattle.live_answers.specs.Rows.{AreRows, IsToldRow, Says, TellsWhy, is_away, is_may, of_told, why_line};
 
 use crate::rows::push_told_row;
-use live_replies::{Answer, TrainAnswer, push_answer};
+use crate::{Scene, awaited, tolds_of};
+use live_lines::{Answer, TrainAnswer, push_answer};
+use live_yard::Told;
 use rail_model::Names;
-use reported_moves::Told;
 use std::alloc::{AllocError, Global};
-use waiting_trains::{Scene, awaited, tolds_of};
 
 // Adds a row for each train of a list.
 fn push_rows_of(

@@ -1,3 +1,9 @@
+pub mod Beginnings
 mod Found
-mod Rows
+mod RowsOfLines
+mod RowsOfTexts
+mod Steps
+pub mod Tags
+pub mod Telling
 mod WordCounts
+mod WorkedRows

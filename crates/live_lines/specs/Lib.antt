@@ -1,3 +1,11 @@
+pub mod Answers
 pub mod Hearing
+pub mod Kinds
+pub mod Lines
+pub mod Refusals
+pub mod Rows
+pub mod Session
+pub mod Tables
+pub mod Told
 pub mod Verbs
 pub mod Words

@@ -1,7 +1,7 @@
 -- What each verb asks for.
 use Rattle.std.specs.Prelude.{ℕ, List, [], ◌∷◌, codes, Bool, true, false, Option, Some, None, Result, Ok, Err, if◌then◌else◌}
 use Rattle.std.specs.Str.{bytes_eq}
-use Rattle.live_requests.specs.declared.types.Request.TheVariants.{Ask as AskFor, Want as WantFor, Drop as DropOf, At as AtPlace, Table as TryTable}
+use Rattle.live_yard.specs.declared.requests.Request.TheVariants.{Ask as AskFor, Want as WantFor, Drop as DropOf, At as AtPlace, Table as TryTable}
 use Rattle.rail_model.specs.Names.{Names}
 use Rattle.live_lines.specs.declared.calls.Call.{Call}
 use Rattle.live_lines.specs.declared.calls.Call.TheVariants.{Serve, Can as CanCall, Why as WhyCall, State as StateCall, Fits as FitsCall, Since as SinceCall, Ping as PingCall, Hello as HelloCall, Help as HelpCall, Quit as QuitCall}
@@ -41,7 +41,8 @@ alone _ = Err BadWords
 
 -- the train after `can`, or `*` for each
 unfoldable pub can_of : Names → List (List ℕ) → Result Call Fault
-can_of N (word ∷ []) = if bytes_eq word (codes "*") then Ok (CanCall None) else (train_word N word >>= λ i. Ok (CanCall (Some i)))
+can_of N (word ∷ []) =
+    if bytes_eq word (codes "*") then Ok (CanCall None) else (train_word N word >>= λ i. Ok (CanCall (Some i)))
 can_of N _ = Err BadWords
 
 -- a train and a place after `at`; where trains don't report, two words are refused whatever they are

@@ -30,7 +30,10 @@ has_ten_digits word = (length word == 10) && not (slice_index word 0 == 48) && l
 
 -- a whole number, as a word writes it; ten digits that are above 2 ^ 32 - 1 are read as that
 unfoldable pub number_word : List ℕ → Result ℕ Fault
-number_word word = elim (number_of word) [ Some n ↦ Ok n | None ↦ (if has_ten_digits word then Ok (2 ^ 32 - 1) else Err Words) ]
+number_word word = elim (number_of word) [
+  | Some n ↦ Ok n
+  | None ↦ (if has_ten_digits word then Ok (2 ^ 32 - 1) else Err Words)
+]
 
 -- one word, a train
 abbrev pub only_train : Names → List (List ℕ) → Result ℕ Fault

@@ -1,8 +1,8 @@
 // What a line is, as plain data.
-use live_requests::Request;
+use live_yard::Request;
 
 /// What a line asks for. A train is its number.
-#[derive(Clone, Copy, Debug, PartialEq, Eq)]
+#[derive(Clone, Copy)]
 pub enum Call {
     /// Something that may change the yard.
     Serve { request: Request },
@@ -27,7 +27,7 @@ pub enum Call {
 }
 
 /// Why a line is no request.
-#[derive(Clone, Copy, Debug, PartialEq, Eq)]
+#[derive(Clone, Copy)]
 pub enum Fault {
     /// It has too many bytes.
     Long,
@@ -46,7 +46,7 @@ pub enum Fault {
 }
 
 /// What a line is. Its tag are its first bytes, so many, with the `#`; 0 where it has none.
-#[derive(Clone, Copy, Debug, PartialEq, Eq)]
+#[derive(Clone, Copy)]
 pub enum Heard {
     /// An empty line, which has no answer.
     Empty,

@@ -80,8 +80,8 @@ fn hear_words(names: &Names, reports: bool, line: &[u8]) -> Heard
     under(0, call_of(names, reports, line))
 }
 
-/// What a line is, without its newline and the carriage return before it: nothing where it is empty; else the first fault
-/// of its length, its bytes, its tag and its words; else a request.
+/// What a line is, without its newline and the carriage return before it: nothing where it is empty; else the first
+/// fault of its length, its bytes, its tag and its words; else a request.
 #[tactic(auto, unfolding(crate::specs::Hearing::heard))]
 pub fn hear(names: &Names, reports: bool, line: &[u8]) -> Heard
     ensures { result ≡ spec.heard names.now reports line.now }

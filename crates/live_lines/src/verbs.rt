@@ -9,7 +9,7 @@ use crate::words::{
     Named, last_word, number_word, only_number, only_train, split_word, train_and_place, train_word,
 };
 use crate::{Call, Fault};
-use live_requests::Request;
+use live_yard::Request;
 use rail_model::Names;
 
 // The word before the others.

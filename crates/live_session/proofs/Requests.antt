@@ -2,13 +2,13 @@
 use Rattle.std.proofs.Common.{◌≡◌, ◌⊎◌, ℕ, ◌+◌, ◌<◌, ◌≤◌, List, [], ◌∷◌, ◌++◌, length, sym, ap, subst, ◌∙◌, arith, length-append, inl, inr}
 use Rattle.std.specs.Prelude.{slice_index}
 use Rattle.std.proofs.lemmas.List.{length-set}
-use Rattle.reported_moves.specs.declared.told.Told.{Told}
-use Rattle.reported_moves.specs.declared.told.Told.TheVariants.{May, Arrived, Occupied, Full, Waits, Away, Leaving, Clearing}
-use Rattle.live_requests.specs.declared.types.Reply.{Reply}
-use Rattle.live_requests.specs.declared.types.Reply.TheVariants.{Granted, Held, Elsewhere, Dropped, There, NotThere, NoReports, Tried, TriedBefore, TooSoon, NoTable}
-use Rattle.live_requests.specs.declared.types.Request.{Request}
-use Rattle.live_requests.specs.declared.types.Request.TheVariants.{Ask, Want, Drop, At, Table}
-use Rattle.live_requests.specs.declared.types.Served.{Served}
+use Rattle.live_yard.specs.declared.told.Told.{Told}
+use Rattle.live_yard.specs.declared.told.Told.TheVariants.{May, Arrived, Occupied, Full, Waits, Away, Leaving, Clearing}
+use Rattle.live_yard.specs.declared.requests.Reply.{Reply}
+use Rattle.live_yard.specs.declared.requests.Reply.TheVariants.{Granted, Held, Elsewhere, Dropped, There, NotThere, NoReports, Tried, TriedBefore, TooSoon, NoTable}
+use Rattle.live_yard.specs.declared.requests.Request.{Request}
+use Rattle.live_yard.specs.declared.requests.Request.TheVariants.{Ask, Want, Drop, At, Table}
+use Rattle.live_yard.specs.declared.requests.Served.{Served}
 use Rattle.live_yard.specs.Answers.{IsOfRun, IsServed, Serves, Wants}
 use Rattle.live_yard.specs.Firing.{DispatchState, Fires, IsSettled, fired}
 use Rattle.live_yard.specs.Reported.{Reported, TellsTrain}

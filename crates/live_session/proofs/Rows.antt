@@ -6,19 +6,19 @@ use Rattle.rail_model.proofs.Samples.{names}
 use Rattle.rail_model.specs.declared.types.Line.{Line}
 use Rattle.rail_model.specs.declared.types.Line.TheVariants as line
 use Rattle.rail_model.specs.declared.types.Tried.TheVariants.{Early, Exchanged}
-use Rattle.granted_lines.specs.declared.lines.Passed.TheVariants as passed
-use Rattle.reported_moves.specs.declared.told.Told.TheVariants.{Away}
-use Rattle.live_requests.specs.declared.types.Elsewhere.TheVariants as elsewhere
-use Rattle.live_requests.specs.declared.types.Reply.TheVariants as reply
-use Rattle.live_requests.specs.declared.types.Request.TheVariants.{Ask, Want}
+use Rattle.live_yard.specs.declared.granted_lines.Passed.TheVariants as passed
+use Rattle.live_yard.specs.declared.told.Told.TheVariants.{Away}
+use Rattle.live_yard.specs.declared.requests.Elsewhere.TheVariants as elsewhere
+use Rattle.live_yard.specs.declared.requests.Reply.TheVariants as reply
+use Rattle.live_yard.specs.declared.requests.Request.TheVariants.{Ask, Want}
 use Rattle.line_service.specs.declared.server.Course.TheVariants.{Ends, GoesOn}
 use Rattle.live_lines.specs.declared.calls.Call.TheVariants.{Ping, Quit}
 use Rattle.live_lines.specs.declared.calls.Fault.TheVariants as fault
-use Rattle.live_replies.specs.declared.answers.Answer.TheVariants as answer
-use Rattle.live_replies.specs.declared.refusals.Refusal.TheVariants as refusal
-use Rattle.live_replies.specs.declared.tables.TableAnswer.TheVariants as tables
-use Rattle.live_replies.specs.declared.tables.TableLine.TheVariants as table
-use Rattle.live_replies.specs.declared.trains.TrainAnswer.TheVariants as train
+use Rattle.live_lines.specs.declared.answers.Answer.TheVariants as answer
+use Rattle.live_lines.specs.declared.refusals.Refusal.TheVariants as refusal
+use Rattle.live_lines.specs.declared.tables.TableAnswer.TheVariants as tables
+use Rattle.live_lines.specs.declared.tables.TableLine.TheVariants as table
+use Rattle.live_lines.specs.declared.trains.TrainAnswer.TheVariants as train
 use Rattle.live_session.specs.Answering.{course_of, fired_text, is_whole, line_text, refused_text, tags_with}
 use Rattle.live_session.specs.News.{done_text, due_text, exchanges, news_text, was_due}
 use Rattle.live_session.specs.Replies.{answer_of, keeps_tag, place_named, spot_by, table_line, target_of, train_of, tried_answer}

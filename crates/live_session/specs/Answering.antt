@@ -5,12 +5,12 @@ use Rattle.rail_model.specs.declared.types.Line.TheVariants as line
 use Rattle.rail_model.specs.Journal.{words}
 use Rattle.rail_model.specs.Names.{Names}
 use Rattle.rail_model.specs.Table.{place}
-use Rattle.reported_moves.specs.declared.told.Told.{Told}
-use Rattle.waiting_trains.specs.Seen.{Seen, IsTold}
-use Rattle.live_requests.specs.declared.types.Reply.{Reply}
-use Rattle.live_requests.specs.declared.types.Reply.TheVariants.{Held}
-use Rattle.live_requests.specs.declared.types.Request.{Request}
-use Rattle.live_requests.specs.declared.types.Served.{Served}
+use Rattle.live_yard.specs.declared.told.Told.{Told}
+use Rattle.live_answers.specs.Seen.{Seen, IsTold}
+use Rattle.live_yard.specs.declared.requests.Reply.{Reply}
+use Rattle.live_yard.specs.declared.requests.Reply.TheVariants.{Held}
+use Rattle.live_yard.specs.declared.requests.Request.{Request}
+use Rattle.live_yard.specs.declared.requests.Served.{Served}
 use Rattle.line_service.specs.declared.server.Course.{Course}
 use Rattle.line_service.specs.declared.server.Course.TheVariants.{GoesOn, Ends}
 use Rattle.live_lines.specs.Hearing.{heard}
@@ -20,17 +20,17 @@ use Rattle.live_lines.specs.declared.calls.Fault.{Fault}
 use Rattle.live_lines.specs.declared.calls.Fault.TheVariants as fault
 use Rattle.live_lines.specs.declared.calls.Heard.{Heard}
 use Rattle.live_lines.specs.declared.calls.Heard.TheVariants.{Empty, Asked, Refused}
-use Rattle.live_replies.specs.Answers.{answer_words}
-use Rattle.live_replies.specs.Lines.{close_text, line_of}
-use Rattle.live_replies.specs.Refusals.{fault_words}
-use Rattle.live_replies.specs.Rows.{event_words, help_text}
-use Rattle.live_replies.specs.Session.{counts_words, session_words}
-use Rattle.live_replies.specs.Tables.{table_words}
-use Rattle.live_replies.specs.declared.answers.Answer.{Answer}
-use Rattle.live_replies.specs.declared.events.Event.TheVariants.{Granted}
-use Rattle.live_replies.specs.declared.session.Counts.{Counts}
-use Rattle.live_replies.specs.declared.session.SessionAnswer.TheVariants.{Bye, Pong}
-use Rattle.live_replies.specs.declared.tables.TableAnswer.{TableAnswer}
+use Rattle.live_lines.specs.Answers.{answer_words}
+use Rattle.live_lines.specs.Lines.{close_text, line_of}
+use Rattle.live_lines.specs.Refusals.{fault_words}
+use Rattle.live_lines.specs.Rows.{event_words, help_text}
+use Rattle.live_lines.specs.Session.{counts_words, session_words}
+use Rattle.live_lines.specs.Tables.{table_words}
+use Rattle.live_lines.specs.declared.answers.Answer.{Answer}
+use Rattle.live_lines.specs.declared.events.Event.TheVariants.{Granted}
+use Rattle.live_lines.specs.declared.session.Counts.{Counts}
+use Rattle.live_lines.specs.declared.session.SessionAnswer.TheVariants.{Bye, Pong}
+use Rattle.live_lines.specs.declared.tables.TableAnswer.{TableAnswer}
 use Rattle.live_yard.specs.Answers.{IsOfRun, IsServed}
 use Rattle.live_yard.specs.Reported.{positions_of}
 use Rattle.live_answers.specs.Fits.{IsFit}
@@ -48,7 +48,8 @@ line_text N n l = decimal n ++ words N l ++ codes "\n"
 
 -- The line of the journal that comes k lines after the first so many.
 abbrev pub IsLineRow : Names → List Line → ℕ → ℕ → List ℕ → Type 0
-IsLineRow N lines from k text = (l : Line) × (slice_get lines (from + k) ≡ Some l) × (text ≡ line_text N (from + k + 1) l)
+IsLineRow N lines from k text = (l : Line) × (slice_get lines (from + k) ≡ Some l)
+    × (text ≡ line_text N (from + k + 1) l)
 
 -- the event of a want that this line granted, behind the tag of the want
 abbrev pub fired_text : Names → List ℕ → List (List ℕ) → ℕ → Line → List ℕ
@@ -65,18 +66,21 @@ IsFiredRow N p tags lines from k text =
 -- The answer of a request that was replied so.
 abbrev pub IsReply : Names → Seen → List ℕ → List Line → Start → Request → Reply → List ℕ → Type 0
 IsReply N v tag lines start request reply text =
-    ((answer : Answer) × (answer_of lines start request reply ≡ Some answer) × (text ≡ line_of tag (answer_words N answer)))
+    ((answer : Answer) × (answer_of lines start request reply ≡ Some answer)
+    × (text ≡ line_of tag (answer_words N answer)))
     ⊎ ((told : Told) × (reply ≡ Held told) × IsToldAnswer N v tag (train_of request) told text)
 
--- What is told after a request: that a table is due that wasn't due before, and that all is done that wasn't done before.
+-- What is told after a request: that a table is due that wasn't due before, and that all is done that wasn't done
+-- before.
 abbrev pub IsNews : SessionState → Status → List ℕ → Type 0
 IsNews t before text =
     (now : Status) × IsStatus t.dispatch.yard.run.tables t.dispatch.yard.run.yard now
     × (text ≡ news_text t.names before now t.dispatch.yard.run.yard.moves (exchanges (lines t)))
 
--- The text of a request, by the session after it: its own line, its answer, each want that was granted, with its line, and
--- what is told then.
-pub record IsServedText (t : SessionState) (tag : List ℕ) (request : Request) (start : Start) (before : Status) (served : Served)
+-- The text of a request, by the session after it: its own line, its answer, each want that was granted, with its line,
+-- and what is told then.
+pub record IsServedText (t : SessionState) (tag : List ℕ) (request : Request) (start : Start) (before : Status)
+    (served : Served)
     (text : List ℕ) : Type 0 where
   pub own : List ℕ
   pub answer : List ℕ
@@ -84,7 +88,8 @@ pub record IsServedText (t : SessionState) (tag : List ℕ) (request : Request) 
   pub news : List ℕ
   pub own_told : AreRows (IsLineRow t.names (lines t) start.line) (length (lines t) - served.granted - start.line) own
   pub answered : IsReply t.names (seen t) tag (lines t) start request served.reply answer
-  pub wants_told : AreRows (IsFiredRow t.names (positions_of t.dispatch.yard) t.tags (lines t) (length (lines t) - served.granted))
+  pub wants_told : AreRows (IsFiredRow t.names (positions_of t.dispatch.yard) t.tags (lines t)
+      (length (lines t) - served.granted))
       served.granted fired
   pub news_told : IsNews t before news
   pub joined : text ≡ own ++ (answer ++ (fired ++ news))
@@ -95,7 +100,8 @@ tags_with tags tag None = tags
 tags_with tags tag (Some i) = slice_set tags i tag
 
 -- A request is served.
-pub record IsRequestServed (s : SessionState) (tag : List ℕ) (request : Request) (t : SessionState) (text : List ℕ) : Type 0 where
+pub record IsRequestServed (s : SessionState) (tag : List ℕ) (request : Request) (t : SessionState)
+    (text : List ℕ) : Type 0 where
   pub served : Served
   pub before : Status
   pub serves : IsServed s.dispatch request served t.dispatch
@@ -142,7 +148,8 @@ course_of other = GoesOn
 -- A call is answered: a request of the run is served, and all else changes nothing.
 abbrev pub IsCalled : SessionState → List ℕ → Call → SessionState → List ℕ → Type 0
 IsCalled s tag what t text =
-    ((request : Request) × (what ≡ call.Serve request) × IsOfRun (trains s) request × IsRequestServed s tag request t text)
+    ((request : Request) × (what ≡ call.Serve request) × IsOfRun (trains s) request
+    × IsRequestServed s tag request t text)
     ⊎ ((t ≡ s) × IsQueryText s tag what text)
 
 -- A line is answered by what it is.

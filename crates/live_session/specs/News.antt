@@ -4,9 +4,9 @@ use Rattle.rail_model.specs.declared.types.Line.{Line}
 use Rattle.rail_model.specs.Journal.{IsDone, is_table}
 use Rattle.rail_model.specs.Names.{Names}
 use Rattle.rail_model.specs.Yard.{Offer, Yard, IsNextDue}
-use Rattle.live_replies.specs.Lines.{line_of}
-use Rattle.live_replies.specs.Rows.{event_words}
-use Rattle.live_replies.specs.declared.events.Event.TheVariants.{Due, Done}
+use Rattle.live_lines.specs.Lines.{line_of}
+use Rattle.live_lines.specs.Rows.{event_words}
+use Rattle.live_lines.specs.declared.events.Event.TheVariants.{Due, Done}
 use Rattle.live_session.specs.declared.status.Status.{Status}
 
 -- The next table, where it is due, and whether all is done.

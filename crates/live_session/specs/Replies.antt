@@ -5,23 +5,23 @@ use Rattle.rail_model.specs.declared.types.Line.TheVariants as line
 use Rattle.rail_model.specs.declared.types.Tried.{Tried}
 use Rattle.rail_model.specs.declared.types.Tried.TheVariants as tried
 use Rattle.rail_model.specs.Yard.{next_offer}
-use Rattle.granted_lines.specs.declared.lines.Passed.TheVariants as passed
-use Rattle.live_requests.specs.declared.types.Elsewhere.{Elsewhere}
-use Rattle.live_requests.specs.declared.types.Elsewhere.TheVariants as elsewhere
-use Rattle.live_requests.specs.declared.types.Reply.{Reply}
-use Rattle.live_requests.specs.declared.types.Reply.TheVariants as reply
-use Rattle.live_requests.specs.declared.types.Request.{Request}
-use Rattle.live_requests.specs.declared.types.Request.TheVariants as request
+use Rattle.live_yard.specs.declared.granted_lines.Passed.TheVariants as passed
+use Rattle.live_yard.specs.declared.requests.Elsewhere.{Elsewhere}
+use Rattle.live_yard.specs.declared.requests.Elsewhere.TheVariants as elsewhere
+use Rattle.live_yard.specs.declared.requests.Reply.{Reply}
+use Rattle.live_yard.specs.declared.requests.Reply.TheVariants as reply
+use Rattle.live_yard.specs.declared.requests.Request.{Request}
+use Rattle.live_yard.specs.declared.requests.Request.TheVariants as request
 use Rattle.live_lines.specs.declared.calls.Fault.TheVariants as fault
-use Rattle.live_replies.specs.declared.answers.Answer.{Answer}
-use Rattle.live_replies.specs.declared.answers.Answer.TheVariants.{Train, Table, Refused}
-use Rattle.live_replies.specs.declared.refusals.Refusal.TheVariants as refusal
-use Rattle.live_replies.specs.declared.tables.TableAnswer.{TableAnswer}
-use Rattle.live_replies.specs.declared.tables.TableAnswer.TheVariants as tables
-use Rattle.live_replies.specs.declared.tables.TableLine.{TableLine}
-use Rattle.live_replies.specs.declared.tables.TableLine.TheVariants as table
-use Rattle.live_replies.specs.declared.told.Spot.{Spot}
-use Rattle.live_replies.specs.declared.trains.TrainAnswer.TheVariants as train
+use Rattle.live_lines.specs.declared.answers.Answer.{Answer}
+use Rattle.live_lines.specs.declared.answers.Answer.TheVariants.{Train, Table, Refused}
+use Rattle.live_lines.specs.declared.refusals.Refusal.TheVariants as refusal
+use Rattle.live_lines.specs.declared.tables.TableAnswer.{TableAnswer}
+use Rattle.live_lines.specs.declared.tables.TableAnswer.TheVariants as tables
+use Rattle.live_lines.specs.declared.tables.TableLine.{TableLine}
+use Rattle.live_lines.specs.declared.tables.TableLine.TheVariants as table
+use Rattle.live_lines.specs.declared.told.Spot.{Spot}
+use Rattle.live_lines.specs.declared.trains.TrainAnswer.TheVariants as train
 use Rattle.live_yard.specs.Firing.{DispatchState}
 use Rattle.live_yard.specs.Reported.{place_of}
 use Rattle.live_session.specs.declared.start.Start.{Start}
@@ -44,7 +44,8 @@ place_named (request.Ask i named) = named_or_none named
 place_named (request.Want i named) = named_or_none named
 place_named other = 0
 
--- what was so before a request: the place of its train, the lines, the tables that were tried, and when the next one is due
+-- what was so before a request: the place of its train, the lines, the tables that were tried, and when the next one
+-- is due
 abbrev pub start_of : DispatchState → Request → Start
 start_of v r = record {
   place = place_of v.yard (train_of r);
@@ -81,12 +82,14 @@ tried_answer start tried.NoMore = tables.NoMore
 abbrev pub elsewhere_answer : List Line → Request → Elsewhere → Answer
 elsewhere_answer lines r (elsewhere.Beyond l) = Refused (refusal.Place l)
 elsewhere_answer lines r (elsewhere.Ahead at) = Refused (refusal.Ahead at)
-elsewhere_answer lines r (elsewhere.Before (passed.Granted n)) = Train (train.Again (spot_by lines (train_of r) (place_named r) n) n)
+elsewhere_answer lines r (elsewhere.Before (passed.Granted n)) =
+    Train (train.Again (spot_by lines (train_of r) (place_named r) n) n)
 elsewhere_answer lines r (elsewhere.Before (passed.Begun k)) = Refused (refusal.Before k)
 
 -- the answer of a request; none where its train has to wait or has arrived
 abbrev pub answer_of : List Line → Start → Request → Reply → Option Answer
-answer_of lines start r (reply.Granted n) = Some (Train (train.Granted (spot_by lines (train_of r) (start.place + 1) n) n))
+answer_of lines start r (reply.Granted n) =
+    Some (Train (train.Granted (spot_by lines (train_of r) (start.place + 1) n) n))
 answer_of lines start r (reply.Held told) = None
 answer_of lines start r (reply.Elsewhere place) = Some (elsewhere_answer lines r place)
 answer_of lines start r (reply.Dropped n) = Some (Train (train.Dropped (train_of r) n))

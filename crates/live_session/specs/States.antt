@@ -3,13 +3,14 @@ use Rattle.std.specs.Prelude.{◌≡◌, ℕ, List, length}
 use Rattle.rail_model.specs.declared.types.Line.{Line}
 use Rattle.rail_model.specs.Names.{Names}
 use Rattle.move_journal.specs.Printable.{AreEnough}
-use Rattle.waiting_trains.specs.Seen.{Seen}
-use Rattle.live_replies.specs.declared.session.Counts.{Counts}
+use Rattle.live_answers.specs.Seen.{Seen}
+use Rattle.live_lines.specs.declared.session.Counts.{Counts}
 use Rattle.live_yard.specs.Firing.{DispatchState}
 use Rattle.live_yard.specs.Reported.{positions_of, table_of}
 use Rattle.live_answers.specs.Yards.{counts_of}
 
--- What trains and points are called, the hash of the document, the dispatcher, and for each train the tag of its last want.
+-- What trains and points are called, the hash of the document, the dispatcher, and for each train the tag of its last
+-- want.
 pub record SessionState : Type 0 where
   pub names : Names
   pub document : List ℕ

@@ -2,15 +2,13 @@
 ghost use Rattle.std.specs.Prelude.{◌≡◌, ◌⊎◌, ◌-◌, ◌<◌, ◌^◌, All, IfSome, ℕ, length, slice_get};
 ghost use Rattle.rail_model.specs.Names.{Names as NameLists};
 ghost use Rattle.move_journal.specs.Printable.{IsNamed as IsNamedLine};
-ghost use Rattle.live_replies.specs.Answers.{IsNamed};
-ghost use Rattle.live_replies.specs.Told.{IsNamedSpot};
+ghost use Rattle.live_lines.specs.Answers.{IsNamed};
+ghost use Rattle.live_lines.specs.Told.{IsNamedSpot};
 ghost use Rattle.live_session.specs.Replies as spec;
 
 use crate::start::{Start, train_of};
-use granted_lines::Passed;
-use live_lines::Fault;
-use live_replies::{Answer, Refusal, Spot, TableAnswer, TableLine, TrainAnswer};
-use live_requests::{Elsewhere, Reply, Request};
+use live_lines::{Answer, Fault, Refusal, Spot, TableAnswer, TableLine, TrainAnswer};
+use live_yard::{Elsewhere, Passed, Reply, Request};
 use rail_model::{Line, Tried};
 
 // The line of a number.
@@ -93,7 +91,8 @@ fn place_named(request: Request) -> u32
 // The answer on a place that isn't a train's next one.
 fn elsewhere_answer(lines: &[Line], request: Request, place: Elsewhere) -> Answer<'static>
     ensures answer { result ≡ spec.elsewhere_answer lines.now request place }
-    ensures named { (N : NameLists) → All (IsNamedLine N) lines.now → spec.train_of request < length N.trains → IsNamed N result }
+    ensures named { (N : NameLists) → All (IsNamedLine N) lines.now → spec.train_of request < length N.trains
+        → IsNamed N result }
 {
     match place {
         Elsewhere::Beyond { last } => Answer::Refused(Refusal::Place { last }),

@@ -1,7 +1,7 @@
 // Lines, each by what it asks for.
 ghost use Rattle.std.specs.Prelude.{◌≡◌, ◌↔◌, IfOk, IsTrue, MatchOption, OnOk, take};
 ghost use Rattle.live_lines.specs.declared.calls.Call.TheVariants.{Serve};
-ghost use Rattle.live_requests.specs.declared.types.Request.{Request as RequestValue};
+ghost use Rattle.live_yard.specs.declared.requests.Request.{Request as RequestValue};
 ghost use Rattle.live_answers.specs.Rows.{Says};
 ghost use Rattle.live_session.specs.Answering.{course_of as course_of_call, IsCalled, IsHeard};
 ghost use Rattle.live_yard.specs.Answers.{IsOfRun};
@@ -9,7 +9,7 @@ ghost use Rattle.live_yard.specs.Answers.{IsOfRun};
 use crate::Session;
 use line_service::Course;
 use live_lines::{Call, Heard};
-use live_requests::Request;
+use live_yard::Request;
 use plain_yard::CheckedTable;
 use std::alloc::AllocError;
 

@@ -3,6 +3,7 @@
 
 mod answers;
 mod calls;
+mod laws;
 mod lines;
 mod news;
 mod queries;
@@ -13,4 +14,5 @@ mod start;
 mod status;
 mod tags;
 
+pub use laws::{the_last_line_tells_the_end, written_lines_are_the_journal};
 pub use session::Session;

@@ -6,7 +6,7 @@ ghost use Rattle.live_session.specs.Answering.{fired_text, IsFiredRow, IsLineRow
 
 use crate::start::place_in;
 use crate::tags::WantTags;
-use live_replies::{Event, Spot, push_event, push_journal_line};
+use live_lines::{Event, Spot, push_event, push_journal_line};
 use rail_model::{Line, Names, State};
 use std::alloc::{AllocError, Global};
 
@@ -87,7 +87,8 @@ fn push_fired_row(
     requires named { All (IsNamed names.now) lines.now }
     requires within { from + index < length lines.now }
     requires few { length lines.now < 2 ^ 31 }
-    ensures { OnOk result (Says (IsFiredRow names.now state.now tags.now lines.now from index) out.old.items out.new.items) }
+    ensures { OnOk result (Says (IsFiredRow names.now state.now tags.now lines.now from index) out.old.items
+        out.new.items) }
 {
     let at = from + index;
     let line = lines[at];
@@ -109,7 +110,8 @@ pub(crate) fn push_fired_lines(
     requires named { All (IsNamed names.now) lines.now }
     requires within { from + count ≤ length lines.now }
     requires few { length lines.now < 2 ^ 31 }
-    ensures { OnOk result (Says (AreRows (IsFiredRow names.now state.now tags.now lines.now from) count) out.old.items out.new.items) }
+    ensures { OnOk result (Says (AreRows (IsFiredRow names.now state.now tags.now lines.now from) count) out.old.items
+        out.new.items) }
 {
     for index in 0..count {
         push_fired_row(alloc, out, names, state, tags, lines, from, index)?;

@@ -3,7 +3,7 @@ ghost use Rattle.std.specs.Prelude.{◌≡◌, ◌++◌, OnOk};
 ghost use Rattle.live_session.specs.News.{done_text, due_text, news_text};
 
 use crate::status::Status;
-use live_replies::{Event, push_event};
+use live_lines::{Event, push_event};
 use rail_model::Names;
 use std::alloc::{AllocError, Global};
 

@@ -1,23 +1,24 @@
 // Calls that change nothing.
 ghost use Rattle.std.specs.Prelude.{◌≡◌, ◌++◌, OnOk, Some};
 ghost use Rattle.live_lines.specs.declared.calls.Call.TheVariants.{Can, Fits, Serve, Since, Why};
-ghost use Rattle.live_requests.specs.declared.types.Request.{Request as RequestValue};
-ghost use Rattle.live_replies.specs.Lines.{line_of};
-ghost use Rattle.live_replies.specs.Session.{session_words};
+ghost use Rattle.live_yard.specs.declared.requests.Request.{Request as RequestValue};
+ghost use Rattle.live_lines.specs.Lines.{line_of};
+ghost use Rattle.live_lines.specs.Session.{session_words};
 ghost use Rattle.live_answers.specs.Rows.{Says};
 ghost use Rattle.live_session.specs.Answering.{IsQueryText, ready_text as ready_text_of, refused_text};
 
 use crate::Session;
 use live_answers::{fit_of, push_since, push_state, push_told, push_told_all, push_why};
-use live_lines::{Call, Fault};
-use live_replies::{Answer, Refusal, SessionAnswer, TableAnswer, push_answer, push_help};
+use live_lines::{
+    Answer, Call, Fault, Refusal, SessionAnswer, TableAnswer, push_answer, push_help,
+};
 use plain_yard::CheckedTable;
 use std::alloc::AllocError;
 
 impl<'a, A: CheckedTable> Session<'a, A> {
     ghost use Rattle.std.specs.Prelude.{◌<◌, ◌≤◌, length};
     ghost use Rattle.live_answers.specs.Fits.{IsFit};
-    ghost use Rattle.live_replies.specs.Tables.{IsNamedTable};
+    ghost use Rattle.live_lines.specs.Tables.{IsNamedTable};
     ghost use Rattle.live_session.specs.States.{trains};
     ghost use Rattle.live_yard.specs.Answers.{IsOfRun};
 
@@ -25,10 +26,7 @@ impl<'a, A: CheckedTable> Session<'a, A> {
     pub(crate) fn trains(&self) -> u32
         ensures { result ≡ trains self.now }
     {
-        let yard = self.yard.yard();
-        // Read for the proof: the trains are few.
-        let _run = yard.run();
-        yard.there().len() as u32
+        self.yard.yard().there().len() as u32
     }
 
     // Refuses a line.
@@ -72,10 +70,7 @@ impl<'a, A: CheckedTable> Session<'a, A> {
         ensures named { IsNamedTable self.now.names result }
     {
         let run = self.yard.yard().run();
-        // Read for the proof: the tables, the state and the names.
-        let _table = run.live_in_force();
-        let _scene = self.scene();
-        fit_of(run.tables(), run.yard())
+        fit_of(self.table(), run.tables(), run.yard())
     }
 
     // Whether the next table would take over.
@@ -108,10 +103,7 @@ impl<'a, A: CheckedTable> Session<'a, A> {
     fn last_line(&self) -> u32
         ensures { result ≡ length self.now.dispatch.yard.run.lines }
     {
-        let run = self.yard.yard().run();
-        // Read for the proof: the lines are few.
-        let _table = run.live_in_force();
-        run.lines().len() as u32
+        self.lines().len() as u32
     }
 
     // Answers a call that changes nothing.

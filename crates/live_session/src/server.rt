@@ -7,8 +7,7 @@ use crate::Session;
 use crate::news::push_due;
 use crate::status::exchanges_of;
 use line_service::{Course, LineServer};
-use live_lines::hear;
-use live_replies::push_close;
+use live_lines::{hear, push_close};
 use plain_yard::CheckedTable;
 use std::alloc::AllocError;
 

@@ -1,7 +1,7 @@
 // Requests that are served, and their texts.
 ghost use Rattle.std.specs.Prelude.{◌≡◌, OnOk};
-ghost use Rattle.reported_moves.specs.declared.told.Told.{Told as ToldValue};
-ghost use Rattle.live_requests.specs.declared.types.Reply.TheVariants.{Held};
+ghost use Rattle.live_yard.specs.declared.told.Told.{Told as ToldValue};
+ghost use Rattle.live_yard.specs.declared.requests.Reply.TheVariants.{Held};
 ghost use Rattle.live_answers.specs.Rows.{Says};
 ghost use Rattle.live_session.specs.Answering.{IsNews, IsReply, IsRequestServed, IsServedText};
 
@@ -13,14 +13,14 @@ use crate::start::{Start, start_of, train_of};
 use crate::status::{Status, exchanges_of};
 use crate::tags::keep_tag;
 use live_answers::push_told;
-use live_replies::push_answer;
-use live_requests::{Reply, Request, Served};
+use live_lines::push_answer;
+use live_yard::{Reply, Request, Served};
 use plain_yard::CheckedTable;
 use std::alloc::AllocError;
 
 impl<'a, A: CheckedTable> Session<'a, A> {
     ghost use Rattle.std.specs.Prelude.{◌⊎◌, ◌+◌, ◌<◌, ◌≤◌, length};
-    ghost use Rattle.waiting_trains.specs.Seen.{IsTold};
+    ghost use Rattle.live_answers.specs.Seen.{IsTold};
     ghost use Rattle.live_session.specs.Replies.{IsOnTable, train_of as train_of_request};
     ghost use Rattle.live_session.specs.States.{lines, seen, trains};
     ghost use Rattle.live_yard.specs.Answers.{IsOfRun};
@@ -40,7 +40,8 @@ impl<'a, A: CheckedTable> Session<'a, A> {
         requires named { (train_of_request request < trains self.now) ⊎ IsOnTable reply }
         requires held { (told : ToldValue) → reply ≡ Held told
             → (train_of_request request < trains self.now) × IsTold (seen self.now) (train_of_request request) told }
-        ensures { OnOk result (Says (IsReply self.now.names (seen self.now) tag.now (lines self.now) start request reply)
+        ensures { OnOk result (Says (IsReply self.now.names (seen self.now) tag.now (lines self.now) start request
+            reply)
             text.old.items text.new.items) }
     {
         let scene = self.scene();
@@ -88,7 +89,8 @@ impl<'a, A: CheckedTable> Session<'a, A> {
         requires held { (told : ToldValue) → served.reply ≡ Held told
             → (train_of_request request < trains self.now) × IsTold (seen self.now) (train_of_request request) told }
         requires counted { start.line + served.granted ≤ length (lines self.now) }
-        ensures { OnOk result (Says (IsServedText self.now tag.now request start before served) text.old.items text.new.items) }
+        ensures { OnOk result (Says (IsServedText self.now tag.now request start before served) text.old.items
+            text.new.items) }
     {
         let lines = self.lines();
         let state = self.yard.yard().run().yard().positions();
@@ -121,8 +123,6 @@ impl<'a, A: CheckedTable> Session<'a, A> {
     {
         let start = start_of(&self.yard, request);
         let before = self.status();
-        // Read for the proof: no standing want can be granted.
-        let _yard = self.yard.yard();
         let served = self.yard.serve(request);
         keep_tag(self.alloc, &mut self.tags, tag, request, served.reply)?;
         self.push_served(tag, request, start, before, served, text)

@@ -5,16 +5,16 @@ ghost use Rattle.live_session.specs.Answering.{IsOpening};
 
 use crate::status::{Status, status_of};
 use crate::tags::WantTags;
-use live_answers::counts_of;
-use live_replies::Counts;
+use live_answers::{Scene, counts_of};
+use live_lines::Counts;
 use live_yard::LiveYard;
-use plain_yard::CheckedTable;
-use rail_model::{Line, Names};
+use plain_yard::{CheckedTable, PlainYard};
+use rail_model::{Line, Names, Table};
 use std::alloc::{AllocError, Global};
 use std::marker::Model;
-use waiting_trains::Scene;
 
-/// What trains and points are called, the hash of the document, the dispatcher, and for each train the tag of its last want.
+/// What trains and points are called, the hash of the document, the dispatcher, and for each train the tag of its last
+/// want.
 #[derive(Drop)]
 pub struct Session<'a, A: CheckedTable> {
     pub(crate) alloc: Global,
@@ -31,7 +31,12 @@ impl<'a, A: CheckedTable> Model for Session<'a, A> {
 
     ghost view = { λ s. record { names = s.names.now; document = s.document.now; dispatch = s.yard; tags = s.tags } };
 
-    ghost invariant = { λ s. IsReady (record { names = s.names.now; document = s.document.now; dispatch = s.yard; tags = s.tags }) };
+    ghost invariant = { λ s. IsReady (record {
+      names = s.names.now;
+      document = s.document.now;
+      dispatch = s.yard;
+      tags = s.tags;
+    }) };
 }
 
 impl<'a, A: CheckedTable> Session<'a, A> {
@@ -40,7 +45,8 @@ impl<'a, A: CheckedTable> Session<'a, A> {
     ghost use Rattle.live_answers.specs.Prospects.{HasNames};
     ghost use Rattle.live_session.specs.News.{IsStatus};
     ghost use Rattle.live_session.specs.States.{counts, lines, seen};
-    ghost use Rattle.live_yard.specs.Reported.{IsReported};
+    ghost use Rattle.live_yard.specs.Reported.{IsReported, table_of};
+    ghost use Rattle.table_exchange.specs.Tables.{AreTables, Stands};
 
     /// A session that begins with a dispatcher.
     ///
@@ -78,15 +84,33 @@ impl<'a, A: CheckedTable> Session<'a, A> {
         &self.yard
     }
 
+    // The run: its tables, its yard and its journal's lines.
+    fn run(&self) -> &PlainYard<'a, A>
+        ensures run { result.now ≡ self.now.dispatch.yard.run }
+        ensures reported { IsReported self.now.dispatch.yard }
+        ensures enough { AreEnough self.now.names self.now.dispatch.yard.run.tables }
+    {
+        self.yard.yard().run()
+    }
+
+    // The table in force.
+    pub(crate) fn table(&self) -> &Table
+        ensures table { result.now ≡ table_of self.now.dispatch.yard }
+        ensures named { HasNames self.now.names result.now }
+        ensures tables { AreTables self.now.dispatch.yard.run.tables }
+        ensures stands { Stands self.now.dispatch.yard.run.tables self.now.dispatch.yard.run.yard }
+    {
+        self.yard.yard().run().live_in_force()
+    }
+
     // The trains, as they are looked at.
     pub(crate) fn scene(&self) -> Scene<'_>
         ensures scene { result ≡ seen self.now }
         ensures named { HasNames self.now.names result.table }
-        ensures reported { IsReported self.now.dispatch.yard }
+        ensures tables { AreTables self.now.dispatch.yard.run.tables }
     {
         let yard = self.yard.yard();
-        let run = yard.run();
-        Scene::new(run.live_in_force(), run.yard().positions(), yard.there())
+        Scene::new(self.table(), yard.run().yard().positions(), yard.there())
     }
 
     // The journal's lines.
@@ -95,18 +119,14 @@ impl<'a, A: CheckedTable> Session<'a, A> {
         ensures named { All (IsNamed self.now.names) (lines self.now) }
         ensures few { length (lines self.now) ≤ 4079 }
     {
-        // Read for the proof: the lines are right and few.
-        let _scene = self.scene();
-        self.yard.yard().run().lines()
+        self.run().lines()
     }
 
     // The counts of the yard.
     pub(crate) fn counts(&self) -> Counts
         ensures { result ≡ counts self.now }
     {
-        let run = self.yard.yard().run();
-        // Read for the proof: the tables are well formed.
-        let _table = run.live_in_force();
+        let run = self.run();
         counts_of(
             &self.scene(),
             run.tables(),
@@ -119,9 +139,7 @@ impl<'a, A: CheckedTable> Session<'a, A> {
     pub(crate) fn status(&self) -> Status
         ensures { IsStatus self.now.dispatch.yard.run.tables self.now.dispatch.yard.run.yard result }
     {
-        let run = self.yard.yard().run();
-        // Read for the proof: the tables and the state are well formed.
-        let _table = run.live_in_force();
-        status_of(run.tables(), run.yard())
+        let run = self.run();
+        status_of(self.table(), run.tables(), run.yard())
     }
 }

@@ -1,14 +1,15 @@
 // What was so before a request.
 ghost use Rattle.std.specs.Prelude.{◌≡◌, ◌<◌, ◌≤◌, slice_index};
+ghost use Rattle.live_yard.specs.Firing.{IsSettled};
 ghost use Rattle.live_session.specs.Replies.{start_of as start_of_request, train_of as train_of_request};
 
-use live_requests::Request;
-use live_yard::LiveYard;
+use live_yard::{LiveYard, Request};
 use plain_yard::CheckedTable;
 use rail_model::{HasTable, State};
 
-/// The place of the request's train, the lines, the tables that were tried, and after how many moves the next one is due.
-#[derive(Clone, Copy, Debug, PartialEq, Eq)]
+/// The place of the request's train, the lines, the tables that were tried, and after how many moves the next one is
+/// due.
+#[derive(Clone, Copy)]
 pub struct Start {
     pub place: u32,
     pub line: u32,
@@ -46,6 +47,7 @@ pub(crate) fn start_of<A: CheckedTable>(yard: &LiveYard<'_, A>, request: Request
     ensures lines { result.line ≤ 4079 }
     ensures tables { result.tried < 16 }
     ensures place { result.place ≤ 127 }
+    ensures settled { IsSettled yard.now }
 {
     let run = yard.yard().run();
     // Read for the proof: the state is legal, and the lines are few.

@@ -1,36 +1,21 @@
 // Whether the next table is due, and whether all is done.
-ghost use Rattle.std.specs.Prelude.{◌≡◌, ◌↔◌, ◌+◌, ◌<◌, ◌≤◌, ◌^◌, IsTrue, MatchOption, count_by, length, map};
+ghost use Rattle.std.specs.Prelude.{◌≡◌, ◌+◌, ◌<◌, ◌^◌, MatchOption, count_by, length, map};
 ghost use Rattle.rail_model.specs.Exchange.{IsDue};
 ghost use Rattle.rail_model.specs.Journal.{is_table};
 ghost use Rattle.rail_model.specs.Table.{trains};
-ghost use Rattle.rail_model.specs.Yard.{IsOpen, next_offer};
+ghost use Rattle.rail_model.specs.Yard.{in_force};
 ghost use Rattle.table_exchange.specs.Tables.{AreTables, Stands};
 ghost use Rattle.live_session.specs.News.{IsStatus};
 
+use live_answers::{is_next_due, next_table};
 use rail_model::{HasTable, Line, Standing, Table};
-use table_exchange::{all_arrived, in_force, is_due};
+use table_exchange::all_arrived;
 
 /// The next table, where it is due, and whether all is done.
-#[derive(Clone, Copy, Debug, PartialEq, Eq)]
+#[derive(Clone, Copy)]
 pub struct Status {
     pub due: Option<u32>,
     pub done: bool,
-}
-
-// The next table, if one has no answer yet.
-fn next_table<'a, A: HasTable>(tables: &'a [A], yard: &Standing) -> Option<&'a A>
-    ensures { MatchOption result (length (map A.offer tables.entry.now) ≤ yard.now.tried + 1)
-        (λ next. IsOpen (map A.offer tables.entry.now) yard.now × (A.offer next.now ≡ next_offer (map A.offer tables.entry.now) yard.now)) }
-{
-    tables.get(yard.tried() as usize + 1)
-}
-
-// Whether a table is due at a state of the one in force.
-fn is_next_due<A: HasTable>(table: &Table, yard: &Standing, next: &A) -> bool
-    requires { length yard.now.positions ≡ trains table.now }
-    ensures { IsTrue result ↔ IsDue table.now yard.now.positions yard.now.moves (A.offer next.now).after }
-{
-    is_due(table, yard.positions(), yard.moves(), next.after())
 }
 
 // The next table, where it is due.
@@ -48,20 +33,20 @@ fn due_of<A: HasTable>(table: &Table, yard: &Standing, next: &A) -> Option<u32>
 }
 
 /// Whether the next table is due, and whether all is done.
-pub(crate) fn status_of<A: HasTable>(tables: &[A], yard: &Standing) -> Status
+pub(crate) fn status_of<A: HasTable>(now: &Table, tables: &[A], yard: &Standing) -> Status
+    requires now { now.now ≡ in_force (map A.offer tables.now) yard.now }
     requires tables { AreTables (map A.offer tables.now) }
     requires stands { Stands (map A.offer tables.now) yard.now }
     ensures { IsStatus (map A.offer tables.now) yard.now result }
 {
-    let table = in_force(tables, yard);
     match next_table(tables, yard) {
         Some(next) => Status {
-            due: due_of(table, yard, next),
+            due: due_of(now, yard, next),
             done: false,
         },
         None => Status {
             due: None,
-            done: all_arrived(table, yard.positions()),
+            done: all_arrived(now, yard.positions()),
         },
     }
 }

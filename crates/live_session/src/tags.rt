@@ -4,7 +4,7 @@ ghost use Rattle.live_yard.specs.Answers.{IsOfRun};
 ghost use Rattle.live_session.specs.Answering.{tags_with};
 ghost use Rattle.live_session.specs.Replies.{keeps_tag};
 
-use live_requests::{Reply, Request};
+use live_yard::{Reply, Request};
 use std::alloc::{AllocError, Global};
 use std::marker::Model;
 

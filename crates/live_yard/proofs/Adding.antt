@@ -8,8 +8,8 @@ use Rattle.rail_model.specs.declared.types.Tried.TheVariants.{Exchanged, Differs
 use Rattle.rail_model.specs.Lines.{move_line}
 use Rattle.rail_model.specs.Yard.{Offer, Yard}
 use Rattle.plain_yard.specs.Lines.{tried_lines}
-use Rattle.live_requests.specs.declared.types.Request.{Request}
-use Rattle.live_requests.specs.declared.types.Served.{Served}
+use Rattle.live_yard.specs.declared.requests.Request.{Request}
+use Rattle.live_yard.specs.declared.requests.Served.{Served}
 use Rattle.live_yard.specs.Answers.{IsServed}
 use Rattle.live_yard.specs.Firing.{DispatchState, Fires, fired}
 use Rattle.live_yard.specs.Reported.{Reported, after_table, granted, reported}

@@ -15,10 +15,10 @@ use Rattle.table_exchange.specs.Tables.{Stands}
 use Rattle.plain_yard.specs.Keeps.{Keeps, PlainRun}
 use Rattle.plain_yard.specs.Lines.{most_lines}
 use Rattle.plain_yard.proofs.Keeping.{keeps_stands}
-use Rattle.reported_moves.specs.Telling.{Reports, Tells}
+use Rattle.live_yard.specs.Telling.{Reports, Tells}
 use Rattle.live_yard.specs.Reported.{Reported, IsReported, MayGoOn, after_told, granted, place_of, positions_of, reported, stepped, table_of, tried_on}
-use Rattle.reported_moves.specs.declared.told.Told.{Told}
-use Rattle.reported_moves.specs.declared.told.Told.TheVariants.{May, Arrived, Occupied, Full, Waits, Away, Leaving, Clearing}
+use Rattle.live_yard.specs.declared.told.Told.{Told}
+use Rattle.live_yard.specs.declared.told.Told.TheVariants.{May, Arrived, Occupied, Full, Waits, Away, Leaving, Clearing}
 
 pub same_run : (a b : PlainRun) → a.tables ≡ b.tables → a.yard ≡ b.yard → a.lines ≡ b.lines → a.room ≡ b.room → a ≡ b
 same_run a b tables yard lines room = λ i. record { tables = tables i; yard = yard i; lines = lines i; room = room i }

@@ -5,7 +5,7 @@ use Rattle.rail_model.specs.Sums.{greatest}
 use Rattle.rail_model.specs.Table.{Table, trains, share, place, count}
 use Rattle.rail_model.proofs.Shares.{count_advance}
 use Rattle.rail_model.proofs.Sums.{total_same}
-use Rattle.reported_moves.specs.Telling.{IsLeaving, MayGo, greatest_of, taken}
+use Rattle.live_yard.specs.Telling.{IsLeaving, MayGo, greatest_of, taken}
 
 -- a train that is where it was granted has the share of its place
 here : (T : Table) (p : List ℕ) (s i : ℕ) → greatest_of T p p s i ≡ share T i s (place p i)

@@ -1,12 +1,12 @@
 -- A train that asks for its next place, and may go on, is granted it.
 use Rattle.std.proofs.Common.{◌≡◌, ◌≢◌, ℕ, ◌+◌, length, Option, Some, None, ap, arith, inl, inr}
-use Rattle.reported_moves.specs.declared.told.Told.{Told}
-use Rattle.reported_moves.specs.declared.told.Told.TheVariants.{May, Arrived, Occupied, Full, Waits, Away, Leaving, Clearing}
-use Rattle.reported_moves.proofs.Once.{tells_may}
-use Rattle.live_requests.specs.declared.types.Elsewhere.{Elsewhere as ElsewhereValue}
-use Rattle.live_requests.specs.declared.types.Elsewhere.TheVariants.{Beyond, Ahead, Before}
-use Rattle.live_requests.specs.declared.types.Reply.{Reply}
-use Rattle.live_requests.specs.declared.types.Reply.TheVariants.{Granted, Held, Elsewhere, Dropped, There, NotThere, NoReports, Tried, TriedBefore, TooSoon, NoTable}
+use Rattle.live_yard.specs.declared.told.Told.{Told}
+use Rattle.live_yard.specs.declared.told.Told.TheVariants.{May, Arrived, Occupied, Full, Waits, Away, Leaving, Clearing}
+use Rattle.live_yard.proofs.Once.{tells_may}
+use Rattle.live_yard.specs.declared.requests.Elsewhere.{Elsewhere as ElsewhereValue}
+use Rattle.live_yard.specs.declared.requests.Elsewhere.TheVariants.{Beyond, Ahead, Before}
+use Rattle.live_yard.specs.declared.requests.Reply.{Reply}
+use Rattle.live_yard.specs.declared.requests.Reply.TheVariants.{Granted, Held, Elsewhere, Dropped, There, NotThere, NoReports, Tried, TriedBefore, TooSoon, NoTable}
 use Rattle.live_yard.specs.Answers.{Asks, AtNext, Wants}
 use Rattle.live_yard.specs.Firing.{DispatchState}
 use Rattle.live_yard.specs.Reported.{Reported, IsElsewhere, IsNext, MayGoOn, NamesElsewhere, NamesNext, TellsTrain}

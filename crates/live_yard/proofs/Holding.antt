@@ -5,15 +5,15 @@ use Rattle.std.specs.List.{remove}
 use Rattle.std.proofs.lemmas.Bool.{cases_lt}
 use Rattle.std.proofs.lemmas.List.{get_or_append_left, get_or-append_right}
 use Rattle.std.proofs.lemmas.List.Edits.{get_or-remove_below, get_or-remove_above, length-remove}
-use Rattle.standing_wants.specs.Wants.{Drops, StandsIn}
-use Rattle.reported_moves.proofs.Once.{tells_may}
-use Rattle.reported_moves.specs.declared.told.Told.{Told}
-use Rattle.reported_moves.specs.declared.told.Told.TheVariants.{May, Arrived, Occupied, Full, Waits, Away, Leaving, Clearing}
-use Rattle.live_requests.specs.declared.types.Reply.{Reply}
-use Rattle.live_requests.specs.declared.types.Reply.TheVariants.{Held}
-use Rattle.live_requests.specs.declared.types.Request.{Request}
-use Rattle.live_requests.specs.declared.types.Request.TheVariants.{Ask, Want, Drop, At, Table}
-use Rattle.live_requests.specs.declared.types.Served.{Served}
+use Rattle.live_yard.specs.Wants.{Drops, StandsIn}
+use Rattle.live_yard.proofs.Once.{tells_may}
+use Rattle.live_yard.specs.declared.told.Told.{Told}
+use Rattle.live_yard.specs.declared.told.Told.TheVariants.{May, Arrived, Occupied, Full, Waits, Away, Leaving, Clearing}
+use Rattle.live_yard.specs.declared.requests.Reply.{Reply}
+use Rattle.live_yard.specs.declared.requests.Reply.TheVariants.{Held}
+use Rattle.live_yard.specs.declared.requests.Request.{Request}
+use Rattle.live_yard.specs.declared.requests.Request.TheVariants.{Ask, Want, Drop, At, Table}
+use Rattle.live_yard.specs.declared.requests.Served.{Served}
 use Rattle.live_yard.specs.Answers.{IsServed, Serves, StandsLast, Wants}
 use Rattle.live_yard.specs.Firing.{CanFire, DispatchState, IsSettled}
 use Rattle.live_yard.specs.Reported.{Reported, MayGoOn, TellsTrain}

@@ -6,8 +6,17 @@ pub mod Following
 pub mod Forgetting
 pub mod Granting
 pub mod Holding
+pub mod Once
+pub mod PassedPlaces
+pub mod PassedPoints
 pub mod Plainly
 pub mod Repeating
+pub mod RightLines
 mod Rows
+mod RowsOfLines
+mod RowsOfReports
 mod RowsOfSessions
+mod RowsOfWants
+pub mod Standing
+pub mod Trying
 pub mod Wanting

@@ -4,11 +4,11 @@ use Rattle.std.specs.Prelude.{slice_index, false}
 use Rattle.std.proofs.lemmas.List.Elements.{All-append, All-cons, All-nil}
 use Rattle.rail_model.specs.declared.types.Tried.{Tried as TriedValue}
 use Rattle.rail_model.specs.Yard.{Tries}
-use Rattle.live_requests.specs.declared.types.Reply.{Reply}
-use Rattle.live_requests.specs.declared.types.Reply.TheVariants.{Granted, Tried}
-use Rattle.live_requests.specs.declared.types.Request.{Request}
-use Rattle.live_requests.specs.declared.types.Request.TheVariants.{Ask, Table}
-use Rattle.live_requests.specs.declared.types.Served.{Served}
+use Rattle.live_yard.specs.declared.requests.Reply.{Reply}
+use Rattle.live_yard.specs.declared.requests.Reply.TheVariants.{Granted, Tried}
+use Rattle.live_yard.specs.declared.requests.Request.{Request}
+use Rattle.live_yard.specs.declared.requests.Request.TheVariants.{Ask, Table}
+use Rattle.live_yard.specs.declared.requests.Served.{Served}
 use Rattle.live_yard.specs.Answers.{IsServed, Serves}
 use Rattle.live_yard.specs.Firing.{DispatchState, Fires, fired}
 use Rattle.live_yard.specs.Reported.{Reported, MayGoOn, after_table, forgotten, granted, positions_of, table_of}

@@ -4,14 +4,14 @@ use Rattle.std.proofs.lemmas.Bool.{cases_order}
 use Rattle.std.proofs.lemmas.Option.{get_or_from_slice_get}
 use Rattle.rail_model.specs.declared.types.Line.{Line}
 use Rattle.rail_model.specs.Table.{last}
-use Rattle.granted_lines.specs.declared.lines.Passed.{Passed}
-use Rattle.granted_lines.specs.declared.lines.Passed.TheVariants.{Granted, Begun}
-use Rattle.granted_lines.specs.Lines.{BeganAt, IsPassed, WasGranted, moves, moves_of}
-use Rattle.granted_lines.proofs.Passing.{moves_of-before}
-use Rattle.live_requests.specs.declared.types.Elsewhere.{Elsewhere as ElsewhereValue}
-use Rattle.live_requests.specs.declared.types.Elsewhere.TheVariants.{Beyond, Ahead, Before}
-use Rattle.live_requests.specs.declared.types.Reply.{Reply}
-use Rattle.live_requests.specs.declared.types.Reply.TheVariants.{Elsewhere}
+use Rattle.live_yard.specs.declared.granted_lines.Passed.{Passed}
+use Rattle.live_yard.specs.declared.granted_lines.Passed.TheVariants.{Granted, Begun}
+use Rattle.live_yard.specs.GrantedLines.{BeganAt, IsPassed, WasGranted, moves, moves_of}
+use Rattle.live_yard.proofs.PassedPlaces.{moves_of-before}
+use Rattle.live_yard.specs.declared.requests.Elsewhere.{Elsewhere as ElsewhereValue}
+use Rattle.live_yard.specs.declared.requests.Elsewhere.TheVariants.{Beyond, Ahead, Before}
+use Rattle.live_yard.specs.declared.requests.Reply.{Reply}
+use Rattle.live_yard.specs.declared.requests.Reply.TheVariants.{Elsewhere}
 use Rattle.live_yard.specs.Answers.{AtNext}
 use Rattle.live_yard.specs.Firing.{DispatchState}
 use Rattle.live_yard.specs.Reported.{Reported, IsElsewhere, IsReported, place_of, table_of}

@@ -2,8 +2,8 @@
 use Rattle.std.proofs.Common.{◌≡◌, List, ◌∷◌, [], Some, refl, inl, inr, lit<, lit≤, arith}
 use Rattle.rail_model.specs.declared.types.Line.{Line}
 use Rattle.rail_model.specs.declared.types.Line.TheVariants.{Move}
-use Rattle.reported_moves.specs.declared.told.Told.TheVariants.{May, Occupied}
-use Rattle.live_requests.specs.declared.types.Reply.TheVariants.{Granted, Held}
+use Rattle.live_yard.specs.declared.told.Told.TheVariants.{May, Occupied}
+use Rattle.live_yard.specs.declared.requests.Reply.TheVariants.{Granted, Held}
 use Rattle.live_yard.specs.Answers.{StandsIfHeld, told_reply}
 use Rattle.live_yard.specs.Reported.{IsFirstReport}
 

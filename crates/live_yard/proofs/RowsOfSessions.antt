@@ -2,17 +2,18 @@
 use Rattle.std.proofs.Common.{◌≡◌, ◌∷◌, [], true, false, None, Some, refl, inr, lit<, lit≤}
 use Rattle.rail_model.specs.declared.types.Line.TheVariants.{Move}
 use Rattle.rail_model.specs.declared.types.Tried.TheVariants.{Early}
+use Rattle.rail_model.proofs.MoveTests.{Decides-move}
 use Rattle.rail_model.proofs.Samples.{corridor}
 use Rattle.plain_yard.specs.Keeps.{PlainRun}
-use Rattle.reported_moves.specs.declared.told.Told.TheVariants.{May, Arrived, Away}
-use Rattle.granted_lines.specs.declared.lines.Passed.TheVariants.{Granted, Begun}
-use Rattle.live_requests.specs.declared.types.Elsewhere.TheVariants.{Beyond, Ahead, Before}
-use Rattle.live_requests.specs.declared.types.Reply.TheVariants.{Elsewhere, Held, NoReports, NotThere, There, NoTable}
-use Rattle.live_requests.specs.declared.types.Request.TheVariants.{Ask}
+use Rattle.live_yard.specs.declared.told.Told.TheVariants.{May, Arrived, Away}
+use Rattle.live_yard.specs.declared.granted_lines.Passed.TheVariants.{Granted, Begun}
+use Rattle.live_yard.specs.declared.requests.Elsewhere.TheVariants.{Beyond, Ahead, Before}
+use Rattle.live_yard.specs.declared.requests.Reply.TheVariants.{Elsewhere, Held, NoReports, NotThere, There, NoTable}
+use Rattle.live_yard.specs.declared.requests.Request.TheVariants.{Ask}
 use Rattle.live_yard.specs.Answers.{IsOfRun, Reports, StandsIfHeld, TriesTable}
 use Rattle.live_yard.specs.Firing.{DispatchState, fired}
 use Rattle.live_yard.specs.Reported.{Reported, IsElsewhere, IsNext, NamesNext, after_table, after_told, forgotten, granted, reported}
-use Rattle.live_yard.specs.Sessions.{IsPlain, IsSession, is_refusal, plain}
+use Rattle.live_yard.specs.Sessions.{GoesOn, IsPlain, IsSession, is_refusal, plain}
 
 abbrev run : PlainRun
 run = record {
@@ -28,6 +29,18 @@ session = record { run = run; there = 0 ∷ 0 ∷ []; reports = true }
 -- the wants of both trains stand, that of T1 came first
 abbrev state : DispatchState
 state = record { yard = session; wants = 1 ∷ 0 ∷ [] }
+
+-- before the first line
+abbrev opening : PlainRun
+opening = record run { yard = record { positions = 0 ∷ 0 ∷ []; table = 0; tried = 0; moves = 0 }; lines = [] }
+
+first_line : GoesOn opening (Move 0 0 (Some 1) ∷ []) run
+first_line = record {
+  tables = refl;
+  lines = refl;
+  right = (((Decides-move corridor (0 ∷ 0 ∷ []) 0).0 refl, refl, refl), tt);
+  leads = refl;
+}
 
 next : IsNext session 0 2
 next = (refl, lit≤ tt)

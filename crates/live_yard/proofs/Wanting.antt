@@ -1,8 +1,8 @@
 -- What a train is answered by what it was told.
 use Rattle.std.proofs.Common.{◌≡◌, ◌≢◌, ℕ, ◌+◌, List, length, ap, refl}
-use Rattle.reported_moves.specs.declared.told.Told.{Told}
-use Rattle.reported_moves.specs.declared.told.Told.TheVariants.{May, Arrived, Occupied, Full, Waits, Away, Leaving, Clearing}
-use Rattle.live_requests.specs.declared.types.Reply.TheVariants.{Held}
+use Rattle.live_yard.specs.declared.told.Told.{Told}
+use Rattle.live_yard.specs.declared.told.Told.TheVariants.{May, Arrived, Occupied, Full, Waits, Away, Leaving, Clearing}
+use Rattle.live_yard.specs.declared.requests.Reply.TheVariants.{Held}
 use Rattle.live_yard.specs.Answers.{Asks, StandsIfHeld, StandsLast, Wants, told_reply}
 use Rattle.live_yard.specs.Firing.{DispatchState}
 use Rattle.live_yard.specs.Reported.{Reported, TellsTrain, after_told, granted}

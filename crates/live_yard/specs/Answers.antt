@@ -2,16 +2,16 @@
 use Rattle.std.specs.Prelude.{◌≡◌, ◌≢◌, ◌⊎◌, ℕ, ◌+◌, ◌<◌, ◌≤◌, List, length, true, false, Option, Some, None}
 use Rattle.rail_model.specs.Table.{place}
 use Rattle.rail_model.specs.Yard.{Tries}
-use Rattle.granted_lines.specs.Lines.{WasTried}
-use Rattle.standing_wants.specs.Wants.{Drops, StandsIn}
-use Rattle.live_requests.specs.declared.types.Elsewhere.{Elsewhere as ElsewhereValue}
-use Rattle.live_requests.specs.declared.types.Request.{Request}
-use Rattle.live_requests.specs.declared.types.Request.TheVariants.{Ask, Want, Drop, At, Table}
-use Rattle.live_requests.specs.declared.types.Reply.{Reply}
-use Rattle.live_requests.specs.declared.types.Reply.TheVariants.{Granted, Held, Elsewhere, Dropped, There, NotThere, NoReports, Tried, TriedBefore, TooSoon, NoTable}
-use Rattle.live_requests.specs.declared.types.Served.{Served}
-use Rattle.reported_moves.specs.declared.told.Told.TheVariants.{May, Arrived}
-use Rattle.reported_moves.specs.declared.told.Told.{Told}
+use Rattle.live_yard.specs.GrantedLines.{WasTried}
+use Rattle.live_yard.specs.Wants.{Drops, StandsIn}
+use Rattle.live_yard.specs.declared.requests.Elsewhere.{Elsewhere as ElsewhereValue}
+use Rattle.live_yard.specs.declared.requests.Request.{Request}
+use Rattle.live_yard.specs.declared.requests.Request.TheVariants.{Ask, Want, Drop, At, Table}
+use Rattle.live_yard.specs.declared.requests.Reply.{Reply}
+use Rattle.live_yard.specs.declared.requests.Reply.TheVariants.{Granted, Held, Elsewhere, Dropped, There, NotThere, NoReports, Tried, TriedBefore, TooSoon, NoTable}
+use Rattle.live_yard.specs.declared.requests.Served.{Served}
+use Rattle.live_yard.specs.declared.told.Told.TheVariants.{May, Arrived}
+use Rattle.live_yard.specs.declared.told.Told.{Told}
 use Rattle.live_yard.specs.Reported.{MayGoOn, NamesElsewhere, NamesNext, TellsTrain, after_table, granted, place_of, reported}
 use Rattle.live_yard.specs.Firing.{DispatchState, Settles}
 

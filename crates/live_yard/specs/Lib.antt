@@ -1,4 +1,7 @@
 pub mod Answers
 pub mod Firing
+pub mod GrantedLines
 pub mod Reported
 pub mod Sessions
+pub mod Telling
+pub mod Wants

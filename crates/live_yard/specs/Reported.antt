@@ -9,12 +9,12 @@ use Rattle.rail_model.specs.Yard.{in_force, moved}
 use Rattle.table_exchange.specs.Steps.{after_tried}
 use Rattle.plain_yard.specs.Keeps.{Keeps, PlainRun}
 use Rattle.plain_yard.specs.Lines.{most_lines, tried_lines}
-use Rattle.granted_lines.specs.Lines.{BeganAt, IsPassed, WasGranted}
-use Rattle.reported_moves.specs.declared.told.Told.{Told}
-use Rattle.reported_moves.specs.declared.told.Told.TheVariants.{May}
-use Rattle.live_requests.specs.declared.types.Elsewhere.{Elsewhere}
-use Rattle.live_requests.specs.declared.types.Elsewhere.TheVariants.{Beyond, Ahead, Before}
-use Rattle.reported_moves.specs.Telling.{MayGo, Reports, Tells}
+use Rattle.live_yard.specs.GrantedLines.{BeganAt, IsPassed, WasGranted}
+use Rattle.live_yard.specs.declared.told.Told.{Told}
+use Rattle.live_yard.specs.declared.told.Told.TheVariants.{May}
+use Rattle.live_yard.specs.declared.requests.Elsewhere.{Elsewhere}
+use Rattle.live_yard.specs.declared.requests.Elsewhere.TheVariants.{Beyond, Ahead, Before}
+use Rattle.live_yard.specs.Telling.{MayGo, Reports, Tells}
 
 -- A run, the place that each train has reported, and whether trains report.
 pub record Reported : Type 0 where

@@ -1,11 +1,14 @@
 -- Sessions: requests that are served one after another, with reports and without.
-use Rattle.std.specs.Prelude.{◌≡◌, List, [], ◌∷◌, Bool, true, false, None}
+use Rattle.std.specs.Prelude.{◌≡◌, List, [], ◌∷◌, ◌++◌, Bool, true, false, None}
 use Rattle.std.specs.List.{All}
-use Rattle.live_requests.specs.declared.types.Reply.{Reply}
-use Rattle.live_requests.specs.declared.types.Reply.TheVariants.{Elsewhere, NotThere, NoReports, TriedBefore, TooSoon, NoTable}
-use Rattle.live_requests.specs.declared.types.Request.{Request}
-use Rattle.live_requests.specs.declared.types.Request.TheVariants.{Ask, Table}
-use Rattle.live_requests.specs.declared.types.Served.{Served}
+use Rattle.rail_model.specs.declared.types.Line.{Line}
+use Rattle.rail_model.specs.Journal.{IsRight, after_lines}
+use Rattle.plain_yard.specs.Keeps.{PlainRun}
+use Rattle.live_yard.specs.declared.requests.Reply.{Reply}
+use Rattle.live_yard.specs.declared.requests.Reply.TheVariants.{Elsewhere, NotThere, NoReports, TriedBefore, TooSoon, NoTable}
+use Rattle.live_yard.specs.declared.requests.Request.{Request}
+use Rattle.live_yard.specs.declared.requests.Request.TheVariants.{Ask, Table}
+use Rattle.live_yard.specs.declared.requests.Served.{Served}
 use Rattle.live_yard.specs.Answers.{IsServed}
 use Rattle.live_yard.specs.Firing.{DispatchState}
 use Rattle.live_yard.specs.Reported.{forgotten}
@@ -32,6 +35,13 @@ pub record PlainSession (v w : DispatchState) : Type 0 where
   pub served : List Served
   pub plain_requests : All IsPlain requests
   pub session : IsSession (plain v) requests served (plain w)
+
+-- A run goes on by these lines: each is right where it stands, and they lead to the state after them.
+pub record GoesOn (a : PlainRun) (added : List Line) (b : PlainRun) : Type 0 where
+  pub tables : b.tables ≡ a.tables
+  pub lines : b.lines ≡ a.lines ++ added
+  pub right : IsRight a.tables a.yard added
+  pub leads : b.yard ≡ after_lines a.yard added
 
 -- whether a reply refuses a request, or repeats an answer that was given before
 abbrev pub is_refusal : Reply → Bool

@@ -2,7 +2,7 @@
 ghost use Rattle.std.specs.Prelude.{◌≡◌, ◌<◌, ◌≤◌, ◌^◌, length, IfOk};
 ghost use Rattle.live_yard.specs.Reported.{AreFirstReports, BeginsAt, IsFirstReport};
 
-use granted_lines::{Passed, passed_place};
+use crate::{Passed, passed_place};
 use rail_model::{Line, State};
 use std::alloc::{AllocError, Global};
 

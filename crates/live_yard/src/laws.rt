@@ -1,19 +1,19 @@
 // What holds of every session: laws of the definitions, with no code.
 ghost use Rattle.std.specs.Prelude.{◌≡◌, ◌+◌, ◌<◌, ◌≤◌, ◌++◌, ℕ, List, Option, Some, length, true};
-ghost use Rattle.granted_lines.specs.Lines.{WasGranted};
-ghost use Rattle.granted_lines.specs.declared.lines.Passed.TheVariants.{Granted as GrantedBefore};
-ghost use Rattle.live_requests.specs.declared.types.Elsewhere.TheVariants.{Before};
-ghost use Rattle.live_requests.specs.declared.types.Reply.{Reply as ReplyValue};
-ghost use Rattle.live_requests.specs.declared.types.Reply.TheVariants.{Elsewhere as ElsewhereReply, Granted, Held};
-ghost use Rattle.live_requests.specs.declared.types.Request.{Request as RequestValue};
-ghost use Rattle.live_requests.specs.declared.types.Served.{Served as ServedValue};
-ghost use Rattle.reported_moves.specs.declared.told.Told.{Told as ToldValue};
+ghost use Rattle.live_yard.specs.GrantedLines.{WasGranted};
+ghost use Rattle.live_yard.specs.declared.granted_lines.Passed.TheVariants.{Granted as GrantedBefore};
+ghost use Rattle.live_yard.specs.declared.requests.Elsewhere.TheVariants.{Before};
+ghost use Rattle.live_yard.specs.declared.requests.Reply.{Reply as ReplyValue};
+ghost use Rattle.live_yard.specs.declared.requests.Reply.TheVariants.{Elsewhere as ElsewhereReply, Granted, Held};
+ghost use Rattle.live_yard.specs.declared.requests.Request.{Request as RequestValue};
+ghost use Rattle.live_yard.specs.declared.requests.Served.{Served as ServedValue};
+ghost use Rattle.live_yard.specs.declared.told.Told.{Told as ToldValue};
 ghost use Rattle.rail_model.specs.declared.types.Line.{Line as LineValue};
 ghost use Rattle.rail_model.specs.Move.{Completes, Live};
 ghost use Rattle.live_yard.specs.Answers.{AsksAt, IsServed, WantsAt};
 ghost use Rattle.live_yard.specs.Firing.{DispatchState, IsSettled};
 ghost use Rattle.live_yard.specs.Reported.{Reported, IsReported, MayGoOn, NamesNext, place_of, positions_of, table_of};
-ghost use Rattle.live_yard.specs.Sessions.{IsSession, PlainSession, is_refusal};
+ghost use Rattle.live_yard.specs.Sessions.{GoesOn, IsSession, PlainSession, is_refusal};
 
 /// From each state of a session whose table in force has no stuck state, every way of going on by moves ends with all trains
 /// arrived, after all the moves that remain.
@@ -53,12 +53,14 @@ pub fn refusals_change_nothing()
         → IsServed v request served w → served.reply ≡ Held told → (w.yard ≡ v.yard) × (served.granted ≡ 0) }
 {}
 
-/// Lines are only added: those of the request itself, at most one, and then one for each want that was granted. The tables
-/// stay, and so does whether trains report.
+/// Lines are only added: those of the request itself, at most one, and then one for each want that was granted. Each is
+/// right where it stands, and they lead to the state after the request. The tables stay, and so does whether trains report.
 pub fn lines_are_added()
     ensures lines { (v w : DispatchState) (request : RequestValue) (served : ServedValue) → IsServed v request served w
         → (own : List LineValue) × (fired : List LineValue) × (w.yard.run.lines ≡ v.yard.run.lines ++ (own ++ fired))
         × (length own ≤ 1) × (length fired ≡ served.granted) }
+    ensures right { (v w : DispatchState) (request : RequestValue) (served : ServedValue) → IsServed v request served w
+        → (added : List LineValue) × GoesOn v.yard.run added w.yard.run }
     ensures tables { (v w : DispatchState) (request : RequestValue) (served : ServedValue) → IsServed v request served w
         → w.yard.run.tables ≡ v.yard.run.tables }
     ensures reports { (v w : DispatchState) (request : RequestValue) (served : ServedValue) → IsServed v request served w

@@ -1,12 +1,10 @@
 // The dispatcher: a run with reports, and standing wants.
 ghost use Rattle.std.specs.Prelude.{◌≡◌, length, IfOk};
 
-use crate::ReportedYard;
 use crate::serving::answer;
 use crate::settling::settle;
-use live_requests::{Request, Served};
+use crate::{ReportedYard, Request, Served, WantQueue};
 use plain_yard::CheckedTable;
-use standing_wants::WantQueue;
 use std::alloc::{AllocError, Global};
 use std::marker::Model;
 

@@ -8,11 +8,9 @@ ghost use Rattle.plain_yard.specs.Lines.{most_lines};
 ghost use Rattle.live_yard.specs.Reported.{stepped};
 
 use crate::beginning::first_places;
-use granted_lines::{answer_of, passed_place};
-use live_requests::Elsewhere;
+use crate::{Elsewhere, Told, answer_of, passed_place, tell};
 use plain_yard::{CheckedTable, PlainYard};
 use rail_model::{Ask, State, Tried, last_of};
-use reported_moves::{Told, tell};
 use std::alloc::{AllocError, Global};
 use std::marker::Model;
 
@@ -37,7 +35,7 @@ impl<'a, A: CheckedTable> Model for ReportedYard<'a, A> {
 
 impl<'a, A: CheckedTable> ReportedYard<'a, A> {
     ghost use Rattle.std.specs.Prelude.{IfOk};
-    ghost use Rattle.granted_lines.specs.Lines.{WasTried};
+    ghost use Rattle.live_yard.specs.GrantedLines.{WasTried};
     ghost use Rattle.live_yard.specs.Reported.{after_table, after_told, granted, positions_of, BeginsAt, reported, table_of, place_of, IsElsewhere, IsNext, IsReported, MayGoOn, TellsTrain};
 
     /// A session at the end of a run. Without reports each train is where it was granted. With them a train that was granted
@@ -71,7 +69,8 @@ impl<'a, A: CheckedTable> ReportedYard<'a, A> {
 
     /// The place that each train has reported.
     pub fn there(&self) -> &State
-        ensures { result.now ≡ self.now.there }
+        ensures there { result.now ≡ self.now.there }
+        ensures reported { IsReported self.now }
     {
         &self.there
     }

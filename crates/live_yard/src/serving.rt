@@ -3,11 +3,8 @@ ghost use Rattle.std.specs.Prelude.{◌≡◌, ◌<◌, ℕ, List, length, Match
 ghost use Rattle.live_yard.specs.Answers.{told_reply, Asks, AsksAt, IsOfRun, Reports, Serves, StandsIfHeld, StandsLast, TriesTable, Wants as IsWanted, WantsAt};
 ghost use Rattle.live_yard.specs.Reported.{NamesElsewhere, NamesNext};
 
-use crate::ReportedYard;
-use live_requests::{Elsewhere, Reply, Request};
+use crate::{Elsewhere, Reply, ReportedYard, Request, Told, WantQueue};
 use plain_yard::CheckedTable;
-use reported_moves::Told;
-use standing_wants::WantQueue;
 
 // What the place that is named is, where it isn't the train's next one.
 fn elsewhere<A: CheckedTable>(

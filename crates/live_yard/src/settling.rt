@@ -2,14 +2,12 @@
 ghost use Rattle.std.specs.Prelude.{◌≡◌, ◌↔◌, length, IsTrue, slice_index, ◌<◌};
 ghost use Rattle.std.specs.List.{remove};
 ghost use Rattle.rail_model.specs.Move.{IsFirstOrNone};
-ghost use Rattle.standing_wants.specs.Wants.{AreWants};
+ghost use Rattle.live_yard.specs.Wants.{AreWants};
 ghost use Rattle.live_yard.specs.Firing.{CanFire, Settles};
 ghost use Rattle.live_yard.specs.Reported.{granted, MayGoOn};
 
-use crate::ReportedYard;
+use crate::{ReportedYard, Told, WantQueue};
 use plain_yard::CheckedTable;
-use reported_moves::Told;
-use standing_wants::WantQueue;
 
 // Whether a train may go on.
 fn may_go<A: CheckedTable>(yard: &ReportedYard<'_, A>, train: u32) -> bool

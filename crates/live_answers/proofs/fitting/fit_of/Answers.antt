@@ -6,7 +6,7 @@ use Rattle.live_answers.proofs.fitting.fit_of.Goals as goal
 pub returns-in-Ok-clause-fit : goal.returns-in-Ok-clause-fit
 returns-in-Ok-clause-fit g c =
     let tables = map g.A.HasTable.offer c.args.tables.now in
-    let table = c.in_force-now.ensures.given in
+    let table = c.requires.now in
     let next = c.in-Some.ensures.1 in (
       (
         c.in-Some.ensures.0,
@@ -19,7 +19,7 @@ returns-in-Ok-clause-fit g c =
 pub returns-in-Err-Differs-clause-fit : goal.returns-in-Err-Differs-clause-fit
 returns-in-Err-Differs-clause-fit g c =
     let tables = map g.A.HasTable.offer c.args.tables.now in
-    let table = c.in_force-now.ensures.given in
+    let table = c.requires.now in
     let next = c.in-Some.ensures.1 in (
       (
         c.in-Some.ensures.0,
@@ -33,7 +33,7 @@ returns-in-Err-Differs-clause-fit g c =
 pub returns-in-Err-Over-clause-fit : goal.returns-in-Err-Over-clause-fit
 returns-in-Err-Over-clause-fit g c =
     let tables = map g.A.HasTable.offer c.args.tables.now in
-    let table = c.in_force-now.ensures.given in
+    let table = c.requires.now in
     let next = c.in-Some.ensures.1 in (
       (
         c.in-Some.ensures.0,

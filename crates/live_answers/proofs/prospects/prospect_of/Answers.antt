@@ -1,9 +1,9 @@
 use Rattle.std.proofs.Common.{subst, arith}
 use Rattle.std.proofs.lemmas.Int.{ints}
 use Rattle.std.proofs.lemmas.Option.{slice_get_within}
-use Rattle.reported_moves.specs.declared.told.Told.{Told}
+use Rattle.live_yard.specs.declared.told.Told.{Told}
 use Rattle.rail_model.proofs.Shares.{count_advance}
-use Rattle.waiting_trains.specs.Seen.{IsTold}
+use Rattle.live_answers.specs.Seen.{IsTold}
 use Rattle.live_answers.proofs.prospects.prospect_of.Goals as goal
 
 pub room_of-room-requires-clause-more : goal.room_of-room-requires-clause-more

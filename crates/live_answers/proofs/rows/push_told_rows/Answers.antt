@@ -1,6 +1,6 @@
 use Rattle.std.proofs.Common.{◌≡◌, ℕ, subst, arith}
 use Rattle.rail_model.specs.Table.{trains}
-use Rattle.waiting_trains.specs.Seen.{told_at}
+use Rattle.live_answers.specs.Seen.{told_at}
 use Rattle.live_answers.specs.Rows.{AreRows, IsToldRow, Says}
 use Rattle.live_answers.proofs.Saying.{no_rows, one_more}
 use Rattle.live_answers.proofs.rows.push_told_rows.Goals as goal

@@ -1,4 +1,4 @@
-use Rattle.waiting_trains.specs.Seen.{told_at}
+use Rattle.live_answers.specs.Seen.{told_at}
 use Rattle.live_answers.specs.Rows.{AreRows, IsToldRow, Says}
 use Rattle.live_answers.proofs.rows.push_told_rows.Given as goal
 

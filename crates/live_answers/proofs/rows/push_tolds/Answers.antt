@@ -1,6 +1,6 @@
 use Rattle.std.proofs.Common.{◌++◌, ap}
-use Rattle.live_replies.specs.Lines.{line_of}
-use Rattle.live_replies.specs.Session.{session_words}
+use Rattle.live_lines.specs.Lines.{line_of}
+use Rattle.live_lines.specs.Session.{session_words}
 use Rattle.live_answers.proofs.Saying.{behind, on_ok}
 use Rattle.live_answers.proofs.rows.push_tolds.Goals as goal
 

@@ -2,7 +2,7 @@ use Rattle.std.proofs.Common.{◌≡◌, ℕ, ◌<◌, length, subst, arith}
 use Rattle.std.specs.Prelude.{slice_index}
 use Rattle.std.proofs.lemmas.List.Elements.{All-get_or}
 use Rattle.rail_model.specs.Table.{trains}
-use Rattle.waiting_trains.specs.Seen.{told_at}
+use Rattle.live_answers.specs.Seen.{told_at}
 use Rattle.live_answers.specs.Rows.{AreRows, IsToldRow, Says}
 use Rattle.live_answers.proofs.Saying.{no_rows, one_more}
 use Rattle.live_answers.proofs.why.push_rows_of.Goals as goal

@@ -1,5 +1,5 @@
 use Rattle.std.specs.Prelude.{slice_index}
-use Rattle.waiting_trains.specs.Seen.{told_at}
+use Rattle.live_answers.specs.Seen.{told_at}
 use Rattle.live_answers.specs.Rows.{AreRows, IsToldRow, Says}
 use Rattle.live_answers.proofs.why.push_rows_of.Given as goal
 

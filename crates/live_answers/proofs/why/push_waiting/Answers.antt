@@ -1,7 +1,7 @@
 use Rattle.std.proofs.Common.{◌<◌, length, refl, arith}
 use Rattle.std.proofs.lemmas.List.Elements.{All-from_get_or}
 use Rattle.rail_model.specs.Table.{trains}
-use Rattle.standing_wants.proofs.Standing.{few_wants}
+use Rattle.live_yard.proofs.Standing.{few_wants}
 use Rattle.live_answers.specs.Rows.{why_line}
 use Rattle.live_answers.proofs.Saying.{behind, on_ok}
 use Rattle.live_answers.proofs.why.push_waiting.Goals as goal

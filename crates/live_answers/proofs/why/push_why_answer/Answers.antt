@@ -2,8 +2,8 @@ use Rattle.std.proofs.Common.{ℕ, ◌<◌, ◌++◌, length, ◌∙◌, arith}
 use Rattle.std.specs.Prelude.{All, codes}
 use Rattle.std.proofs.lemmas.List.Elements.{All-filter, All-same, All-weaker}
 use Rattle.rail_model.specs.Names.{train_name}
-use Rattle.live_replies.specs.Answers.{why_words}
-use Rattle.live_replies.specs.Lines.{line_of}
+use Rattle.live_lines.specs.Answers.{why_words}
+use Rattle.live_lines.specs.Lines.{line_of}
 use Rattle.live_answers.specs.Rows.{is_away, is_may, of_told}
 use Rattle.live_answers.proofs.Saying.{on_ok}
 use Rattle.live_answers.proofs.why.push_why_answer.Goals as goal

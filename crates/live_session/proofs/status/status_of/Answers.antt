@@ -7,7 +7,7 @@ use Rattle.live_session.proofs.status.status_of.Goals as goal
 pub returns-in-Some : goal.returns-in-Some
 returns-in-Some g c =
     let tables = map g.A.HasTable.offer c.args.tables.now in record {
-      due = due_matches tables c.args.yard.now _ _ _ c.in_force-table.ensures.given c.in-Some.ensures.1
+      due = due_matches tables c.args.yard.now _ _ _ c.requires.now c.in-Some.ensures.1
           c.in-Some.ensures.0 c.due_of.ensures;
       done = open_isnt_done tables c.args.yard.now c.in-Some.ensures.0;
     }
@@ -16,7 +16,7 @@ pub returns-in-None : goal.returns-in-None
 returns-in-None g c =
     let tables = map g.A.HasTable.offer c.args.tables.now in record {
       due = λ due. omega (arith, c.in-None.ensures, due.0);
-      done = done_matches tables c.args.yard.now _ _ c.in_force-table.ensures.given c.in-None.ensures
-          (subst (λ (p : List ℕ). IsTrue c.all_arrived.result ↔ Arrived c.in_force-table.result.now p)
+      done = done_matches tables c.args.yard.now _ _ c.requires.now c.in-None.ensures
+          (subst (λ (p : List ℕ). IsTrue c.all_arrived.result ↔ Arrived c.args.now.now p)
           c.positions.ensures c.all_arrived.ensures);
     }

@@ -1,7 +1,7 @@
 use Rattle.std.proofs.Common.{◌+◌, List, length, sym, ap, subst, ◌∙◌}
 use Rattle.rail_model.specs.declared.types.Line.{Line}
 use Rattle.plain_yard.specs.Keeps.{PlainRun}
-use Rattle.live_requests.specs.declared.types.Reply.{Reply}
+use Rattle.live_yard.specs.declared.requests.Reply.{Reply}
 use Rattle.live_yard.specs.Answers.{Wants}
 use Rattle.live_yard.specs.Reported.{Reported, after_told}
 use Rattle.live_yard.proofs.Wanting.{told_size, wants_told, with_wants}

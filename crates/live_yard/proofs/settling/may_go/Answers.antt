@@ -1,4 +1,4 @@
-use Rattle.reported_moves.proofs.Once.{tells_may}
+use Rattle.live_yard.proofs.Once.{tells_may}
 use Rattle.live_yard.proofs.settling.may_go.Goals as goal
 
 pub returns-in_default : goal.returns-in_default

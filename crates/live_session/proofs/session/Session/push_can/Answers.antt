@@ -1,7 +1,7 @@
 use Rattle.std.proofs.Common.{List, ℕ, ap, inl, subst, arith, ◌<◌}
 use Rattle.rail_model.specs.Names.{Names}
-use Rattle.reported_moves.specs.declared.told.Told.{Told}
-use Rattle.waiting_trains.specs.Seen.{Seen, IsTold}
+use Rattle.live_yard.specs.declared.told.Told.{Told}
+use Rattle.live_answers.specs.Seen.{Seen, IsTold}
 use Rattle.live_answers.proofs.Saying.{on_ok}
 use Rattle.live_answers.specs.Rows.{IsToldAnswer}
 use Rattle.live_session.specs.States.{SessionState, seen, trains}

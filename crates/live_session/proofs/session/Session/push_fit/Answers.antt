@@ -1,7 +1,7 @@
 use Rattle.std.proofs.Common.{◌++◌, ◌∙◌, ap, refl}
 use Rattle.live_answers.proofs.Saying.{on_ok}
-use Rattle.live_replies.specs.Lines.{line_of}
-use Rattle.live_replies.specs.Tables.{table_words}
+use Rattle.live_lines.specs.Lines.{line_of}
+use Rattle.live_lines.specs.Tables.{table_words}
 use Rattle.live_session.specs.States.{SessionState}
 use Rattle.live_session.proofs.session.Session.push_fit.Goals as goal
 

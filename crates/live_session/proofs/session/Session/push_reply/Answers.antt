@@ -1,5 +1,5 @@
 use Rattle.std.proofs.Common.{ℕ, sym, subst}
-use Rattle.waiting_trains.specs.Seen.{Seen, IsTold}
+use Rattle.live_answers.specs.Seen.{Seen, IsTold}
 use Rattle.live_session.specs.States.{seen}
 use Rattle.live_session.proofs.session.Session.push_reply.Goals as goal
 

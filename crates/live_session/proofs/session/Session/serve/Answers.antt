@@ -51,7 +51,7 @@ push_served-requires-clause-held g c = λ told reply.
     let of = subst (λ (s : SessionState). IsOfRun (length s.dispatch.yard.there) c.args.request)
     (sym c.self.view_is) c.requires in
     held_after c.self.inside.yard c.serve-served.new.self c.args.request c.serve-served.result told
-    c.yard-yard.ensures.settled c.serve-served.ensures.served of reply
+    c.start_of-start.ensures.settled c.serve-served.ensures.served of reply
 
 pub push_served-requires-clause-counted : goal.push_served-requires-clause-counted
 push_served-requires-clause-counted g c =

@@ -1,5 +1,5 @@
 use Rattle.std.proofs.Common.{sym, ap, subst, ◌∙◌}
-use Rattle.reported_moves.specs.declared.told.Told.{Told}
+use Rattle.live_yard.specs.declared.told.Told.{Told}
 use Rattle.live_yard.specs.Reported.{TellsTrain, after_told}
 use Rattle.live_yard.proofs.Following.{after_held}
 use Rattle.live_yard.proofs.reported.ReportedYard.grant_if_may.Goals as goal

@@ -1,8 +1,8 @@
 use Rattle.std.proofs.Common.{ℕ, List, ◌∙◌, subst, sym, ap, arith}
 use Rattle.rail_model.specs.declared.types.Line.{Line}
 use Rattle.rail_model.specs.Yard.{Yard, opening}
-use Rattle.granted_lines.specs.Lines.{WasTried}
-use Rattle.granted_lines.proofs.Trying.{tried_line}
+use Rattle.live_yard.specs.GrantedLines.{WasTried}
+use Rattle.live_yard.proofs.Trying.{tried_line}
 use Rattle.live_yard.specs.Reported.{Reported}
 use Rattle.live_yard.proofs.reported.ReportedYard.line_of.Goals as goal
 

@@ -1,3 +1,0 @@
-pub mod Passing
-mod Rows
-pub mod Trying

@@ -1,7 +1,0 @@
-use Rattle.std.proofs.Common.{◌≡◌, ℕ, ◌<◌, Some, slice_get}
-use Rattle.rail_model.specs.declared.types.Line.{Line}
-use Rattle.granted_lines.specs.Lines.{answered}
-use Rattle.granted_lines.proofs.lines.answer_of.Given as goal
-
-abbrev pub invariant-loop-index : goal.invariant-loop-index
-invariant-loop-index l = (k : ℕ) → k < l.index → (line : Line) → slice_get l.lines k ≡ Some line → answered line ≡ Some l.table → ⊥

@@ -1,3 +1,0 @@
-mod Beginnings
-mod Steps
-mod WorkedRows

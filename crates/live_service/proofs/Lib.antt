@@ -1,2 +1,0 @@
-pub mod EnoughNames
-pub mod Served

@@ -1,4 +1,0 @@
-pub mod Awaiting
-pub mod Choosing
-pub mod Joining
-mod Rows

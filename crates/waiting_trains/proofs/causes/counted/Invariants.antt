@@ -1,6 +1,0 @@
-use Rattle.std.proofs.Common.{◌≡◌}
-use Rattle.waiting_trains.specs.Causes.{chosen, counts_in}
-use Rattle.waiting_trains.proofs.causes.counted.Given as goal
-
-abbrev pub invariant-loop-train : goal.invariant-loop-train
-invariant-loop-train l = l.by.items ≡ chosen (counts_in l.scene l.section) l.train

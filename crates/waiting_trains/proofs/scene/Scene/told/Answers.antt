@@ -1,6 +1,0 @@
-use Rattle.std.proofs.Common.{subst}
-use Rattle.waiting_trains.specs.Seen.{Seen, IsTold}
-use Rattle.waiting_trains.proofs.scene.Scene.told.Goals as goal
-
-pub returns : goal.returns
-returns c = subst (λ (v : Seen). IsTold v c.args.train c.tell.result) c.self.view_is c.tell.ensures.told
