@@ -6,7 +6,7 @@ use Rattle.document_shapes.specs.Written.{text_of}
 use Rattle.rail_model.specs.State.{Legal}
 use Rattle.refusal_lines.specs.Makers.{places_words}
 use Rattle.layout_json.specs.Reading.{doc_of}
-use Rattle.layout_json.specs.Doc.{Doc, table_at}
+use Rattle.layout_json.specs.Doc.{Doc, names_of, table_at}
 use Rattle.plan_document.specs.Written.{document_of}
 use Rattle.plan_document.specs.declared.plan.Plan.{Plan}
 use Rattle.plan_reading.specs.Said.{IsPlanRead}
@@ -17,7 +17,8 @@ use Rattle.refusal_sentences.specs.declared.explained.Explained.{Explained}
 use Rattle.refusal_sentences.specs.declared.explained.Explained.TheVariants.{State, Refusal, NotLegal, NoTable, NoDocument, NoLine}
 use Rattle.run_sentences.specs.Told.{TellsRun}
 use Rattle.run_timetable.specs.declared.run.Run.{Run}
-use Rattle.timed_reading.specs.Runs.{IsToldRun}
+use Rattle.run_timetable.specs.Csv.{csv_text}
+use Rattle.timed_reading.specs.Reads.{IsInputOf}
 use Rattle.train_graph.specs.Marks.{IsGraph}
 use Rattle.layout_picture.specs.Drawn.{IsDrawn}
 use Rattle.document_lint.specs.Told.{LosesNoSection}
@@ -94,14 +95,30 @@ pub record ExplainsWords (input line text : List ℕ) : Type 0 where
   pub explains : ExplainsLine input line told
   pub tells : ExplainsAs told text
 
--- The text is the graph of a timed run of a document: a picture with one mark for each step.
-pub record IsGraphText (text : List ℕ) : Type 0 where
-  pub document : Doc
-  pub run : Run
+-- The text is the graph of a timed run: a picture with one mark for each step.
+pub record IsGraphOf (run : Run) (text : List ℕ) : Type 0 where
   pub picture : Picture
-  pub is_run : IsToldRun document run
   pub is_graph : IsGraph run picture
   pub is_text : text ≡ svg_text picture
+
+-- The input is a document and the text of a timed run of it, and the text is the graph of that run.
+pub record IsGraphText (input text : List ℕ) : Type 0 where
+  pub document : Doc
+  pub run : Run
+  pub is_input : IsInputOf input document run
+  pub is_graph : IsGraphOf run text
+
+-- The text is the timetable of a run of a document: as comma-separated values, exactly these. Of columns nothing is said.
+abbrev pub IsTimetableOf : Doc → Run → Bool → List ℕ → Type 0
+IsTimetableOf D run true text = text ≡ csv_text D.layout (names_of D) run
+IsTimetableOf D run false text = Unit {0}
+
+-- The input is a document and the text of a timed run of it, and the text is the timetable of that run.
+pub record IsTimetableText (input : List ℕ) (is_csv : Bool) (text : List ℕ) : Type 0 where
+  pub document : Doc
+  pub run : Run
+  pub is_input : IsInputOf input document run
+  pub is_timetable : IsTimetableOf document run is_csv text
 
 -- The places are those that the words name; without words, those at the start.
 abbrev pub AreAsked : Doc → Option (Bor (List ℕ)) → List ℕ → Type 0
@@ -151,8 +168,8 @@ IsTextFor (Lint before) former input text = HasNoRemarks former input text
 IsTextFor (Certify budget effort) former input text = IsCertifiedInput input budget text
 IsTextFor (Protect budget effort rounds) former input text = IsProtectedInput input text
 IsTextFor AddOrders former input text = IsOrderedInput input text
-IsTextFor (Timetable csv) former input text = Unit {0}
-IsTextFor (Graph train) former input text = IsGraphText text
+IsTextFor (Timetable csv) former input text = IsTimetableText input csv text
+IsTextFor (Graph train) former input text = IsGraphText input text
 IsTextFor (Layout table at) former input text = IsLayoutText input table.now at text
 
 -- The lines are what is wrong with an input for an order. Only of those of `certify` and `protect` anything is said.
