@@ -1,5 +1,6 @@
 -- Tables with guards and certificates, one more at a time, and a document with them.
-use Rattle.std.proofs.Common.{◌≡◌, false, ℕ, ◌+◌, ◌<◌, ◌≤◌, List, [], ◌∷◌, ◌++◌, length, map, refl, sym, ap, ◌∙◌, subst, arith, inl, inr}
+use Rattle.std.proofs.Common.{◌≡◌, false, ℕ, ◌+◌, ◌<◌, ◌≤◌, List, [], ◌∷◌, ◌++◌, length, map, arith, inl, inr}
+use Rattle.std.proofs.Common.{refl, sym, ap, ◌∙◌, subst}
 use Rattle.std.specs.Prelude.{◌==◌, slice_index_or}
 use Rattle.std.proofs.lemmas.Bool.{cases_lt}
 use Rattle.std.proofs.lemmas.List.{length-map, length-append, get_or_append_left, get_or_default}
@@ -19,7 +20,9 @@ use Rattle.layout_json.proofs.FormedDoc.{no_table}
 use Rattle.section_protect.proofs.Lossless.{guards_stay}
 use Rattle.section_protect.specs.Protects.{IsGuarded}
 use Rattle.state_core.proofs.Tables.{is_guarded_table}
-use Rattle.document_protection.specs.Protected.{IsPartOf, ArePartsOf, AreProtected, AreLeft, ForbidsStart, HasGuards, HaveGuards, HasNoneOf, HasNone, IsLeftBy, IsForbidden, IsStuckBy, guards_at, new_tree, table_in}
+use Rattle.document_protection.specs.Protected.{IsPartOf, ArePartsOf, AreProtected, AreLeft, ForbidsStart, HasGuards}
+use Rattle.document_protection.specs.Protected.{HaveGuards, HasNoneOf, HasNone, IsLeftBy, IsForbidden, IsStuckBy}
+use Rattle.document_protection.specs.Protected.{guards_at, new_tree, table_in}
 use Rattle.document_protection.specs.declared.unprotected.Unprotected.{Unprotected}
 use Rattle.document_protection.specs.declared.unprotected.Unprotected.TheVariants.{Memory, Uncertified, Start}
 use Rattle.document_protection.specs.declared.unprotected.Why.{Why}
@@ -31,6 +34,19 @@ none = (record { missions = []; sections = []; connections = [] }, arrived)
 -- the table of a number among those of a document
 abbrev doc_at : List DocTable → ℕ → DocTable
 doc_at ts t = slice_index_or ts t no_table
+
+-- These are the tables of a document that is another one in a later version.
+pub record AreApart (D E : Doc) (tables : List Table) : Type 0 where
+  pub tables_are : tables ≡ map (λ t. t.table) E.tables
+  pub migrated : IsMigrated D E
+
+-- tables that are taken out of a document are lent
+pub are_apart : (D E F : Doc) (lent tables : List Table) → E ≡ F → IsMigrated D F → lent ≡ tables →
+    tables ≡ map (λ t. t.table) F.tables → AreApart D E lent
+are_apart D E F lent tables same migrated lent_are taken = record {
+  tables_are = lent_are ∙ taken ∙ ap (λ (G : Doc). map (λ t. t.table) G.tables) (sym same);
+  migrated = subst (λ (G : Doc). IsMigrated D G) (sym same) migrated;
+}
 
 -- what is so of a number's part
 abbrev Part : List Table → ℕ → List (List Stay) → Table × Tree → Type 0

@@ -14,8 +14,8 @@ use planner_words::Effort;
 use section_protect::Searching;
 use std::alloc::{AllocError, Global};
 
-/// The document that the input is, with at most `rounds` guards behind the sections of each table, and with certificates that are found
-/// by search, of at most `budget` nodes each.
+/// The document that the input is, with at most `rounds` guards behind the sections of each table, and with
+/// certificates that are found by search, of at most `budget` nodes each.
 #[tactic(auto, using(crate::proofs::Protected::refused_guards))]
 pub(crate) fn protect(
     alloc: Global,
@@ -46,7 +46,7 @@ fn with_guards(
     requires read { doc_of input.now ≡ Ok doc.now }
     ensures { IfOk result (IsProtecting input.now) }
 {
-    match protected(alloc, doc, searching, rounds) {
+    match protected(alloc, doc, &searching, rounds) {
         Ok(made) => {
             let lines = lines_of(alloc, doc, &made)?;
             Ok(Answer::Noted(made.text, lines))
