@@ -6,7 +6,7 @@ use cert_checker::{Accepted, accept};
 use cert_tree::tree;
 use layout_json::{Doc, after_of, document, nodes_of, table_of, tables_of};
 use rail_model::copy_table;
-use std::alloc::{AllocError, Global};
+use std::alloc::Global;
 use std::test::Fail;
 
 // A name in each line, and the document.
@@ -17,6 +17,7 @@ use std::test::Fail;
 // - corridor: one that one train at a time may enter
 // - never-legal: the corridor, and after its first move a table that no state is legal for
 // - goes-on: the first path, and a table that isn't due before its end
+// - turns-2, turns-16: so many tables, in which the train goes from zone 0 to zone 1 and to zone 2 by turns; each may take over at once
 const DOCUMENTS: &str =
     r#"first-path {"version":1,"points":[["A",0],["B",0],["C",0]],"links":[["A","B"],["B","C"]],"zones":1,"trains":["T0"],"start":[0],"tables":[{"missions":[["A","B","C"]],"certificate":[[0,0,1],[4,0],[3]]}]}
 one-zone {"version":1,"points":[["A",0],["B",0],["C",0],["D",0]],"links":[["A","B"],["C","D"]],"zones":1,"trains":["T0","T1"],"start":[0,0],"tables":[{"missions":[["A","B"],["C","D"]],"certificate":[[0,0,0],[4,0],[0,1,0],[4,1],[3]]}]}
@@ -24,17 +25,11 @@ three-tracks {"version":1,"points":[["A",0],["B",1],["C",2],["D",3],["E",1],["F"
 passing-loop {"version":1,"points":[["W",0],["L1",0],["E",0],["L2",0]],"links":[["W","L1"],["L1","E"],["E","L2"],["L2","W"]],"zones":1,"trains":["T0","T1"],"start":[0,0],"tables":[{"missions":[["W","L1","E"],["E","L2","W"]],"certificate":[[0,0,0],[4,0],[0,1,0],[0,0,1],[4,1],[1,0,1],[0,0,1],[4,0],[0,1,1],[4,1],[3]]}]}
 corridor {"version":1,"points":[["A",0],["M",0],["N",0],["B",0],["C",0],["D",0]],"links":[["A","M"],["M","N"],["N","B"],["C","N"],["M","D"]],"zones":1,"trains":["T0","T1"],"start":[0,0],"tables":[{"missions":[["A","M","N","B"],["C","N","M","D"]],"certificate":[[0,0,0],[0,1,0],[4,0],[0,1,2],[4,1],[4,0],[0,0,2],[0,1,0],[4,0],[0,1,2],[2,0],[4,0],[0,1,2],[4,1],[3]],"sections":[{"limit":1,"changes":[[0,1,0,-1],[0,1,0,-1]]}]}]}
 never-legal {"version":1,"points":[["A",0],["M",0],["N",0],["B",0],["C",0],["D",0]],"links":[["A","M"],["M","N"],["N","B"],["C","N"],["M","D"]],"zones":1,"trains":["T0","T1"],"start":[0,0],"tables":[{"missions":[["A","M","N","B"],["C","N","M","D"]],"certificate":[[0,0,0],[0,1,0],[4,0],[0,1,2],[4,1],[4,0],[0,0,2],[0,1,0],[4,0],[0,1,2],[2,0],[4,0],[0,1,2],[4,1],[3]],"sections":[{"limit":1,"changes":[[0,1,0,-1],[0,1,0,-1]]}]},{"missions":[["A","M","N","B"],["C","N","M","D"]],"certificate":[[2,0]],"sections":[{"limit":0,"changes":[[1,0,0,0],[0,0,0,0]]}],"after":1}]}
-goes-on {"version":1,"points":[["A",0],["B",0],["C",0],["D",0]],"links":[["A","B"],["B","C"],["C","D"]],"zones":1,"trains":["T0"],"start":[0],"tables":[{"missions":[["A","B","C"]],"certificate":[[0,0,1],[4,0],[3]]},{"missions":[["A","B","C","D"]],"certificate":[[0,0,2],[4,0],[3]],"after":99}]}"#;
+goes-on {"version":1,"points":[["A",0],["B",0],["C",0],["D",0]],"links":[["A","B"],["B","C"],["C","D"]],"zones":1,"trains":["T0"],"start":[0],"tables":[{"missions":[["A","B","C"]],"certificate":[[0,0,1],[4,0],[3]]},{"missions":[["A","B","C","D"]],"certificate":[[0,0,2],[4,0],[3]],"after":99}]}
+turns-2 {"version":1,"points":[["A",0],["B",1],["C",2]],"links":[["A","B"],["A","C"]],"zones":3,"trains":["T0"],"start":[0],"tables":[{"missions":[["A","B"]],"certificate":[[0,0,0],[4,0],[3]]},{"missions":[["A","C"]],"certificate":[[0,0,0],[4,0],[3]]}]}
+turns-16 {"version":1,"points":[["A",0],["B",1],["C",2]],"links":[["A","B"],["A","C"]],"zones":3,"trains":["T0"],"start":[0],"tables":[{"missions":[["A","B"]],"certificate":[[0,0,0],[4,0],[3]]},{"missions":[["A","C"]],"certificate":[[0,0,0],[4,0],[3]]},{"missions":[["A","B"]],"certificate":[[0,0,0],[4,0],[3]]},{"missions":[["A","C"]],"certificate":[[0,0,0],[4,0],[3]]},{"missions":[["A","B"]],"certificate":[[0,0,0],[4,0],[3]]},{"missions":[["A","C"]],"certificate":[[0,0,0],[4,0],[3]]},{"missions":[["A","B"]],"certificate":[[0,0,0],[4,0],[3]]},{"missions":[["A","C"]],"certificate":[[0,0,0],[4,0],[3]]},{"missions":[["A","B"]],"certificate":[[0,0,0],[4,0],[3]]},{"missions":[["A","C"]],"certificate":[[0,0,0],[4,0],[3]]},{"missions":[["A","B"]],"certificate":[[0,0,0],[4,0],[3]]},{"missions":[["A","C"]],"certificate":[[0,0,0],[4,0],[3]]},{"missions":[["A","B"]],"certificate":[[0,0,0],[4,0],[3]]},{"missions":[["A","C"]],"certificate":[[0,0,0],[4,0],[3]]},{"missions":[["A","B"]],"certificate":[[0,0,0],[4,0],[3]]},{"missions":[["A","C"]],"certificate":[[0,0,0],[4,0],[3]]}]}"#;
 
-// A layout of three zones whose train is at A, up to its tables.
-const AT_A: &str =
-    r#"{"version":1,"points":[["A",0],["B",1],["C",2]],"links":[["A","B"],["A","C"]],"zones":3,"trains":["T0"],"start":[0],"tables":["#;
-
-const TO_B: &str = r#"{"missions":[["A","B"]],"certificate":[[0,0,0],[4,0],[3]]}"#;
-
-const TO_C: &str = r#"{"missions":[["A","C"]],"certificate":[[0,0,0],[4,0],[3]]}"#;
-
-// The document of this name.
+// The text of the document of this name.
 fn text_called(name: &str) -> Option<&'static str> {
     for row in DOCUMENTS.split('\n') {
         if let Some((called, text)) = row.split_once(' ') {
@@ -46,35 +41,9 @@ fn text_called(name: &str) -> Option<&'static str> {
     None
 }
 
-// A document that is read.
-fn read(alloc: Global, text: &[u8]) -> Result<Doc, Fail> {
-    match document(alloc, text) {
-        Ok(doc) => Ok(doc),
-        Err(_) => Err("a document".into()),
-    }
-}
-
-// The text of a document in whose tables the train goes to B and to C by turns. Each may take over at once.
-fn by_turns(alloc: Global, tables: u32) -> Result<Vec<u8>, AllocError> {
-    let mut text = Vec::from_slice(alloc, AT_A.as_bytes())?;
-    for table in 0..tables {
-        if table > 0 {
-            text.push(b',')?;
-        }
-        let way = if table % 2 == 0 { TO_B } else { TO_C };
-        text.extend_from_slice(way.as_bytes())?;
-    }
-    text.extend_from_slice(b"]}")?;
-    Ok(text)
-}
-
-/// The document of this name. That of `turns-N` has so many tables, in which the train goes to B and to C by turns.
-pub(crate) fn document_called(alloc: Global, name: &str) -> Result<Doc, Fail> {
-    if let Some(tables) = name.strip_prefix("turns-") {
-        let tables = tables.parse::<u32>().ok().ok_or("a number")?;
-        return read(alloc, &by_turns(alloc, tables)?);
-    }
-    read(alloc, text_called(name).ok_or("a name")?.as_bytes())
+/// The document of this name.
+pub(crate) fn document_called(alloc: Global, name: &str) -> Option<Doc> {
+    document(alloc, text_called(name)?.as_bytes()).ok()
 }
 
 // A table of a document, which its certificate shows to be live.

@@ -1,12 +1,20 @@
-// Scenes at the start of a document, and what each comes to.
-use crate::stages::{play, text_of};
-use std::process::Abort;
+// Scenes, and what each comes to.
+ghost use Rattle.std.specs.Prelude.{◌≡◌};
+ghost use Rattle.layout_json.specs.Doc.{offers_of};
+
+use crate::documents::{accepted, document_called};
+use crate::stages::{Stage, finished, play};
+use cert_checker::Accepted;
+use layout_json::Doc;
+use rail_model::PlainState;
+use std::alloc::Global;
 use std::sync::Wait;
 use std::test::Fail;
 use std::thread::Threads;
 
-// The first line of a scene has its name, its document and how many entries each pass may make. Its last line says at which places the trains
-// then are, and by which lines of the journal.
+// The first line of a scene has its name, its document and how many entries each pass may make, and then `resumed` if its yard goes on from a
+// journal in which T0 has made a move. Its last line says at which places the trains then are, and by which lines of the journal: as they leave
+// the yard, or, after `finished`, once one thread has brought them to their ends.
 
 // Blocks of steps.
 const OF_BLOCKS: &str = "\
@@ -196,61 +204,99 @@ a driver's entries are spent: first-path 1
 0 request: Spent
 => [1] [Move { train: 0, from: 0, to: Some(1) }]";
 
-// The parts of a scene.
+// Yards that are closed before their trains have arrived, and yards that go on from a state.
+const OF_CLOSINGS: &str = "\
+trains leave before they arrive: passing-loop 99
+1 request: Granted { ticket: 0 }
+=> finished [2, 2] [Move { train: 1, from: 2, to: Some(3) }, Move { train: 0, from: 0, to: Some(1) }, Move { train: 1, from: 3, to: Some(0) }, Move { train: 0, from: 1, to: Some(2) }]
+
+a yard goes on from a journal: passing-loop 99 resumed
+0 request: Taken
+1 try_request: Busy { zone: 0, holder: 0 }
+0: Occupied { ticket: 0, by: 1 }
+1 request: Granted { ticket: 1 }
+0 request: Granted { ticket: 2 }
+1 request: Granted { ticket: 3 }
+1 request: Arrived { ticket: 4 }
+=> [2, 2] [Move { train: 0, from: 0, to: Some(1) }, Move { train: 1, from: 2, to: Some(3) }, Move { train: 0, from: 1, to: Some(2) }, Move { train: 1, from: 3, to: Some(0) }]";
+
+// A scene: its document; how its yard opens; its lines; and its end.
 #[derive(Clone, Copy)]
-struct Row {
-    document: &'static str,
-    entries: u32,
-    lines: &'static str,
-    end: &'static str,
+struct Row<'a> {
+    document: &'a str,
+    stage: Stage<'a>,
+    end: &'a str,
 }
 
-fn row_of(text: &'static str) -> Option<Row> {
+fn row_of(text: &str) -> Option<Row<'_>> {
     let (head, rest) = text.split_once('\n')?;
     let (_name, place) = head.split_once(": ")?;
-    let (document, entries) = place.split_once(' ')?;
+    let (document, opening) = place.split_once(' ')?;
     let (lines, end) = rest.split_once("\n=> ")?;
-    let entries = entries.parse::<u32>().ok()?;
+    let entries = opening.strip_suffix(" resumed");
     Some(Row {
         document,
-        entries,
-        lines,
+        stage: Stage {
+            entries: entries.unwrap_or(opening).parse::<u32>().ok()?,
+            is_resumed: entries.is_some(),
+            lines,
+        },
         end,
     })
 }
 
-// Whether a scene is played to its end and comes to what its last line says.
-fn is_played(
-    rt: &(impl AllocGlobal + Threads + Wait + Sync),
-    text: &'static str,
-) -> Result<bool, Fail> {
-    let row = row_of(text).ok_or("a scene")?;
-    let state = play(rt, row.document, row.entries.max(1), row.lines)?;
-    Ok(text_of(rt.alloc(), &state)?.as_str() == row.end)
+// Whether these are the places and the lines of a state.
+fn is_told(alloc: Global, state: &PlainState, end: &str) -> bool {
+    let places = state.positions().as_slice();
+    let lines = state.lines();
+    match format!(in alloc; "{places:?} {lines:?}") {
+        Ok(text) => text.as_str() == end,
+        Err(_) => false,
+    }
 }
 
-// Each of these scenes is played so.
-fn play_each(
-    rt: &(impl Abort + AllocGlobal + Threads + Wait + Sync),
-    scenes: &'static str,
-) -> Result<(), Fail> {
-    for text in scenes.split("\n\n") {
-        assert!(rt; is_played(rt, text)?, "{text}");
+// Whether a scene over a document's tables is played to its end and comes to what its last line says.
+fn is_ended(
+    rt: &(impl Threads + Wait + Sync),
+    alloc: Global,
+    doc: &Doc,
+    tables: &[Accepted],
+    row: Row<'_>,
+) -> Option<bool>
+    requires { tables.now ≡ offers_of doc.now }
+{
+    let state = play(rt, alloc, doc, tables, row.stage)?;
+    match row.end.strip_prefix("finished ") {
+        Some(end) => Some(is_told(alloc, &finished(tables, state)?, end)),
+        None => Some(is_told(alloc, &state, row.end)),
+    }
+}
+
+// The same of a scene at a document.
+fn comes_to(
+    rt: &(impl Threads + Wait + Sync),
+    alloc: Global,
+    doc: &Doc,
+    row: Row<'_>,
+) -> Result<bool, Fail> {
+    let tables = accepted(alloc, doc)?;
+    Ok(is_ended(rt, alloc, doc, &tables, row).unwrap_or(false))
+}
+
+// The same of the scene that has this text.
+fn is_played(rt: &(impl Threads + Wait + Sync), alloc: Global, text: &str) -> Result<bool, Fail> {
+    let row = row_of(text).ok_or("a scene")?;
+    let doc = document_called(alloc, row.document).ok_or("a document")?;
+    comes_to(rt, alloc, &doc, row)
+}
+
+#[test]
+fn scenes_come_to_what_their_last_lines_say(rt: HostRuntime) -> Result<(), Fail> {
+    let alloc = rt.alloc();
+    for scenes in [OF_BLOCKS, OF_ZONES, OF_EXCHANGES, OF_CLOSINGS] {
+        for text in scenes.split("\n\n") {
+            assert!(rt; is_played(&rt, alloc, text)?, "{text}");
+        }
     }
     Ok(())
-}
-
-#[test]
-fn blocks_are_granted_whole_or_not_at_all(rt: HostRuntime) -> Result<(), Fail> {
-    play_each(&rt, OF_BLOCKS)
-}
-
-#[test]
-fn zones_are_held_one_by_one(rt: HostRuntime) -> Result<(), Fail> {
-    play_each(&rt, OF_ZONES)
-}
-
-#[test]
-fn tables_are_exchanged_beside_requests(rt: HostRuntime) -> Result<(), Fail> {
-    play_each(&rt, OF_EXCHANGES)
 }

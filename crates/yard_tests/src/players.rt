@@ -1,15 +1,14 @@
 // Those who play a scene: they board, make the calls of their lines, and leave.
-ghost use Rattle.std.specs.Prelude.{◌≡◌, ◌<◌, All, IfOk};
+ghost use Rattle.std.specs.Prelude.{◌≡◌, All};
 ghost use Rattle.rail_model.specs.Table.{trains as trains_of};
 ghost use Rattle.rail_model.specs.Yard.{offer};
 ghost use Rattle.yard_tests.specs.Players.{IsOf};
 
-use crate::scenes::{Call, Scene};
+use crate::scenes::Scene;
 use either::{Either, Left, Right};
 use std::alloc::{AllocError, Global};
 use std::fmt::Debug;
 use std::sync::Wait;
-use std::test::Fail;
 use std::thread;
 use std::thread::Threads;
 use zone_machine::CONTROL;
@@ -18,24 +17,32 @@ use zone_yard::{Control, Driver, Root, Yard};
 /// A train's driver, or the control.
 pub(crate) type Player = Either<Driver, Control>;
 
-/// All trains of a yard and the control board.
+/// All trains of a yard and the control board, and come to the others. It says whether there was memory for all.
 pub(crate) fn board_all(
     alloc: Global,
     yard: &Yard<'_>,
     root: &mut Root,
     trains: u32,
-) -> Result<Vec<Player>, Fail>
+    players: &mut Vec<Player>,
+) -> bool
     requires ours { root.old.yard ≡ yard.now }
     requires trains { trains ≡ trains_of (offer root.old.yard.setup.tables 0).table }
+    requires players { All (IsOf yard.now) players.old.items }
     ensures ours { root.new.yard ≡ yard.now }
-    ensures players { IfOk result (λ players. All (IsOf yard.now) players.items) }
+    ensures players { All (IsOf yard.now) players.new.items }
 {
-    let mut players = Vec::new(alloc);
     for train in 0..trains {
-        players.push(Left(yard.board(alloc, root, train)?))?;
+        let Ok(driver) = yard.board(alloc, root, train) else {
+            return false;
+        };
+        let Ok(()) = players.push(Left(driver)) else {
+            return false;
+        };
     }
-    players.push(Right(yard.board_control(alloc, root)?))?;
-    Ok(players)
+    match yard.board_control(alloc, root) {
+        Ok(control) => players.push(Right(control)).is_ok(),
+        Err(_) => false,
+    }
 }
 
 // An answer as text.
@@ -49,23 +56,20 @@ fn ask_driver<R: Wait>(
     alloc: Global,
     yard: &Yard<'_>,
     driver: &mut Driver,
-    call: Call,
+    call: &str,
     scene: &Scene<'_>,
 ) -> Result<String, AllocError>
     requires { driver.old.yard ≡ yard.now }
     ensures { driver.new.yard ≡ yard.now }
 {
-    match call {
-        Call::TryRequest => text_of(alloc, yard.try_request(driver, scene)),
-        Call::Request => text_of(alloc, yard.request(rt, driver, scene)),
-        Call::TryBlock { steps } => {
-            text_of(alloc, yard.try_block(driver, steps.clamp(1, 4), scene))
-        }
-        Call::RequestBlock { steps } => text_of(
-            alloc,
-            yard.request_block(rt, driver, steps.clamp(1, 4), scene),
-        ),
-        Call::Exchange => text_of(alloc, "the control's call"),
+    let (name, steps) = call.split_once(' ').unwrap_or((call, "1"));
+    let steps = steps.parse::<u32>().unwrap_or(1).clamp(1, 4);
+    match name {
+        "try_request" => text_of(alloc, yard.try_request(driver, scene)),
+        "request" => text_of(alloc, yard.request(rt, driver, scene)),
+        "try_block" => text_of(alloc, yard.try_block(driver, steps, scene)),
+        "request_block" => text_of(alloc, yard.request_block(rt, driver, steps, scene)),
+        _ => text_of(alloc, "no call"),
     }
 }
 
@@ -75,7 +79,7 @@ fn ask<R: Wait>(
     alloc: Global,
     yard: &Yard<'_>,
     player: &mut Player,
-    call: Call,
+    call: &str,
     scene: &Scene<'_>,
 ) -> Result<String, AllocError>
     requires { IsOf yard.now player.old }
@@ -101,9 +105,9 @@ fn perform<R: Wait>(rt: &R, alloc: Global, yard: &Yard<'_>, player: &mut Player,
     ensures { IsOf yard.now player.new }
 {
     let who = number_of(player);
-    for line in scene.lines() {
-        if let (true, Some(call)) = (line.who == who, line.call) {
-            scene.wait(who);
+    for text in scene.text.split('\n') {
+        let call = scene.turn(who, text);
+        if !call.is_empty() {
             match ask(rt, alloc, yard, player, call, scene) {
                 Ok(answer) => scene.answer(who, answer.as_str()),
                 Err(_) => scene.give_up(),

@@ -1,78 +1,30 @@
 // Scenes. Each line is of one pass: it makes a call or goes on with one, until it comes to a moment or is answered.
 use ats_io::{Gate, Moment};
-use std::alloc::Global;
 use std::sync::atomic::{AtomicBool, AtomicUsize, Ordering};
-use std::test::Fail;
 use std::thread::yield_now;
 use zone_machine::CONTROL;
 
-/// What a pass asks.
+// A line of a scene: the pass, a train's by its number or the control's; its call, or nothing if none begins here; and the moment or the
+// answer with which the line ends, and whether no other moment may come before.
 #[derive(Clone, Copy)]
-pub(crate) enum Call {
-    TryRequest,
-    Request,
-    TryBlock { steps: u32 },
-    RequestBlock { steps: u32 },
-    Exchange,
-}
-
-/// A line of a scene as it is written; the pass; its call, if one begins here; and the moment or the answer with which the line ends, and
-/// whether no other moment may come before.
-#[derive(Clone, Copy)]
-pub(crate) struct Line {
-    pub(crate) text: &'static str,
-    pub(crate) who: u32,
-    pub(crate) call: Option<Call>,
-    until: &'static str,
+struct Line<'a> {
+    who: u32,
+    call: &'a str,
+    until: &'a str,
     is_next: bool,
 }
 
-// The number of a pass.
-fn number_of(word: &str) -> Result<u32, Fail> {
-    if word == "control" {
-        return Ok(CONTROL);
-    }
-    Ok(word.parse::<u32>().ok().ok_or("a pass")?)
-}
-
-// A call of this many steps, or without.
-fn call_of(words: &str) -> Result<Call, Fail> {
-    let (name, steps) = words.split_once(' ').unwrap_or((words, "0"));
-    let steps = steps.parse::<u32>().ok().ok_or("steps")?;
-    match name {
-        "try_request" => Ok(Call::TryRequest),
-        "request" => Ok(Call::Request),
-        "try_block" => Ok(Call::TryBlock { steps }),
-        "request_block" => Ok(Call::RequestBlock { steps }),
-        "exchange" => Ok(Call::Exchange),
-        _ => Err("a call".into()),
-    }
-}
-
 // The line that has this text.
-fn line_of(text: &'static str) -> Result<Line, Fail> {
-    let (head, until) = text.split_once(": ").ok_or("an end")?;
-    let (word, call) = match head.split_once(' ') {
-        Some((word, words)) => (word, Some(call_of(words)?)),
-        None => (head, None),
-    };
+fn line_of(text: &str) -> Option<Line<'_>> {
+    let (head, until) = text.split_once(": ")?;
+    let (who, call) = head.split_once(' ').unwrap_or((head, ""));
     let next = until.strip_prefix("next ");
-    Ok(Line {
-        text,
-        who: number_of(word)?,
+    Some(Line {
+        who: who.parse::<u32>().unwrap_or(CONTROL),
         call,
         until: next.unwrap_or(until),
         is_next: next.is_some(),
     })
-}
-
-/// The lines of a scene.
-pub(crate) fn lines_of(alloc: Global, scene: &'static str) -> Result<Vec<Line>, Fail> {
-    let mut lines = Vec::new(alloc);
-    for text in scene.split('\n') {
-        lines.push(line_of(text)?)?;
-    }
-    Ok(lines)
 }
 
 // So often a pass looks whether it is its turn, before it gives the scene up.
@@ -82,29 +34,26 @@ const MOST_TURNS: u32 = 1_000_000_000;
 /// of which all lines were played, holds nobody.
 #[derive(Drop)]
 pub(crate) struct Scene<'a> {
-    lines: &'a [Line],
+    pub(crate) text: &'a str,
     played: AtomicUsize,
     is_given_up: AtomicBool,
 }
 
 impl<'a> Scene<'a> {
-    /// A scene that begins.
-    pub(crate) fn new(lines: &'a [Line]) -> Self {
+    /// A scene of these lines that begins.
+    pub(crate) fn new(text: &'a str) -> Self {
         Scene {
-            lines,
+            text,
             played: AtomicUsize::new(0),
             is_given_up: AtomicBool::new(false),
         }
     }
 
-    /// All lines.
-    pub(crate) fn lines(&self) -> &[Line] {
-        self.lines
-    }
-
     /// The first line that wasn't played.
-    pub(crate) fn unplayed(&self) -> Option<&Line> {
-        self.lines.get(self.played.load(Ordering::SeqCst))
+    pub(crate) fn unplayed(&self) -> Option<&str> {
+        self.text
+            .split('\n')
+            .nth(self.played.load(Ordering::SeqCst))
     }
 
     /// No further line is played.
@@ -113,30 +62,33 @@ impl<'a> Scene<'a> {
     }
 
     // The line that has come, until the scene is over.
-    fn line(&self) -> Option<&Line> {
+    fn line(&self) -> Option<Line<'_>> {
         if self.is_given_up.load(Ordering::SeqCst) {
             return None;
         }
-        self.unplayed()
-    }
-
-    // Whether another pass is to go on.
-    fn is_turn_of_another(&self, who: u32) -> bool {
-        match self.line() {
-            Some(line) => line.who != who,
-            None => false,
-        }
+        line_of(self.unplayed()?)
     }
 
     /// The pass waits until it is its turn.
     pub(crate) fn wait(&self, who: u32) {
         for _turn in 0..MOST_TURNS {
-            if !self.is_turn_of_another(who) {
-                return;
+            match self.line() {
+                Some(line) if line.who != who => yield_now(),
+                _ => return,
             }
-            yield_now();
         }
         self.give_up();
+    }
+
+    /// The call that a line begins, if it is one of this pass. It then is the pass's turn.
+    pub(crate) fn turn<'b>(&self, who: u32, text: &'b str) -> &'b str {
+        match line_of(text) {
+            Some(line) if line.who == who && !line.call.is_empty() => {
+                self.wait(who);
+                line.call
+            }
+            _ => "",
+        }
     }
 
     // Whether the line that has come ends so. It then is played.

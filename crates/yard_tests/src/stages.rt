@@ -1,60 +1,50 @@
 // Yards at which scenes are played.
-ghost use Rattle.std.specs.Prelude.{◌≡◌, ◌≤◌, IfOk};
+ghost use Rattle.std.specs.Prelude.{◌≡◌, IfSome};
 ghost use Rattle.rail_model.specs.Table.{trains as trains_of};
 ghost use Rattle.rail_model.specs.Yard.{offer};
 ghost use Rattle.plain_yard.specs.Keeps.{Keeps};
 ghost use Rattle.layout_json.specs.Doc.{offers_of};
 
-use crate::documents::{accepted, document_called};
 use crate::players::{board_all, leave_all, perform_all};
-use crate::scenes::{Line, Scene, lines_of};
+use crate::scenes::Scene;
 use cert_checker::Accepted;
 use layout_json::{Doc, layout_of, start_of, table_of, tables_of};
-use rail_model::{PlainState, trains_of as count_trains};
-use std::alloc::{AllocError, Global};
+use move_journal::{Journal, replay};
+use plain_yard::PlainYard;
+use rail_model::{Line, PlainState, trains_of as count_trains};
+use std::alloc::Global;
 use std::sync::Wait;
-use std::test::Fail;
 use std::thread::Threads;
 use zone_yard::{Root, Yard};
 
-// The state after all of a yard's history. A close that runs out of memory leaves all as it was, and is tried once more.
-fn closed(alloc: Global, yard: Yard<'_>, root: Root) -> Result<PlainState, Fail>
-    requires { root.yard ≡ yard }
-    ensures { IfOk result (λ state. Keeps root.yard.setup.tables state.yard state.lines) }
-{
-    if root.out() != 0 {
-        return Err("nobody is out".into());
-    }
-    match yard.close(alloc, root) {
-        Ok(state) => Ok(state),
-        Err((yard, root)) => match yard.close(alloc, root) {
-            Ok(state) => Ok(state),
-            Err(_) => Err("memory".into()),
-        },
-    }
+/// How a yard opens: how many entries each pass may make, and whether the yard goes on from a journal in which train 0 has made its first move.
+/// Then the lines of the scene.
+#[derive(Clone, Copy)]
+pub(crate) struct Stage<'a> {
+    pub(crate) entries: u32,
+    pub(crate) is_resumed: bool,
+    pub(crate) lines: &'a str,
 }
 
-// All trains and the control board a yard, play the lines of a scene, and leave.
+// All trains and the control board a yard, play the lines of a scene, and leave. It says whether all lines were played.
 fn play_lines<R: Threads + Wait + Sync>(
     rt: &R,
     alloc: Global,
     yard: &Yard<'_>,
     root: &mut Root,
     trains: u32,
-    lines: &[Line],
-) -> Result<(), Fail>
+    lines: &str,
+) -> bool
     requires ours { root.old.yard ≡ yard.now }
     requires trains { trains ≡ trains_of (offer root.old.yard.setup.tables 0).table }
     ensures { root.new.yard ≡ yard.now }
 {
     let scene = Scene::new(lines);
-    let mut players = board_all(alloc, yard, root, trains)?;
+    let mut players = Vec::new(alloc);
+    let have_boarded = board_all(alloc, yard, root, trains, &mut players);
     perform_all(rt, alloc, yard, &mut players, &scene);
     leave_all(yard, players, root);
-    match scene.unplayed() {
-        Some(line) => Err(line.text.into()),
-        None => Ok(()),
-    }
+    have_boarded && scene.unplayed().is_none()
 }
 
 // A scene is played at a yard from which nobody has boarded. The state to which it is closed.
@@ -64,100 +54,101 @@ fn play_at<R: Threads + Wait + Sync>(
     yard: Yard<'_>,
     mut root: Root,
     trains: u32,
-    lines: &[Line],
-) -> Result<PlainState, Fail>
+    lines: &str,
+) -> Option<PlainState>
     requires ours { root.yard ≡ yard }
     requires trains { trains ≡ trains_of (offer root.yard.setup.tables 0).table }
-    ensures { IfOk result (λ state. Keeps yard.entry.setup.tables state.yard state.lines) }
+    ensures { IfSome result (λ state. Keeps yard.entry.setup.tables state.yard state.lines) }
 {
-    play_lines(rt, alloc, &yard, &mut root, trains, lines)?;
-    closed(alloc, yard, root)
+    let is_played = play_lines(rt, alloc, &yard, &mut root, trains, lines);
+    if !is_played || root.out() != 0 {
+        return None;
+    }
+    match yard.close(alloc, root) {
+        Ok(state) => Some(state),
+        Err(_) => None,
+    }
 }
 
 // The number of trains of a document.
-fn trains(doc: &Doc) -> Result<u32, Fail>
-    ensures { IfOk result (λ n. n ≡ trains_of (offer (offers_of doc.now) 0).table) }
+fn trains(doc: &Doc) -> Option<u32>
+    ensures { IfSome result (λ n. n ≡ trains_of (offer (offers_of doc.now) 0).table) }
 {
     if tables_of(doc) == 0 {
-        return Err("a table".into());
+        return None;
     }
-    Ok(count_trains(table_of(doc, 0)))
+    Some(count_trains(table_of(doc, 0)))
 }
 
-/// A scene at a yard that opens with the document's start, where each pass may make this many entries. The state to which it is closed.
-pub(crate) fn play_from_start<R: Threads + Wait + Sync>(
-    rt: &R,
-    alloc: Global,
-    doc: &Doc,
-    tables: &[Accepted],
-    calls: u32,
-    scene: &'static str,
-) -> Result<PlainState, Fail>
-    requires tables { tables.now ≡ offers_of doc.now }
-    requires calls { 1 ≤ calls }
-    ensures { IfOk result (λ state. Keeps (offers_of doc.now) state.yard state.lines) }
+// The state to which the first move of train 0 leads.
+fn replayed(alloc: Global, doc: &Doc, tables: &[Accepted]) -> Option<PlainState>
+    requires { tables.now ≡ offers_of doc.now }
+    ensures { IfSome result (λ state. Keeps (offers_of doc.now) state.yard state.lines) }
 {
-    let trains = trains(doc)?;
-    let lines = lines_of(alloc, scene)?;
-    let (yard, root) = Yard::new(alloc, layout_of(doc), tables, start_of(doc), calls)?;
-    play_at(rt, alloc, yard, root, trains, &lines)
-}
-
-/// A scene at a yard that goes on from a state. The state to which it is closed.
-pub(crate) fn play_from<R: Threads + Wait + Sync>(
-    rt: &R,
-    alloc: Global,
-    doc: &Doc,
-    tables: &[Accepted],
-    state: PlainState,
-    scene: &'static str,
-) -> Result<PlainState, Fail>
-    requires tables { tables.now ≡ offers_of doc.now }
-    requires keeps { Keeps (offers_of doc.now) state.yard state.lines }
-    ensures { IfOk result (λ state. Keeps (offers_of doc.now) state.yard state.lines) }
-{
-    let trains = trains(doc)?;
-    let lines = lines_of(alloc, scene)?;
-    let Ok((yard, root)) = Yard::resume(alloc, layout_of(doc), tables, state, MANY) else {
-        return Err("memory".into());
+    let line = Line::Move {
+        train: 0,
+        from: 0,
+        to: Some(1),
     };
-    play_at(rt, alloc, yard, root, trains, &lines)
+    let Ok(lines) = Vec::from_slice(alloc, &[line]) else {
+        return None;
+    };
+    match replay(alloc, tables, start_of(doc), &Journal::from_lines(lines)) {
+        Ok(state) => Some(state),
+        Err(_) => None,
+    }
 }
 
-/// More entries of a pass than any scene has.
-pub(crate) const MANY: u32 = 99;
-
-/// A scene at the yard of the document of this name, where each pass may make this many entries. The state to which it is closed.
-pub(crate) fn play<R: AllocGlobal + Threads + Wait + Sync>(
-    rt: &R,
-    document: &str,
-    calls: u32,
-    scene: &'static str,
-) -> Result<PlainState, Fail>
-    requires { 1 ≤ calls }
+// The yard of a document, and its root.
+fn opened<'a>(
+    alloc: Global,
+    doc: &'a Doc,
+    tables: &'a [Accepted],
+    stage: Stage<'_>,
+) -> Option<(Yard<'a>, Root)>
+    requires { tables.now ≡ offers_of doc.now }
+    ensures root { IfSome result (λ made. made.1.yard ≡ made.0) }
+    ensures tables { IfSome result (λ made. made.0.setup.tables ≡ offers_of doc.entry.now) }
 {
-    let alloc = rt.alloc();
-    let doc = document_called(alloc, document)?;
-    play_document(rt, alloc, &doc, calls, scene)
+    let layout = layout_of(doc);
+    let calls = stage.entries.max(1);
+    if stage.is_resumed {
+        let state = replayed(alloc, doc, tables)?;
+        match Yard::resume(alloc, layout, tables, state, calls) {
+            Ok(made) => Some(made),
+            Err(_) => None,
+        }
+    } else {
+        match Yard::new(alloc, layout, tables, start_of(doc), calls) {
+            Ok(made) => Some(made),
+            Err(_) => None,
+        }
+    }
 }
 
-// A scene at the yard of a document.
-fn play_document<R: Threads + Wait + Sync>(
+/// A scene at the yard of a document. The state to which it is closed.
+pub(crate) fn play<R: Threads + Wait + Sync>(
     rt: &R,
     alloc: Global,
     doc: &Doc,
-    calls: u32,
-    scene: &'static str,
-) -> Result<PlainState, Fail>
-    requires { 1 ≤ calls }
+    tables: &[Accepted],
+    stage: Stage<'_>,
+) -> Option<PlainState>
+    requires { tables.now ≡ offers_of doc.now }
+    ensures { IfSome result (λ state. Keeps (offers_of doc.now) state.yard state.lines) }
 {
-    let tables = accepted(alloc, doc)?;
-    play_from_start(rt, alloc, doc, &tables, calls, scene)
+    let trains = trains(doc)?;
+    let (yard, root) = opened(alloc, doc, tables, stage)?;
+    play_at(rt, alloc, yard, root, trains, stage.lines)
 }
 
-/// The places and the lines of a state, as text.
-pub(crate) fn text_of(alloc: Global, state: &PlainState) -> Result<String, AllocError> {
-    let places = state.positions().as_slice();
-    let lines = state.lines();
-    format!(in alloc; "{places:?} {lines:?}")
+/// The state after one thread has brought all trains to their ends.
+pub(crate) fn finished(tables: &[Accepted], state: PlainState) -> Option<PlainState>
+    requires { Keeps tables.now state.yard state.lines }
+{
+    let Ok(mut rest) = PlainYard::new(tables, state) else {
+        return None;
+    };
+    rest.finish();
+    Some(rest.into_state())
 }

@@ -1,5 +1,5 @@
 use Rattle.yard_tests.specs.Players.{IsOf}
 use Rattle.yard_tests.proofs.players.perform.Given as goal
 
-abbrev pub invariant-loop-line : goal.invariant-loop-line
-invariant-loop-line g l = IsOf l.yard l.player
+abbrev pub invariant-loop-text : goal.invariant-loop-text
+invariant-loop-text g l = IsOf l.yard l.player
