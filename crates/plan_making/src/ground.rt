@@ -1,6 +1,7 @@
 // The trains and points of a plan and what links the points, in the order in which they are first named, and zones.
-use crate::names::{find, is_known, is_name, text_of};
+use crate::names::{check_names, find, is_known, is_name, text_of};
 use crate::routes::count_of;
+use crate::trains::copied;
 use plan_entries::{Entries, Entry, Faults, Kind, Part, names_of};
 use std::alloc::{AllocError, Global};
 use toml::Value;
@@ -26,6 +27,9 @@ pub(crate) struct Link<'t> {
 /// What has been named so far, and for each point its zone, if it has one.
 #[derive(Drop)]
 pub(crate) struct Ground<'t> {
+    /// The lines to which routes keep; none, if the routes say themselves which tracks there are.
+    pub lines: Vec<Vec<String>>,
+    pub switches: Vec<String>,
     pub trains: Vec<&'t str>,
     pub points: Vec<&'t str>,
     pub links: Vec<Link<'t>>,
@@ -121,6 +125,8 @@ impl<'t> Ground<'t> {
     /// Nothing is named yet.
     pub fn new(alloc: Global) -> Ground<'t> {
         Ground {
+            lines: Vec::new(alloc),
+            switches: Vec::new(alloc),
             trains: Vec::new(alloc),
             points: Vec::new(alloc),
             links: Vec::new(alloc),
@@ -231,18 +237,49 @@ impl<'t> Ground<'t> {
         Ok(())
     }
 
-    // Adds the points and links of the lines of a plan.
-    fn add_lines(&mut self, faults: &mut Faults, top: &Entry<'t>) -> Result<(), AllocError> {
-        for line in top.values("lines") {
-            let points = names_of(line).unwrap_or(&[]);
-            self.add_chain(faults, &top.at("lines"), points)?;
+    // Adds the points and links of a line, and the line, if routes have to keep to it.
+    fn add_line(
+        &mut self,
+        alloc: Global,
+        faults: &mut Faults,
+        at: &Entry<'t>,
+        line: &'t Value,
+    ) -> Result<(), AllocError> {
+        let points = names_of(line).unwrap_or(&[]);
+        self.add_chain(faults, at, points)?;
+        if !at.flag("open").unwrap_or(false) {
+            self.lines.push(copied(alloc, points)?)?;
         }
         Ok(())
     }
 
-    /// Adds the points and links of a plan: those of its lines, and then those of its routes.
-    pub fn add_points(&mut self, faults: &mut Faults, top: &Entry<'t>) -> Result<(), AllocError> {
-        self.add_lines(faults, top)?;
+    // Adds the lines of a plan, and its switches.
+    fn add_lines(
+        &mut self,
+        alloc: Global,
+        faults: &mut Faults,
+        top: &Entry<'t>,
+    ) -> Result<(), AllocError> {
+        for line in top.values("lines") {
+            self.add_line(alloc, faults, &top.at("lines"), line)?;
+        }
+        let switches = top.names("switches").unwrap_or(&[]);
+        check_names(faults, &top.at("switches"), switches, "point", &self.points);
+        self.switches = copied(alloc, switches)?;
+        Ok(())
+    }
+
+    /// Adds the points and links of a plan: those of its lines, and then those of its routes, unless these have to keep to the lines.
+    pub fn add_points(
+        &mut self,
+        alloc: Global,
+        faults: &mut Faults,
+        top: &Entry<'t>,
+    ) -> Result<(), AllocError> {
+        self.add_lines(alloc, faults, top)?;
+        if !self.lines.is_empty() {
+            return Ok(());
+        }
         self.add_routes(faults, &top.list(Kind::Train))?;
         let tables = top.list(Kind::Table);
         for index in 0..tables.values.len() {

@@ -4,14 +4,17 @@
 
 mod connections;
 mod ground;
+mod laying;
 mod names;
 mod ranges;
 mod routes;
 mod sections;
+mod suspects;
 mod tables;
 mod timed;
 mod times;
 mod trains;
 
+pub use suspects::{has_suspects, tell_suspects};
 pub use tables::plan_of;
 pub use timed::times_said;

@@ -47,7 +47,7 @@ fn distance(alloc: Global, name: &str, known: &str) -> Result<usize, AllocError>
     if 24 < name.len() {
         return Ok(FAR);
     }
-    let edits = strsim::levenshtein(alloc, name, known)?;
+    let edits = strsim::osa_distance(alloc, name, known)?;
     Ok(if edits < name.len().max(known.len()) {
         edits
     } else {

@@ -6,6 +6,7 @@ use plan_entries::{Entry, Faults, Part};
 #[derive(Clone, Copy)]
 pub(crate) struct Scope<'a> {
     pub points: &'a [&'a str],
+    pub switches: &'a [String],
     pub trains: &'a [&'a str],
     pub routes: &'a [Vec<String>],
     pub exits: &'a [bool],

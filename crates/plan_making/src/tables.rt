@@ -18,9 +18,9 @@ const AFTER: Range = Range {
     form: "a table is due after 0 to 1000000 moves, and this is {}",
 };
 
-// A table: the plan as a whole, and what the table says itself. The first says nothing itself.
+/// A table: the plan as a whole, and what the table says itself. The first says nothing itself.
 #[derive(Clone, Copy)]
-struct Layer<'t> {
+pub(crate) struct Layer<'t> {
     top: Entry<'t>,
     own: Entry<'t>,
     // Counted from 0.
@@ -28,6 +28,19 @@ struct Layer<'t> {
 }
 
 impl<'t> Layer<'t> {
+    /// The table of this number.
+    pub fn of(top: &Entry<'t>, number: usize) -> Layer<'t> {
+        let own = match number {
+            0 => Entry::part(Kind::Top, None),
+            _ => top.list(Kind::Table).entry(number.saturating_sub(1)),
+        };
+        Layer {
+            top: *top,
+            own,
+            number,
+        }
+    }
+
     // The entries of a kind that hold in the table: its own, or those of the first.
     fn entries(&self, kind: Kind) -> Entries<'t> {
         match self.own.value(kind.word()) {
@@ -36,8 +49,8 @@ impl<'t> Layer<'t> {
         }
     }
 
-    // The trains of the table.
-    fn roster(&self) -> Roster<'t> {
+    /// The trains of the table.
+    pub fn roster(&self) -> Roster<'t> {
         Roster {
             firsts: self.top.list(Kind::Train),
             changes: self.own.list(Kind::Train),
@@ -57,6 +70,7 @@ fn fill_table(
     add_trains(alloc, faults, &roster, ground, plan)?;
     let scope = Scope {
         points: &ground.points,
+        switches: &ground.switches,
         trains: &ground.trains,
         routes: &plan.routes,
         exits: &plan.exits,
@@ -101,11 +115,7 @@ fn add_tables(
     let tables = top.list(Kind::Table);
     let count = tables.values.len();
     for index in 0..count.min(MOST_TABLES - 1) {
-        let layer = Layer {
-            top: *top,
-            own: tables.entry(index),
-            number: index.saturating_add(1),
-        };
+        let layer = Layer::of(top, index.saturating_add(1));
         plan.tables
             .push(table_plan(alloc, faults, &layer, ground)?)?;
     }
@@ -129,6 +139,7 @@ fn add_starts(
     };
     let scope = Scope {
         points: &ground.points,
+        switches: &ground.switches,
         trains: &ground.trains,
         routes: &first.routes,
         exits: &first.exits,
@@ -181,11 +192,7 @@ fn fill(
     ground: &Ground,
     plan: &mut Plan,
 ) -> Result<(), AllocError> {
-    let layer = Layer {
-        top: *top,
-        own: Entry::part(Kind::Top, None),
-        number: 0,
-    };
+    let layer = Layer::of(top, 0);
     plan.tables
         .push(table_plan(alloc, faults, &layer, ground)?)?;
     add_starts(alloc, faults, top, ground, plan)?;
@@ -202,7 +209,7 @@ fn ground_of<'t>(
 ) -> Result<Ground<'t>, AllocError> {
     let mut ground = Ground::new(alloc);
     ground.add_trains(faults, &top.list(Kind::Train))?;
-    ground.add_points(faults, top)?;
+    ground.add_points(alloc, faults, top)?;
     ground.add_zones(faults, top)?;
     Ok(ground)
 }
@@ -211,6 +218,8 @@ fn ground_of<'t>(
 pub fn plan_of(alloc: Global, faults: &mut Faults, top: &Entry) -> Result<Plan, AllocError> {
     let ground = ground_of(alloc, faults, top)?;
     let mut plan = Plan {
+        lines: Vec::new(alloc),
+        switches: Vec::new(alloc),
         points: Vec::new(alloc),
         links: Vec::new(alloc),
         zones: greatest(&ground.zones).saturating_add(1),
@@ -219,5 +228,12 @@ pub fn plan_of(alloc: Global, faults: &mut Faults, top: &Entry) -> Result<Plan, 
         tables: Vec::new(alloc),
     };
     fill(alloc, faults, top, &ground, &mut plan)?;
+    let Ground {
+        lines,
+        switches,
+        ..
+    } = ground;
+    plan.lines = lines;
+    plan.switches = switches;
     Ok(plan)
 }

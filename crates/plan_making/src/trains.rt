@@ -1,9 +1,10 @@
 // The trains of a plan under each of its tables.
 use crate::ground::Ground;
+use crate::laying::check_laid;
 use crate::names::{find, text_of};
 use crate::routes::{Scope, place_of};
 use crate::times::{check_times, times_of};
-use plan_document::TablePlan;
+use plan_document::{TablePlan, is_among};
 use plan_entries::{Entries, Entry, Faults, Part};
 use std::alloc::{AllocError, Global};
 use toml::Value;
@@ -83,6 +84,11 @@ impl<'t> Roster<'t> {
         }
     }
 
+    /// The entry that messages about a train under this table are about.
+    pub fn entry(&self, train: usize) -> Entry<'t> {
+        self.service(train).entry()
+    }
+
     /// Tells changes of trains that aren't there, or that are changed already.
     pub fn check_changes(&self, faults: &mut Faults, trains: &[&str]) {
         for index in 0..self.changes.values.len() {
@@ -138,8 +144,8 @@ pub(crate) fn push_names(
     Ok(())
 }
 
-// Names again.
-fn copied(alloc: Global, values: &[Value]) -> Result<Vec<String>, AllocError> {
+/// Names again.
+pub(crate) fn copied(alloc: Global, values: &[Value]) -> Result<Vec<String>, AllocError> {
     let mut names = Vec::new(alloc);
     push_names(&mut names, alloc, values)?;
     Ok(names)
@@ -150,14 +156,15 @@ fn add_train(
     alloc: Global,
     faults: &mut Faults,
     service: &Service,
-    points: &[&str],
+    ground: &Ground,
     plan: &mut TablePlan,
 ) -> Result<(), AllocError> {
     check_route(faults, service);
     let route = service.route();
     let exits = service.exits();
-    check_times(faults, &service.entry(), points, route);
+    check_times(faults, &service.entry(), &ground.points, route);
     let names = copied(alloc, route)?;
+    check_laid(faults, &service.entry().at("route"), ground, &names);
     plan.times
         .push(times_of(alloc, service.times(), &names, exits)?)?;
     plan.routes.push(names)?;
@@ -175,7 +182,7 @@ pub(crate) fn add_trains(
 ) -> Result<(), AllocError> {
     roster.check_changes(faults, &ground.trains);
     for train in 0..ground.trains.len() {
-        add_train(alloc, faults, &roster.service(train), &ground.points, plan)?;
+        add_train(alloc, faults, &roster.service(train), ground, plan)?;
     }
     Ok(())
 }
@@ -226,11 +233,20 @@ fn check_start(
         Some(_) => "start",
         None => "route",
     };
+    check_stand(faults, &entry.at(key).of(here), scope);
     for earlier in 0..later {
         if point_at(scope, earlier, starts) == Some(here) {
             let form = "starts at {}, as train {} does";
             tell_same(faults, &entry.at(key), form, here, scope.train(earlier));
         }
+    }
+}
+
+// Tells that a train starts or ends at a switch.
+fn check_stand(faults: &mut Faults, at: &Entry, scope: &Scope) {
+    if is_among(scope.switches, at.name) {
+        let form = "{} is a switch: no train starts there, or ends there without an exit";
+        faults.tell(at, form, &[Part::Name(at.name)]);
     }
 }
 
@@ -276,6 +292,7 @@ fn check_end(faults: &mut Faults, roster: &Roster, later: usize, scope: &Scope) 
     let service = roster.service(later);
     let at = service.entry().at("route");
     let is_new = scope.table == 0 || service.is_changed();
+    check_stand(faults, &at.of(here), scope);
     for earlier in 0..later {
         if end_of(scope, earlier) == Some(here)
             && (is_new || roster.service(earlier).is_changed())

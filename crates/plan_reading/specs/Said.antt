@@ -1,15 +1,18 @@
 -- What a text says of a plan, and what it is to read it right.
-use Rattle.std.specs.Prelude.{◌≡◌, ◌<◌, ℕ, zero, suc, List, length, ◌==◌, ◌&&◌, ◌||◌, ◌-◌, nat_lt, codes, Bool, true, false, if◌then◌else◌, String, Vec, vec_len, Option, Some, None, option_and_then, unwrap_or, slice_get, slice_index_or, IsSomeAnd, IsTrue, IsUtf8}
+use Rattle.std.specs.Prelude.{◌≡◌, ◌↔◌, ◌<◌, ℕ, zero, suc, List, length, ◌==◌, ◌&&◌, ◌||◌, ◌-◌, nat_lt, codes, Bool, true, false, if◌then◌else◌, String, Vec, vec_len, Option, Some, None, option_and_then, unwrap_or, slice_get, slice_index_or, IsSomeAnd, IsTrue, IsUtf8}
 use Rattle.std.specs.List.{list_all, list_any}
 use Rattle.std.specs.Option.{ForSome, option_or}
 use Rattle.std.specs.declared.alloc.Global.{Global}
 use Rattle.toml.specs.Data.{Data, Items, no_items, item, Members, get_member, get_item, as_array}
 use Rattle.toml.specs.Parse.{parse_document}
 use Rattle.plan_document.specs.Nothing.{points_of}
+use Rattle.plan_document.specs.Tracks.{keeps}
 use Rattle.plan_document.specs.declared.plan.Plan.{Plan}
 use Rattle.plan_document.specs.declared.plan.TablePlan.{TablePlan}
 use Rattle.plan_document.specs.declared.plan.Wait.{Wait}
-use Rattle.plan_reading.specs.Agreeing.{agree_all, value_at, text_at, list_at, is_named, is_route, is_exit, names_place, names_train, starts_at, is_due}
+use Rattle.plan_entries.specs.declared.faults.Fault.{Fault}
+use Rattle.plan_making.specs.Suspects.{has_suspects}
+use Rattle.plan_reading.specs.Agreeing.{agree_all, is_name, value_at, text_at, list_at, is_named, is_route, says_yes, is_exit, names_place, names_train, starts_at, is_due}
 use Rattle.plan_reading.specs.Held.{is_section}
 use Rattle.plan_reading.specs.Timed.{are_times}
 use Rattle.plan_reading.specs.Zoned.{are_zoned}
@@ -83,13 +86,19 @@ is_wait trains routes entry w =
     && names_train (text_at (codes "after") entry) (slice_get trains w.after)
     && names_place (text_at (codes "reached") entry) (points_of (slice_get routes w.after)) w.reached
 
--- a table of a plan agrees with a text and with what the table says itself: in its trains, its sections and its connections, and in when it is due
+-- whether all routes keep to lines, if there are any: each point of them and each link is one of a line, and they pass switches as lines do
+unfoldable pub keep_to : List (Vec (String Global) Global) → List (String Global) → List (Vec (String Global) Global) → Bool
+keep_to lines switches routes = (length lines == 0) || list_all (λ route. keeps lines switches route.items) routes
+
+-- a table of a plan agrees with a text and with what the table says itself: in its trains, its sections and its connections, and in when it is due;
+-- and its routes keep to the plan's lines
 pub record AgreesIn (text : Members) (own : Option Data) (plan : Plan) (t : TablePlan) : Type 0 where
   pub complete : is_complete plan t ≡ true
   pub trains : EachTrain plan (goes_right (entries_at (codes "train") text) own plan t)
   pub sections : agree_all (is_section plan.points.items plan.trains.items t.routes.items) (entries_in (codes "section") text own) t.sections.items ≡ true
   pub connections : agree_all (is_wait plan.trains.items t.routes.items) (entries_in (codes "connection") text own) t.waits.items ≡ true
   pub due : is_due own t.after ≡ true
+  pub laid : keep_to plan.lines.items plan.switches.items t.routes.items ≡ true
 
 -- how many entries there are
 abbrev pub count_of : Items → ℕ
@@ -123,21 +132,49 @@ is_used points zone = list_any (λ p. p.1 == zone) points
 abbrev pub has_zones : List (String Global × ℕ) → ℕ → Bool
 has_zones points zones = nat_lt 0 zones && are_within points zones && (zones == 1 || is_used points (zones - 1))
 
+-- whether a text says that routes need not keep to its lines
+abbrev pub is_open : Members → Bool
+is_open text = says_yes (get_member (codes "open") text)
+
+-- the lines to which routes have to keep: those of a text, unless it is open
+abbrev pub lines_of : Members → Items
+lines_of text = if is_open text then no_items else entries_at (codes "lines") text
+
+-- whether an item names the points of this line
+abbrev pub is_line : Data → Vec (String Global) Global → Bool
+is_line d line = is_route (Some d) line.items
+
+-- a plan has the lines of a text to which routes have to keep, and its switches
+pub record AreTracks (text : Members) (plan : Plan) : Type 0 where
+  pub lines : agree_all is_line (lines_of text) plan.lines.items ≡ true
+  pub switches : agree_all is_name (entries_at (codes "switches") text) plan.switches.items ≡ true
+
 -- a plan is what a text says: it has the text's trains, in order, by their names, and starts them where it says; its points are in the zones that it
--- says; and its tables are as it says. This leaves out the links, and which points there are and in which order
+-- says; its tables are as it says; and its routes keep to the text's lines, if it has any and isn't open. This leaves out which points and links there
+-- are, and in which order
 pub record IsPlanOf (text : Members) (plan : Plan) : Type 0 where
+  pub tracks : AreTracks text plan
   pub trains : agree_all is_named (entries_at (codes "train") text) plan.trains.items ≡ true
   pub starts : ForSome (slice_get plan.tables.items 0) (StartAsSaid (entries_at (codes "train") text) plan)
   pub zoned : are_zoned (get_member (codes "zones") text) plan.points.items ≡ true
   pub zones : has_zones plan.points.items plan.zones ≡ true
   pub tables : TablesAsSaid text (entries_at (codes "table") text) plan
 
+-- there are remarks on a plan exactly if one of its points is probably mistyped
+abbrev pub AreRemarks : Plan → Vec Fault Global → Type 0
+AreRemarks plan remarks = IsTrue (has_suspects plan) ↔ (0 < vec_len remarks)
+
+-- a plan is what a text says, and these are the remarks on it
+pub record IsRemarked (text : Members) (plan : Plan) (remarks : Vec Fault Global) : Type 0 where
+  pub is_plan : IsPlanOf text plan
+  pub are_remarks : AreRemarks plan remarks
+
 -- a table of keys is read right: as a plan that agrees with it, or with one fault at least
 abbrev pub IsReading : Members → PlanRead → Type 0
-IsReading text (PlanRead.Plan plan) = IsPlanOf text plan
+IsReading text (PlanRead.Plan plan remarks) = IsRemarked text plan remarks
 IsReading text (PlanRead.Faults faults) = 0 < vec_len faults
 
 -- a text is read right: as a plan only if it is UTF-8 and TOML, and the plan agrees with it; with one fault at least otherwise
 abbrev pub IsPlanRead : List ℕ → PlanRead → Type 0
-IsPlanRead text (PlanRead.Plan plan) = IsUtf8 text × IsSomeAnd (parse_document text) (λ document. IsPlanOf document plan)
+IsPlanRead text (PlanRead.Plan plan remarks) = IsUtf8 text × IsSomeAnd (parse_document text) (λ document. IsRemarked document plan remarks)
 IsPlanRead text (PlanRead.Faults faults) = 0 < vec_len faults

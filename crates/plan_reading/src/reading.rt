@@ -1,12 +1,12 @@
 // A plan from its text.
 ghost use Rattle.std.specs.Prelude.{◌<◌, IfOk, vec_len};
 ghost use Rattle.toml.specs.View.{table_view};
-ghost use Rattle.plan_reading.specs.Said.{IsPlanRead, IsReading};
+ghost use Rattle.plan_reading.specs.Said.{AreRemarks, IsPlanRead, IsReading};
 
 use crate::agreement::agrees;
 use plan_document::Plan;
 use plan_entries::{Entry, Fault, Faults, Kind, check_types};
-use plan_making::plan_of;
+use plan_making::{has_suspects, plan_of, tell_suspects};
 use std::alloc::{AllocError, Global};
 use toml::Table;
 use toml::de::Error;
@@ -14,7 +14,8 @@ use toml::de::Error;
 /// What a text is as a plan.
 #[derive(Drop)]
 pub enum PlanRead {
-    Plan(Plan),
+    /// A plan, and remarks on it: points of its routes that are probably mistyped.
+    Plan { plan: Plan, remarks: Vec<Fault> },
     /// All that is wrong with it, in the order of lines.
     Faults(Vec<Fault>),
 }
@@ -71,16 +72,28 @@ fn not_toml(alloc: Global, text: &[u8], error: &Error) -> Result<PlanRead, Alloc
     }
 }
 
-// The faults that were found; one at least, where a plan isn't what its text says.
-fn all_faults(alloc: Global, faults: Faults) -> Result<Vec<Fault>, AllocError>
+// The faults that were found, or one of these words.
+fn all_faults(alloc: Global, faults: Faults, words: &str) -> Result<Vec<Fault>, AllocError>
     ensures { IfOk result (λ list. 0 < vec_len list) }
 {
     let mut list = faults.into_list()?;
     if list.is_empty() {
-        let words = String::from_str(alloc, "the plan isn't what its text says")?;
+        let words = String::from_str(alloc, words)?;
         list.push(Fault { line: 1, words })?;
     }
     Ok(list)
+}
+
+// The remarks on a plan: points of its routes that are probably mistyped.
+fn remarks_on(alloc: Global, text: &str, top: &Entry, plan: &Plan) -> Result<Vec<Fault>, AllocError>
+    ensures { IfOk result (AreRemarks plan.now) }
+{
+    if !has_suspects(plan) {
+        return Ok(Vec::new(alloc));
+    }
+    let mut remarks = Faults::new(alloc, text)?;
+    tell_suspects(&mut remarks, top, plan);
+    all_faults(alloc, remarks, "a point of a route is probably mistyped")
 }
 
 // What a table of keys is as a plan.
@@ -92,17 +105,21 @@ fn read_table(alloc: Global, text: &str, table: &Table) -> Result<PlanRead, Allo
     check_types(&mut faults, &top);
     let plan = plan_of(alloc, &mut faults, &top)?;
     if faults.is_empty() && agrees(alloc, table, &plan)? {
-        return Ok(PlanRead::Plan(plan));
+        let remarks = remarks_on(alloc, text, &top, &plan)?;
+        return Ok(PlanRead::Plan { plan, remarks });
     }
-    Ok(PlanRead::Faults(all_faults(alloc, faults)?))
+    let words = "the plan isn't what its text says";
+    Ok(PlanRead::Faults(all_faults(alloc, faults, words)?))
 }
 
 /// Reads a plan in TOML. All that is wrong with it is reported, with lines and names.
 ///
-/// The keys at the top are `lines` (lists of points, each linked to the next), `zones` (a table: the number of a zone, and
-/// its points; those in none are in zone 0), and the lists of tables `train`, `section`, `connection` and `table`. Points and
-/// links are those of `lines` and then those of the routes, in the order in which they are first named. The second time that
-/// a point comes on a route is called `"M#2"` where a place is meant.
+/// The keys at the top are `lines` (lists of points, each linked to the next), `switches` (points), `open`, `zones` (a table:
+/// the number of a zone, and its points; those in none are in zone 0), and the lists of tables `train`, `section`,
+/// `connection` and `table`. Points and links are those of `lines`, and routes keep to them: they pass a switch as a line does, or from
+/// the end of a line to the end of another. If there are no lines, or `open` is true, those of the routes follow, in the order in
+/// which they are first named, and there are remarks on points that are probably mistyped. The second time that a point comes on
+/// a route is called `"M#2"` where a place is meant.
 ///
 /// - A train has a `name`, a `route`, and may have a `start` (else its first place), `exit` (else false) and `times`: a number
 ///   for each step, or a table of them by steps, as `"A B" = 3`, with a `default` for the others (else 1).
@@ -118,8 +135,8 @@ fn read_table(alloc: Global, text: &str, table: &Table) -> Result<PlanRead, Allo
 ///   the first table: `route`, `exit`, `times`. Its `section` and `connection`, if there are any, replace those of the first
 ///   table, which else hold by the names of their points.
 ///
-/// A plan that is given has been compared with the text once more, and is what it says in all of this but the links, and
-/// which points there are and in which order.
+/// A plan that is given has been compared with the text once more, and is what it says in all of this, but for which points and
+/// links there are and in which order, and the words of the remarks.
 pub fn read_plan(alloc: Global, text: &[u8]) -> Result<PlanRead, AllocError>
     ensures { IfOk result (IsPlanRead text.now) }
 {

@@ -3,8 +3,8 @@ use Rattle.std.proofs.Common.{ℕ, List, Option}
 use Rattle.std.specs.Prelude.{Result, Ok, Err, IfOk, string_bytes}
 use Rattle.planner_words.specs.declared.orders.Effort.{Effort}
 use Rattle.planner_words.specs.declared.orders.Order.{Order}
-use Rattle.planner_words.specs.declared.orders.Order.TheVariants.{Lint, Certify, Protect, AddOrders}
-use Rattle.planner_run.specs.Answered.{AreWrongFor, IfText, IsAnswerTo, IsCertifying, IsLinted, IsOrdering, IsProtecting, IsTextFor}
+use Rattle.planner_words.specs.declared.orders.Order.TheVariants.{Plan as OfPlan, Lint, Certify, Protect, AddOrders}
+use Rattle.planner_run.specs.Answered.{AreWrongFor, IfText, IsAnswerTo, IsCertifying, IsLinted, IsOrdering, IsPlanning, IsProtecting, IsTextFor}
 use Rattle.planner_run.specs.declared.answer.Answer.{Answer}
 use Rattle.planner_run.specs.declared.answer.Answer.TheVariants.{Text, Remarks, Noted, Wrong}
 use denote.Ref.{Bor}
@@ -27,6 +27,12 @@ lint_answers before former input (Text text) linted = linted
 lint_answers before former input (Remarks lines) linted = tt
 lint_answers before former input (Noted text lines) linted = absurd linted
 lint_answers before former input (Wrong lines) linted = tt
+
+pub planning_answers : (former : Option (Bor (List ℕ))) (input : List ℕ) (a : Answer) → IsPlanning input a → IsAnswerTo OfPlan former input a
+planning_answers former input (Text text) holds = absurd holds
+planning_answers former input (Remarks lines) holds = absurd holds
+planning_answers former input (Noted text lines) holds = (tt, holds)
+planning_answers former input (Wrong lines) holds = tt
 
 pub ordering_answers : (former : Option (Bor (List ℕ))) (input : List ℕ) (a : Answer) → IsOrdering input a → IsAnswerTo AddOrders former input a
 ordering_answers former input (Text text) holds = absurd holds

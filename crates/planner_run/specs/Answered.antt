@@ -1,12 +1,14 @@
 -- What the answers to orders are.
-use Rattle.std.specs.Prelude.{◌≡◌, ℕ, ◌++◌, Bool, true, false, List, [], Ok, Option, Some, None, string_bytes}
+use Rattle.std.specs.Prelude.{◌≡◌, ℕ, ◌++◌, Bool, true, false, List, [], Ok, Option, Some, None, string_bytes, Vec}
 use Rattle.ats_io.specs.Bytes.{AddsPrefix}
 use Rattle.decimal_number.specs.Decimal.{number_of}
 use Rattle.document_shapes.specs.Written.{text_of}
 use Rattle.rail_model.specs.State.{Legal}
 use Rattle.refusal_lines.specs.Makers.{places_words}
 use Rattle.layout_json.specs.Reading.{doc_of}
-use Rattle.layout_json.specs.Doc.{Doc, table_at}
+use Rattle.layout_json.specs.Doc.{Doc, names_of, table_at}
+use Rattle.std.specs.declared.alloc.Global.{Global}
+use Rattle.plan_entries.specs.declared.faults.Fault.{Fault}
 use Rattle.plan_document.specs.Written.{document_of}
 use Rattle.plan_document.specs.declared.plan.Plan.{Plan}
 use Rattle.plan_reading.specs.Said.{IsPlanRead}
@@ -17,7 +19,8 @@ use Rattle.refusal_sentences.specs.declared.explained.Explained.{Explained}
 use Rattle.refusal_sentences.specs.declared.explained.Explained.TheVariants.{State, Refusal, NotLegal, NoTable, NoDocument, NoLine}
 use Rattle.run_sentences.specs.Told.{TellsRun}
 use Rattle.run_timetable.specs.declared.run.Run.{Run}
-use Rattle.timed_reading.specs.Runs.{IsToldRun}
+use Rattle.run_timetable.specs.Csv.{csv_text}
+use Rattle.timed_reading.specs.Reads.{IsInputOf}
 use Rattle.train_graph.specs.Marks.{IsGraph}
 use Rattle.layout_picture.specs.Drawn.{IsDrawn}
 use Rattle.document_lint.specs.Told.{LosesNoSection}
@@ -43,7 +46,8 @@ ReadsAsDocument text = (document : Doc) × (doc_of text ≡ Ok document)
 -- The input is a plan, whose document the text is, and it reads as one.
 pub record IsPlanned (input text : List ℕ) : Type 0 where
   pub plan : Plan
-  pub is_plan : IsPlanRead input (AsPlan plan)
+  pub remarks : Vec Fault Global
+  pub is_plan : IsPlanRead input (AsPlan plan remarks)
   pub is_text : text ≡ text_of (document_of plan)
   pub is_document : ReadsAsDocument text
 
@@ -94,14 +98,30 @@ pub record ExplainsWords (input line text : List ℕ) : Type 0 where
   pub explains : ExplainsLine input line told
   pub tells : ExplainsAs told text
 
--- The text is the graph of a timed run of a document: a picture with one mark for each step.
-pub record IsGraphText (text : List ℕ) : Type 0 where
-  pub document : Doc
-  pub run : Run
+-- The text is the graph of a timed run: a picture with one mark for each step.
+pub record IsGraphOf (run : Run) (text : List ℕ) : Type 0 where
   pub picture : Picture
-  pub is_run : IsToldRun document run
   pub is_graph : IsGraph run picture
   pub is_text : text ≡ svg_text picture
+
+-- The input is a document and the text of a timed run of it, and the text is the graph of that run.
+pub record IsGraphText (input text : List ℕ) : Type 0 where
+  pub document : Doc
+  pub run : Run
+  pub is_input : IsInputOf input document run
+  pub is_graph : IsGraphOf run text
+
+-- The text is the timetable of a run of a document: as comma-separated values, exactly these. Of columns nothing is said.
+abbrev pub IsTimetableOf : Doc → Run → Bool → List ℕ → Type 0
+IsTimetableOf D run true text = text ≡ csv_text D.layout (names_of D) run
+IsTimetableOf D run false text = Unit {0}
+
+-- The input is a document and the text of a timed run of it, and the text is the timetable of that run.
+pub record IsTimetableText (input : List ℕ) (is_csv : Bool) (text : List ℕ) : Type 0 where
+  pub document : Doc
+  pub run : Run
+  pub is_input : IsInputOf input document run
+  pub is_timetable : IsTimetableOf document run is_csv text
 
 -- The places are those that the words name; without words, those at the start.
 abbrev pub AreAsked : Doc → Option (Bor (List ℕ)) → List ℕ → Type 0
@@ -151,8 +171,8 @@ IsTextFor (Lint before) former input text = HasNoRemarks former input text
 IsTextFor (Certify budget effort) former input text = IsCertifiedInput input budget text
 IsTextFor (Protect budget effort rounds) former input text = IsProtectedInput input text
 IsTextFor AddOrders former input text = IsOrderedInput input text
-IsTextFor (Timetable csv) former input text = Unit {0}
-IsTextFor (Graph train) former input text = IsGraphText text
+IsTextFor (Timetable csv) former input text = IsTimetableText input csv text
+IsTextFor (Graph train) former input text = IsGraphText input text
 IsTextFor (Layout table at) former input text = IsLayoutText input table.now at text
 
 -- The lines are what is wrong with an input for an order. Only of those of `certify` and `protect` anything is said.
@@ -191,7 +211,7 @@ AsksForRemarks (Layout table at) = ⊥
 abbrev pub AsksForNotes : Order → Type 0
 AsksForNotes (Protect budget effort rounds) = Unit {0}
 AsksForNotes AddOrders = Unit {0}
-AsksForNotes OfPlan = ⊥
+AsksForNotes OfPlan = Unit {0}
 AsksForNotes (ExplainState table at run) = ⊥
 AsksForNotes (ExplainLine line) = ⊥
 AsksForNotes (Lint before) = ⊥
@@ -241,6 +261,13 @@ IsProtecting input (Text text) = ⊥
 IsProtecting input (Remarks lines) = ⊥
 IsProtecting input (Noted text lines) = IsProtectedInput input text.items
 IsProtecting input (Wrong lines) = IsProtectingFault input (string_bytes lines)
+
+-- The answer is the document of a plan, with the remarks on the plan as notes, or what is wrong.
+abbrev pub IsPlanning : List ℕ → Answer → Type 0
+IsPlanning input (Text text) = ⊥
+IsPlanning input (Remarks lines) = ⊥
+IsPlanning input (Noted text lines) = IsPlanned input text.items
+IsPlanning input (Wrong lines) = Unit {0}
 
 -- The answer is the document with orders and notes on them, or what is wrong.
 abbrev pub IsOrdering : List ℕ → Answer → Type 0

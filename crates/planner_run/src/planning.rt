@@ -2,7 +2,7 @@
 ghost use Rattle.std.specs.Prelude.{◌≡◌, IfOk, IfNone};
 ghost use Rattle.plan_reading.specs.Said.{IsPlanRead};
 ghost use Rattle.plan_reading.specs.declared.reading.PlanRead.TheVariants.{Plan as AsPlan};
-ghost use Rattle.planner_run.specs.Answered.{IfText, ReadsAsDocument, IsPlanned};
+ghost use Rattle.planner_run.specs.Answered.{IsPlanning, ReadsAsDocument};
 
 use crate::Answer;
 use layout_json::{DocRefused, document};
@@ -13,33 +13,39 @@ use std::alloc::{AllocError, Global};
 
 /// The document of the plan that a text is, or all that is wrong with the plan, each with its line.
 pub(crate) fn plan(alloc: Global, text: &[u8]) -> Result<Answer, AllocError>
-    ensures { IfOk result (IfText (IsPlanned text.now)) }
+    ensures { IfOk result (IsPlanning text.now) }
 {
     match read_plan(alloc, text)? {
-        PlanRead::Plan(plan) => planned(alloc, text, plan),
-        PlanRead::Faults(faults) => Ok(Answer::Wrong(lines_of(alloc, &faults)?)),
+        PlanRead::Plan { plan, remarks } => planned(alloc, text, plan, remarks),
+        PlanRead::Faults(faults) => Ok(Answer::Wrong(lines_of(alloc, &faults, "")?)),
     }
 }
 
-// A line for each fault.
-fn lines_of(alloc: Global, faults: &[Fault]) -> Result<String, AllocError> {
+// A line for each fault, with a word before what is wrong.
+fn lines_of(alloc: Global, faults: &[Fault], kind: &str) -> Result<String, AllocError> {
     let mut lines = String::new(alloc);
     for fault in faults {
         let line = fault.line;
         let words = fault.words.as_str();
-        write!(lines, "line {line}: {words}\n")?;
+        write!(lines, "line {line}: {kind}{words}\n")?;
     }
     Ok(lines)
 }
 
-// The document of a plan that was read of a text, if it reads as one.
-fn planned(alloc: Global, text: &[u8], plan: Plan) -> Result<Answer, AllocError>
-    requires { IsPlanRead text.now (AsPlan plan) }
-    ensures { IfOk result (IfText (IsPlanned text.now)) }
+// The document of a plan that was read of a text, if it reads as one, with a note for each remark on the plan.
+fn planned(
+    alloc: Global,
+    text: &[u8],
+    plan: Plan,
+    remarks: Vec<Fault>,
+) -> Result<Answer, AllocError>
+    requires { IsPlanRead text.now (AsPlan plan remarks) }
+    ensures { IfOk result (IsPlanning text.now) }
 {
+    let notes = lines_of(alloc, &remarks, "remark: ")?;
     let document = written(alloc, plan)?;
     match refusal_of(alloc, &document)? {
-        None => Ok(Answer::Text(document)),
+        None => Ok(Answer::Noted(document, notes)),
         Some(line) => Ok(Answer::Wrong(line)),
     }
 }

@@ -1,34 +1,43 @@
 // Timetables and graphs of timed runs.
 ghost use Rattle.std.specs.Prelude.{◌≡◌, IfOk};
 ghost use Rattle.timed_reading.specs.Runs.{IsToldRun};
-ghost use Rattle.planner_run.specs.Answered.{IfText, IsGraphText};
+ghost use Rattle.planner_run.specs.Answered.{IfText, IsGraphOf, IsGraphText, IsTimetableOf, IsTimetableText};
 
 use crate::Answer;
 use layout_json::{Doc, layout_of, names_of};
 use rail_model::Names;
-use run_timetable::{Form, Run, written};
+use run_timetable::{Run, columns, csv};
 use std::alloc::{AllocError, Global};
 use svg_text::text;
 use timed_reading::{Timed, timed_run};
 use train_graph::train_graph;
 
 /// The timetable of a timed run.
-pub(crate) fn timetable(alloc: Global, input: &[u8], csv: bool) -> Result<Answer, AllocError>
-    ensures { IfOk result (IfText (λ text. Unit {0})) }
+pub(crate) fn timetable(alloc: Global, input: &[u8], is_csv: bool) -> Result<Answer, AllocError>
+    ensures { IfOk result (IfText (IsTimetableText input.now is_csv)) }
 {
-    let form = if csv { Form::Csv } else { Form::Text };
     match timed_run(alloc, input)? {
-        Timed::Run { doc, run } => {
-            let table = written(alloc, layout_of(&doc), names_of(&doc), &run, form)?;
-            Ok(Answer::Text(table.into_bytes()))
-        }
+        Timed::Run { doc, run } => timetable_of(alloc, &doc, &run, is_csv),
         Timed::Fault(words) => Ok(Answer::Wrong(words)),
+    }
+}
+
+// The timetable of a run of a document.
+fn timetable_of(alloc: Global, doc: &Doc, run: &Run, is_csv: bool) -> Result<Answer, AllocError>
+    ensures { IfOk result (IfText (IsTimetableOf doc.now run.now is_csv)) }
+{
+    if is_csv {
+        let table = csv(alloc, layout_of(doc), names_of(doc), run)?;
+        Ok(Answer::Text(table.into_bytes()))
+    } else {
+        let table = columns(alloc, layout_of(doc), names_of(doc), run)?;
+        Ok(Answer::Text(table.into_bytes()))
     }
 }
 
 /// The graph of a timed run, along the route of a train if one is named.
 pub(crate) fn graph(alloc: Global, input: &[u8], train: Option<&str>) -> Result<Answer, AllocError>
-    ensures { IfOk result (IfText IsGraphText) }
+    ensures { IfOk result (IfText (IsGraphText input.now)) }
 {
     match timed_run(alloc, input)? {
         Timed::Run { doc, run } => graph_of(alloc, &doc, &run, train),
@@ -39,7 +48,7 @@ pub(crate) fn graph(alloc: Global, input: &[u8], train: Option<&str>) -> Result<
 // The graph of a run of a document.
 fn graph_of(alloc: Global, doc: &Doc, run: &Run, train: Option<&str>) -> Result<Answer, AllocError>
     requires { IsToldRun doc.now run.now }
-    ensures { IfOk result (IfText IsGraphText) }
+    ensures { IfOk result (IfText (IsGraphOf run.now)) }
 {
     let chosen = match train {
         Some(name) => match numbered(names_of(doc), name) {

@@ -155,7 +155,7 @@ const CHANGES: &str =
 13: weights = 2 => line 13: section "corridor": no key "weights"; the keys are name, limit, points, weight, only, from, to
 13: / [[table]] / after = 4 / zones = 2 => line 16: table 1: no key "zones"; the keys are after, train, section, connection
 13: / [[table]] / after = 4 / [[table.train]] / name = "T1" / start = "C" => line 18: table 1, train "T1": no key "start"; the keys are name, route, exit, times
-9: [[sections]] => line 9: no key "sections"; the keys are lines, zones, train, section, connection, table
+9: [[sections]] => line 9: no key "sections"; the keys are lines, open, switches, zones, train, section, connection, table
 11: limit = 129 => line 11: section "corridor": a limit is 0 to 128, and this is 129
 13: / [[table]] / [[table.train]] / name = "T1" / exit = true => line 14: table 1: "after" is missing
 13: / [[table]] / after = 4 / [[table.section]] / limit = 1 / points = ["M"] / from = { T0 = "M#02", T1 = "M#2" } => line 19: table 1, section 0: "M#02" is not on the route of train "T0" in table 1

@@ -1,6 +1,7 @@
 -- When trains arrive, leave and wait.
 use Rattle.std.specs.Prelude.{ℕ, ◌+◌, ◌-◌, ◌==◌, max, min, List, [], ◌∷◌, fold, Option, Some, None, if◌then◌else◌, length, slice_index_or}
 use Rattle.rail_model.specs.Layout.{Layout}
+use Rattle.run_timetable.specs.declared.run.Run.{Run}
 use Rattle.run_timetable.specs.declared.run.Step.{Step}
 use Rattle.run_timetable.specs.declared.rows.Row.{Row}
 
@@ -41,6 +42,10 @@ rows_after i row (s ∷ later) =
 -- the row of the point at which train i begins
 abbrev pub beginning : ℕ → Option ℕ → Row
 beginning i point = record { train = i; point = point; arrives = None; leaves = None }
+
+-- the rows of train i of a run
+abbrev pub rows_in : Run → ℕ → List Row
+rows_in run i = rows_after i (beginning i (start_of run.starts.items i)) run.steps.items
 
 -- from the arrival, or from tick 0, to the next step
 abbrev pub wait_of : Row → Option ℕ

@@ -4,7 +4,9 @@
 mod rows;
 mod run;
 mod table;
+mod values;
 
 pub use rows::{Row, rows_of};
 pub use run::{Run, Step, Takeover, point_name, train_name};
-pub use table::{Form, written};
+pub use table::columns;
+pub use values::csv;

@@ -1,13 +1,13 @@
 // The rows of a timetable.
 ghost use Rattle.std.specs.Prelude.{◌≡◌, IfOk};
-ghost use Rattle.run_timetable.specs.Timetable.{rows_after, beginning, wait_of};
+ghost use Rattle.run_timetable.specs.Timetable.{beginning, rows_after, rows_in as rows_of_train, wait_of};
 
-use crate::Step;
+use crate::{Run, Step};
 use std::alloc::{AllocError, Global};
 
 /// A train at a point of its way, or out of the layout: when it arrives there and when it leaves, in ticks. It doesn't
 /// arrive at its first point, and doesn't leave its last one.
-#[derive(Clone, Copy, Debug, PartialEq, Eq)]
+#[derive(Clone, Copy)]
 pub struct Row {
     pub train: u32,
     pub point: Option<u32>,
@@ -57,4 +57,11 @@ pub fn rows_of(
     }
     rows.push(row)?;
     Ok(rows)
+}
+
+/// The rows of a train of a run.
+pub(crate) fn rows_in(alloc: Global, run: &Run, train: u32) -> Result<Vec<Row>, AllocError>
+    ensures { IfOk result (λ rows. rows.items ≡ rows_of_train run.now train) }
+{
+    rows_of(alloc, &run.steps, train, run.start(train))
 }

@@ -6,7 +6,7 @@ ghost use Rattle.run_timetable.specs.Timetable.{arrival, end_of, name_of, start_
 use rail_model::{Layout, Names};
 
 /// A step of a train: when it leaves its point, in ticks, and how long it takes. A step to no point leaves the layout.
-#[derive(Clone, Copy, Debug, PartialEq, Eq)]
+#[derive(Clone, Copy)]
 pub struct Step {
     pub tick: u32,
     pub train: u32,
@@ -25,7 +25,7 @@ impl Step {
 }
 
 /// A table that took over, and the tick at which it did.
-#[derive(Clone, Copy, Debug, PartialEq, Eq)]
+#[derive(Clone, Copy)]
 pub struct Takeover {
     pub tick: u32,
     pub table: u32,

@@ -1,36 +1,20 @@
-// A timetable as text.
-use crate::{Row, Run, point_name, rows_of, train_name};
+// A timetable as text: columns.
+use crate::rows::rows_in;
+use crate::values::place_name;
+use crate::{Row, Run, point_name, train_name};
 use rail_model::{Layout, Names};
 use std::alloc::{AllocError, Global};
 
-/// How a timetable is written.
-#[derive(Clone, Copy, Debug, PartialEq, Eq)]
-pub enum Form {
-    /// Columns of text, and under them when each train ends, and when all have ended.
-    Text,
-    /// A row of names and then rows of values, with commas between them (RFC 4180). What there isn't is empty.
-    Csv,
-}
-
-/// The timetable of a run.
-pub fn written(
+/// The timetable of a run: columns of text, and under them when each train ends, and when all have ended.
+pub fn columns(
     alloc: Global,
     layout: &Layout,
     names: &Names,
     run: &Run,
-    form: Form,
 ) -> Result<String, AllocError> {
     let mut out = String::new(alloc);
-    match form {
-        Form::Text => push_text(alloc, &mut out, layout, names, run)?,
-        Form::Csv => push_csv(alloc, &mut out, layout, names, run)?,
-    }
+    push_text(alloc, &mut out, layout, names, run)?;
     Ok(out)
-}
-
-// The rows of a train of a run.
-fn rows_in(alloc: Global, run: &Run, train: u32) -> Result<Vec<Row>, AllocError> {
-    rows_of(alloc, &run.steps, train, run.start(train))
 }
 
 // What a cell of a timetable holds.
@@ -39,44 +23,6 @@ fn cell(alloc: Global, value: Option<u64>, none: &str) -> Result<String, AllocEr
         Some(value) => format!(in alloc; "{value}"),
         None => String::from_str(alloc, none),
     }
-}
-
-fn place_name(layout: &Layout, point: Option<u32>) -> &str {
-    match point {
-        Some(point) => point_name(layout, point),
-        None => "-",
-    }
-}
-
-fn push_csv(
-    alloc: Global,
-    out: &mut String,
-    layout: &Layout,
-    names: &Names,
-    run: &Run,
-) -> Result<(), AllocError> {
-    out.push_str("train,point,arrives,leaves,waits\n")?;
-    for train in 0..run.trains() {
-        for row in &rows_in(alloc, run, train)? {
-            push_csv_row(alloc, out, layout, names, row)?;
-        }
-    }
-    Ok(())
-}
-
-fn push_csv_row(
-    alloc: Global,
-    out: &mut String,
-    layout: &Layout,
-    names: &Names,
-    row: &Row,
-) -> Result<(), AllocError> {
-    let train = train_name(names, row.train);
-    let point = place_name(layout, row.point);
-    let arrives = cell(alloc, row.arrives, "")?;
-    let leaves = cell(alloc, row.leaves, "")?;
-    let waits = cell(alloc, row.wait(), "")?;
-    write!(out, "{train},{point},{arrives},{leaves},{waits}\n")
 }
 
 // How wide the columns of names are.

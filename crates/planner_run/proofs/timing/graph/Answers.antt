@@ -1,0 +1,9 @@
+use Rattle.std.proofs.Common.{rules}
+use Rattle.planner_run.proofs.Weaker.{if_ok-weaker}
+use Rattle.planner_run.proofs.timing.graph.Goals as goal
+
+pub returns-in-Run : goal.returns-in-Run
+returns-in-Run c =
+    if_ok-weaker c.graph_of.result
+    (λ text is. record { document = c.in-Run.doc; run = c.in-Run.run; is_input = search rules; is_graph = is })
+    c.graph_of.ensures
