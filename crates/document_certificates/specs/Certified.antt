@@ -3,6 +3,10 @@ use Rattle.std.specs.Prelude.{◌≡◌, ℕ, ◌<◌, ◌≤◌, List, length, 
 use Rattle.rail_model.specs.Certificate.{Tree, Accepts, preorder}
 use Rattle.rail_model.specs.Move.{Stuck as IsStuck}
 use Rattle.rail_model.specs.Table.{Table}
+use Rattle.cert_maker.specs.declared.made.Made.TheVariants as rule
+use Rattle.cert_maker.specs.Rule.{Makes}
+use Rattle.cert_search.specs.declared.found.Effort.{Effort}
+use Rattle.cert_search.specs.declared.found.Effort.TheVariants.{Great}
 use Rattle.layout_json.specs.Doc.{Doc, table_at}
 use Rattle.layout_json.specs.Reading.{doc_of}
 use Rattle.layout_json.specs.Replaced.{certified}
@@ -40,3 +44,11 @@ abbrev pub HasNone : Doc → ℕ → Uncertified → Type 0
 HasNone D budget Memory = Unit {0}
 HasNone D budget (Stuck t p) = (t < length D.tables) × IsStuck (table_at D t) p
 HasNone D budget (GaveUp t nodes) = (t < length D.tables) × (nodes ≤ budget)
+
+-- Where searches of great effort gave up on one of these tables, the maker's rule gives no certificate of it either, of at
+-- most so many nodes. A budget of the rule is 1,000,000 at most.
+abbrev pub GivesUpLast : (ℕ → Table) → ℕ → Effort → Uncertified → Type 0
+GivesUpLast tables budget effort Memory = Unit {0}
+GivesUpLast tables budget effort (Stuck t p) = Unit {0}
+GivesUpLast tables budget effort (GaveUp t nodes) =
+    effort ≡ Great → budget ≤ 1000000 → (c : Tree) → Makes (tables t) budget (rule.Cert c) → ⊥

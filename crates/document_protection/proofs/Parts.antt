@@ -32,6 +32,19 @@ none = (record { missions = []; sections = []; connections = [] }, arrived)
 abbrev doc_at : List DocTable → ℕ → DocTable
 doc_at ts t = slice_index_or ts t no_table
 
+-- These are the tables of a document that is another one in a later version.
+pub record AreApart (D E : Doc) (tables : List Table) : Type 0 where
+  pub tables_are : tables ≡ map (λ t. t.table) E.tables
+  pub migrated : IsMigrated D E
+
+-- tables that are taken out of a document are lent
+pub are_apart : (D E F : Doc) (lent tables : List Table) → E ≡ F → IsMigrated D F → lent ≡ tables →
+    tables ≡ map (λ t. t.table) F.tables → AreApart D E lent
+are_apart D E F lent tables same migrated lent_are taken = record {
+  tables_are = lent_are ∙ taken ∙ ap (λ (G : Doc). map (λ t. t.table) G.tables) (sym same);
+  migrated = subst (λ (G : Doc). IsMigrated D G) (sym same) migrated;
+}
+
 -- what is so of a number's part
 abbrev Part : List Table → ℕ → List (List Stay) → Table × Tree → Type 0
 Part tables t g p = IsPartOf (table_in tables t) g p.0 p.1

@@ -10,7 +10,7 @@ use cert_tree::Cert;
 use layout_json::{Doc, migrate, tables_apart, version, write_replaced};
 use legal_state::judge;
 use rail_model::Table;
-use section_protect::{Ended, Protected, Searching, protect};
+use section_protect::{Ended, Finder, Protected, protect};
 use std::alloc::Global;
 
 /// The text of a document with guards, and the guards of each table.
@@ -40,10 +40,10 @@ fn cert_of(ended: Ended) -> Result<Cert, Why>
 }
 
 // Each of these tables with guards and a certificate.
-fn parts_of(
+fn parts_of<F: Finder>(
     alloc: Global,
     tables: &[Table],
-    searching: Searching,
+    finder: &F,
     rounds: u32,
 ) -> Result<Parts, Unprotected>
     requires { length tables.now ≤ 16 }
@@ -58,7 +58,7 @@ fn parts_of(
             table: made,
             guards: some,
             ended,
-        } = protect(alloc, table, &searching, rounds)?;
+        } = protect(alloc, table, finder, rounds)?;
         guards.push(Guards::from(some))?;
         match cert_of(ended) {
             Ok(cert) => parts.push((made, cert))?,
@@ -71,17 +71,17 @@ fn parts_of(
     Ok(Parts { parts, guards })
 }
 
-/// The document with guards behind the sections of each table, and with certificates found by search, all else equal.
+/// The document with guards behind the sections of each table, and with certificates that a finder finds, all else equal.
 /// In at most `rounds` rounds for each table a guard is made. It is in version 2 if it was in version 1.
 ///
 /// # Errors
 ///
 /// The guards up to those of the first table of which no certificate is found, and why; or that the guards forbid the
 /// start; or out of memory.
-pub fn protected(
+pub fn protected<F: Finder>(
     alloc: Global,
     doc: &Doc,
-    searching: Searching,
+    finder: &F,
     rounds: u32,
 ) -> Result<ProtectedDoc, Unprotected>
     ensures made { IfOk result (λ made. IsProtected doc.now made.guards.items made.text.items) }
@@ -92,7 +92,7 @@ pub fn protected(
     let is_later = version(&later) > 1;
     prove!(is_later);
     let (frame, tables) = tables_apart(alloc, later)?;
-    let Parts { parts, guards } = parts_of(alloc, &tables, searching, rounds)?;
+    let Parts { parts, guards } = parts_of(alloc, &tables, finder, rounds)?;
     match judge(&parts[0].0, frame.start()) {
         Ok(()) => {
             let text = write_replaced(alloc, &frame, &parts)?;

@@ -1,4 +1,5 @@
-//! What the planner's program does: it reads its input to the end, and writes what an order asks for, or what is wrong, a line each.
+//! What the planner's program does: it reads its input to the end, and writes what an order asks for, or what is wrong, a
+//! line each.
 #![tactic(auto)]
 
 mod answer;
@@ -13,4 +14,5 @@ mod timing;
 mod top;
 
 pub use answer::{Answer, answer_to};
+pub use cert_search::{Silent, Watcher};
 pub use top::{MOST_BYTES, Status, Stop, code, end_unread, serve, turn_down};

@@ -10,7 +10,7 @@ T0 is at M, place 1 of 3, and wants N: T1 is there
 T1 is at N, place 1 of 3, and wants M: T0 is there
 A circle: T0 waits for T1. T1 waits for T0.
 No train can move, so the state is stuck. The sections of table 0 allow it, whether or not trains can come to it from the start.
-A section keeps it out: write one that these places overfill, or let ats repair make one.
+A section keeps it out: write one that these places overfill, or let planner protect make one.
 ====
 explain|--at|1,0
 {"version":1,"points":[["A",0],["M",0],["N",0],["B",0],["C",0],["D",0]],"links":[["A","M"],["M","N"],["N","B"],["C","N"],["M","D"]],"zones":1,"trains":["T0","T1"],"start":[0,0],"tables":[{"missions":[["A","M","N","B"],["C","N","M","D"]],"sections":[{"limit":1,"changes":[[0,1,0,-1],[0,1,0,-1]]}],"certificate":[[0,0,0],[0,1,0],[4,0],[0,1,2],[4,1],[4,0],[0,0,2],[0,1,0],[4,0],[0,1,2],[2,0],[4,0],[0,1,2],[4,1],[3]]}]}
@@ -33,7 +33,7 @@ T0 is at M, place 1 of 3, and wants N: T1 is there
 T1 is at N, place 1 of 3, and wants M: T0 is there
 A circle: T0 waits for T1. T1 waits for T0.
 No train can move, so the state is stuck. The sections of table 0 allow it, whether or not trains can come to it from the start.
-A section keeps it out: write one that these places overfill, or let ats repair make one.
+A section keeps it out: write one that these places overfill, or let planner protect make one.
 A run from the start leads there:
 1 move T1 C N
 2 move T0 A M

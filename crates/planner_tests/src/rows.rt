@@ -1,5 +1,5 @@
 // Rows of text played: words, with `|` between them; an input; after a line `----` the answer. Rows are parted by a line `====`.
-use planner_run::{Answer, answer_to};
+use planner_run::{Answer, Silent, answer_to};
 use planner_words::words;
 use std::alloc::{AllocError, Global};
 use std::process::Abort;
@@ -36,7 +36,7 @@ pub(crate) fn answers(
 pub(crate) fn answer(alloc: Global, line: &str, input: &str) -> Result<String, Fail> {
     let line = parts(alloc, line)?;
     let order = words(alloc, &line).ok().ok_or("an order")?;
-    match answer_to(alloc, &order, input.as_bytes(), None)? {
+    match answer_to(alloc, &order, input.as_bytes(), None, &Silent)? {
         Answer::Text(text) => Ok(String::from_utf8(text).ok().ok_or("a text")?),
         Answer::Remarks(lines) => Ok(lines),
         Answer::Noted(text, lines) => {

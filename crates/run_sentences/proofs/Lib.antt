@@ -1,2 +1,3 @@
+pub mod Forced
 pub mod Offers
 pub mod RunLines

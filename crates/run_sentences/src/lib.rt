@@ -1,6 +1,7 @@
 //! Tells of a document whether a run from its start leads to given places: by the lines of one, or that there is none.
 #![tactic(auto)]
 
+mod forced;
 mod offering;
 mod telling;
 

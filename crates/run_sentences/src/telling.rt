@@ -1,9 +1,12 @@
 // What is told of runs to places.
 ghost use Rattle.std.specs.Prelude.{◌≡◌, ◌++◌, All, OnOk, IfOk, string_bytes};
 ghost use Rattle.rail_model.specs.Journal.{lines_text};
+ghost use Rattle.layout_json.specs.Doc.{offers_of};
 ghost use Rattle.move_journal.specs.Printable.{IsNamed};
+ghost use Rattle.run_search.specs.Answered.{AnswersRun};
 ghost use Rattle.run_sentences.specs.Told.{HasNamedLines, TellsRun, lines_words, run_words};
 
+use crate::forced::known_by_order;
 use crate::tables_offered;
 use layout_json::{Doc, names_of, start_of};
 use move_journal::push_line;
@@ -49,8 +52,24 @@ fn push_told(out: &mut String, names: &Names, told: &RunTo) -> Result<(), AllocE
     }
 }
 
+// What is known of runs from the start of a document to these places, by a search or by the order of two trains.
+fn known(
+    alloc: Global,
+    doc: &Doc,
+    table: u32,
+    at: &State,
+    limit: usize,
+) -> Result<RunTo, AllocError>
+    ensures { IfOk result (AnswersRun (offers_of doc.now) doc.now.start at.now table) }
+{
+    let tables = tables_offered(alloc, doc)?;
+    let found = run_to(alloc, &tables, start_of(doc), at, table, limit)?;
+    known_by_order(alloc, doc, table, at, found)
+}
+
 /// What is known of runs from the start of a document to these places under one of its tables: the lines of one, as in a journal, or a line
-/// that says that there is none, or that neither was found. More than `limit` states aren't searched.
+/// that says that there is none, or that neither was found. More than `limit` states aren't searched; then it is looked at
+/// whether the order in which the tracks keep two trains rules these places out.
 pub fn runs_told(
     alloc: Global,
     doc: &Doc,
@@ -60,8 +79,7 @@ pub fn runs_told(
 ) -> Result<String, AllocError>
     ensures { IfOk result (λ text. TellsRun doc.now table at.now (string_bytes text)) }
 {
-    let tables = tables_offered(alloc, doc)?;
-    let told = run_to(alloc, &tables, start_of(doc), at, table, limit)?;
+    let told = known(alloc, doc, table, at, limit)?;
     let mut text = String::new(alloc);
     push_told(&mut text, names_of(doc), &told)?;
     Ok(text)

@@ -1,4 +1,4 @@
-// Who looks for certificates.
+// Who looks for certificates, and is told of guards.
 ghost use Rattle.std.specs.Prelude.{IfOk};
 ghost use Rattle.section_protect.specs.Protects.{IsFoundOf};
 
@@ -17,9 +17,12 @@ pub enum Finding {
     GaveUp { nodes: u32 },
 }
 
-/// Looks for certificates.
+/// Looks for certificates, and is told how far the making of guards is.
 pub trait Finder {
     /// A certificate, a stuck state, or that the search gave up. The only error is that there is no memory.
     fn find(&self, alloc: Global, table: &Table) -> Result<Finding, AllocError>
         ensures found { IfOk result (IsFoundOf table.now) };
+
+    /// There are so many guards, and the next one has been made wider by so many places.
+    fn see_guard(&self, guards: usize, steps: u32);
 }

@@ -4,6 +4,7 @@ ghost use Rattle.std.specs.Prelude.{◌<◌, IfOk, IfSome, length};
 ghost use Rattle.rail_model.specs.Move.{Stuck as IsStuck};
 ghost use Rattle.state_core.specs.Guard.{IsGuard};
 
+use crate::Finder;
 use forbidden_states::{Stay, Stays};
 use rail_model::{State, Table};
 use state_boxes::Span;
@@ -83,13 +84,20 @@ fn wider(alloc: Global, table: &Table, stays: &[Stay]) -> Result<Option<Stays>, 
     Ok(None)
 }
 
-// A guard with the places that can be added to it one by one.
-fn grown(alloc: Global, table: &Table, guard: Stays) -> Result<Stays, AllocError>
+// A guard with the places that can be added to it one by one. The finder is told of each, and how many guards there are.
+fn grown<F: Finder>(
+    alloc: Global,
+    table: &Table,
+    guard: Stays,
+    guards: usize,
+    finder: &F,
+) -> Result<Stays, AllocError>
     requires { IsGuard table.now guard }
     ensures { IfOk result (IsGuard table.now) }
 {
     let mut guard = guard;
-    for _ in 0..MOST_GROWTH {
+    for steps in 0..MOST_GROWTH {
+        finder.see_guard(guards, steps);
         match wider(alloc, table, guard.as_slice())? {
             Some(more) => guard = more,
             None => return Ok(guard),
@@ -98,14 +106,20 @@ fn grown(alloc: Global, table: &Table, guard: Stays) -> Result<Stays, AllocError
     Ok(guard)
 }
 
-/// A guard against a small core of a stuck state, grown.
-pub(crate) fn guard_against(alloc: Global, table: &Table, at: &State) -> Result<Stays, AllocError>
+/// A guard against a small core of a stuck state, grown, where there are so many guards.
+pub(crate) fn guard_against<F: Finder>(
+    alloc: Global,
+    table: &Table,
+    at: &State,
+    guards: usize,
+    finder: &F,
+) -> Result<Stays, AllocError>
     requires { IsStuck table.now at.now }
     ensures { IfOk result (IsGuard table.now) }
 {
     let group = small_core(alloc, table, at)?;
     let guard = stays_of(alloc, table, at, &group)?;
-    grown(alloc, table, guard)
+    grown(alloc, table, guard, guards, finder)
 }
 
 // Whether both are stays of the same trains, in the same order.

@@ -35,20 +35,21 @@ fn with_joined(guards: Vec<Stays>, joined: Joined) -> Vec<Stays>
 // What a round leads to that found this stuck state, where a table has room for so many guards: the guard against the
 // state is joined with an earlier one, or comes behind the others.
 #[tactic(auto, using(crate::proofs::Lossless::guards_joined, crate::proofs::Lossless::guards_pushed))]
-fn treat(
+fn treat<F: Finder>(
     alloc: Global,
     table: &Table,
     made: Table,
     guards: Vec<Stays>,
     at: State,
     room: u32,
+    finder: &F,
 ) -> Result<Turn, AllocError>
     requires guarded { IsGuarded table.now guards.items made }
     requires stuck { IsStuck made at }
     requires room { length table.now.sections + room ≡ 64 }
     ensures { IfOk result (LeadsOn table.now) }
 {
-    let guard = guard_against(alloc, &made, &at)?;
+    let guard = guard_against(alloc, &made, &at, guards.len(), finder)?;
     if let Some(joined) = join_with(alloc, &made, &guards, &guard)? {
         return Ok(Turn::Next(with_joined(guards, joined)));
     }
@@ -66,7 +67,7 @@ fn treat(
 }
 
 // What a round leads to that found this stuck state, if so many more rounds may follow.
-fn go_on(
+fn go_on<F: Finder>(
     alloc: Global,
     table: &Table,
     made: Table,
@@ -74,6 +75,7 @@ fn go_on(
     at: State,
     room: u32,
     rounds: u32,
+    finder: &F,
 ) -> Result<Turn, AllocError>
     requires guarded { IsGuarded table.now guards.items made }
     requires stuck { IsStuck made at }
@@ -89,7 +91,7 @@ fn go_on(
             ended,
         }));
     }
-    treat(alloc, table, made, guards, at, room)
+    treat(alloc, table, made, guards, at, room, finder)
 }
 
 // Plays a round: a certificate, a search that gives up, no room or no more rounds end it, or it treats a stuck state.
@@ -111,7 +113,7 @@ fn play<F: Finder>(
     let ended = match finder.find(alloc, &made)? {
         Finding::Cert(cert) => Ended::Certified(cert),
         Finding::GaveUp { nodes } => Ended::GaveUp { nodes },
-        Finding::Stuck(at) => return go_on(alloc, table, made, guards, at, room, rounds),
+        Finding::Stuck(at) => return go_on(alloc, table, made, guards, at, room, rounds, finder),
     };
     Ok(Turn::End(Protected {
         table: made,

@@ -109,7 +109,7 @@ circle_words N T p (i ∷ later) =
 abbrev pub cure_words : Table → List ℕ
 cure_words T =
     if length T.connections == 0
-    then codes "A section keeps it out: write one that these places overfill, or let ats repair make one.\n"
+    then codes "A section keeps it out: write one that these places overfill, or let planner protect make one.\n"
     else codes "A section keeps it out: write one that these places overfill. ats repair refuses a table with connections.\n"
 
 -- whether the state is stuck, and what keeps it out

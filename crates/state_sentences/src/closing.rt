@@ -59,7 +59,7 @@ fn write_cure(out: &mut String, table: &Table) -> Result<(), AllocError>
 {
     if connections_of(table) == 0 {
         out.push_str(
-            "A section keeps it out: write one that these places overfill, or let ats repair make one.\n",
+            "A section keeps it out: write one that these places overfill, or let planner protect make one.\n",
         )
     } else {
         out.push_str(

@@ -5,7 +5,7 @@ use Rattle.document_protection.proofs.Parts.{left_here, parts_more, table_read}
 use Rattle.document_protection.proofs.protecting.parts_of.Goals as goal
 
 pub returns-in-Err-clause-none : goal.returns-in-Err-clause-none
-returns-in-Err-clause-none c =
+returns-in-Err-clause-none g c =
     let tables = c.args.tables.now in
     let n = c.loop-table.table-index in
     let T = c.table-item.result in
@@ -24,7 +24,7 @@ returns-in-Err-clause-none c =
     (c.in-Err.ensures r.table own.ended_is)
 
 pub loop-table-preserved : goal.loop-table-preserved
-loop-table-preserved c =
+loop-table-preserved g c =
     let tables = c.args.tables.now in
     let n = c.loop-table.table-index in
     let T = c.table-item.result in

@@ -1,5 +1,5 @@
 use Rattle.state_core.specs.Guard.{IsGuard}
 use Rattle.section_protect.proofs.joining.grown.Given as goal
 
-abbrev pub invariant-loop : goal.invariant-loop
-invariant-loop l = IsGuard l.table l.guard
+abbrev pub invariant-loop-steps : goal.invariant-loop-steps
+invariant-loop-steps g l = IsGuard l.table l.guard

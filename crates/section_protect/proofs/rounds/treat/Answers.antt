@@ -4,7 +4,7 @@ use Rattle.section_protect.proofs.Lossless.{guards_joined}
 use Rattle.section_protect.proofs.rounds.treat.Goals as goal
 
 pub returns-in-Some : goal.returns-in-Some
-returns-in-Some c =
+returns-in-Some g c =
     let guards = c.args.guards.items in
     let found = rw c.in-Some.is at c.in_ok-joined.ensures.number in
     let number : c.in-Some.joined.number < length guards = omega (arith, found, ap length c.deref.ensures.value) in
