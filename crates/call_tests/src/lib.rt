@@ -4,6 +4,8 @@
 #[cfg(test)]
 mod alone;
 #[cfg(test)]
+mod certificates;
+#[cfg(test)]
 mod devices;
 #[cfg(test)]
 mod errors;
@@ -12,14 +14,10 @@ mod examples;
 #[cfg(test)]
 mod held;
 #[cfg(test)]
-mod large;
-#[cfg(test)]
 mod orders;
 #[cfg(test)]
 mod refusals;
 #[cfg(test)]
 mod steps;
-#[cfg(test)]
-mod trees;
 #[cfg(test)]
 mod yards;

@@ -1,11 +1,9 @@
 // Plans, and the documents or the faults that they are answered with.
-use crate::rows::{answers, play_all};
+use crate::rows::is_answered;
 use std::alloc::{AllocError, Global};
-use std::process::Abort;
-use std::test::Fail;
 
 // Words, a plan and an answer each: a document, or a line for each mistake.
-const PLANS: &str = r##"plan
+pub(crate) const PLANS: &str = r##"plan
 [[train]]
 name = "T0"
 route = ["A", "M", "B", "M", "C"]
@@ -217,23 +215,17 @@ fn changed(alloc: Global, changes: &str) -> Result<String, AllocError> {
 }
 
 // Whether the changed corridor is answered as its row says.
-fn play_changed(rt: &impl Abort, alloc: Global, row: &str) -> Result<(), Fail> {
-    let (changes, says) = row.split_once(" => ").ok_or("an answer")?;
-    let plan = changed(alloc, changes)?;
-    let mut answer = String::new(alloc);
-    push_lines(&mut answer, says)?;
-    answers(rt, alloc, "plan", plan.as_str(), answer.as_str())
+fn is_changed(alloc: Global, row: &str) -> Option<bool> {
+    let (changes, lines) = row.split_once(" => ")?;
+    let plan = changed(alloc, changes).ok()?;
+    let mut says = String::new(alloc);
+    push_lines(&mut says, lines).ok()?;
+    is_answered(alloc, "plan", plan.as_str(), says.as_str())
 }
 
 #[test]
-fn plans_are_answered_as_their_rows_say(rt: HostRuntime) -> Result<(), Fail> {
-    play_all(&rt, rt.alloc(), PLANS)
-}
-
-#[test]
-fn changes_of_the_corridor_are_answered(rt: HostRuntime) -> Result<(), Fail> {
-    for row in CHANGES.lines() {
-        play_changed(&rt, rt.alloc(), row)?;
+fn changes_of_the_corridor_are_answered(rt: HostRuntime) {
+    for row in CHANGES.split('\n') {
+        assert!(rt; matches!(is_changed(rt.alloc(), row), Some(true)), "{row}");
     }
-    Ok(())
 }
