@@ -1,5 +1,5 @@
 -- Words that are numbers.
-use Rattle.std.proofs.Common.{◌≡◌, ℕ, ◌<◌, ◌^◌, ◌≢◌, ◌&&◌, List, length, true, false, cond, Some, None, Result, Ok, Err, refl, sym, ap, ◌∙◌, arith, ltb, get_or, decimal, inl, inr}
+use Rattle.std.proofs.Common.{◌≡◌, ℕ, ◌<◌, ◌^◌, ◌&&◌, List, length, true, false, cond, Some, None, Result, Ok, Err, refl, sym, ap, ◌∙◌, arith, ltb, get_or, decimal, inl, inr}
 use Rattle.std.proofs.lemmas.Bool.{cases_lt}
 use Rattle.std.specs.Result.{OkIff, result_ok}
 use Rattle.std.specs.Str.{all_ascii_digits, IsUtf8}
