@@ -10,6 +10,8 @@ Of each document it asks:
   explain   `--at .. --run` of the stuck state, and of a drawn legal one: a run that is right and ends there, or no run where there is none
   order     keeps the document but for sections, and its sections, first; forbids no state that a run from the start reaches, and leaves
             the same states reached
+  of-run    the same of `order --of-run`, but for the states: the drawn journal that it is given verifies under the new document, or with
+            the first lines of it, or with none, all trains can still arrive; so says `ats verify`, if `ats make` certifies the document
   protect   keeps the document but for sections and certificates, and its sections, first; its legal states are those that can be
             completed, each under its table; `ats check` accepts the certificates
 
@@ -21,19 +23,20 @@ import collections
 import json
 import multiprocessing
 import random
+import re
 import sys
 import tempfile
 import time
 
 import agree
-from model import Yard, line_of
+from model import FORMS, Yard, line_of, verdict
 from programs import called, command_of, compact
 from states import States, count
 
 MOST_STATES, BUDGET = 2000, 100_000
 LEADS, LEADS_NOT = "A run from the start leads there:\n", "No run from the start leads there."
 STARTS = "The trains are there at the start: no move is needed."
-COMMANDS = ["certify", "explain", "order", "protect"]
+COMMANDS = ["certify", "explain", "order", "of-run", "protect"]
 
 
 def on_one_way(draw):
@@ -96,6 +99,12 @@ def drawn(number):
             return document
 
 
+def text_of(form, words):
+    """A line of a journal."""
+    words = {word: "-" if value is None else str(value) for word, value in words.items()}
+    return re.sub("<([a-z]+)>", lambda it: words[it[1]], FORMS[form])
+
+
 def without(document, *members):
     return {**document, "tables": [{key: value for key, value in table.items() if key not in members} for table in document["tables"]]}
 
@@ -133,10 +142,10 @@ class Case:
         self.expect(made[0] == 5 or (made[0] == 0) == (table is None), f"make ended with {made[0]}; the first stuck table is {table}")
         at = self.named("make", made[2], table) if made[0] == 6 else None
         for command in self.asked["commands"]:
-            getattr(self, command)(*([made, table] if command == "certify" else [at] if command == "explain" else []))
+            getattr(self, command.replace("-", "_"))(*([made, table] if command == "certify" else [at] if command == "explain" else []))
 
     def refused(self, command, line):
-        code, written, said = self.run("planner", [command])
+        code, written, said = self.run("planner", ["order", "--of-run", "1"] if command == "of-run" else [command])
         same = code == 1 and not written and line.removeprefix("ats: ") in said
         self.expect(same, f"{command} ended with {code} where ats says {line}: {said}")
         self.counts[f"{command} refuses"] += 1
@@ -248,6 +257,51 @@ class Case:
         self.expect(not forbidden, f"order forbids states that are reached: {forbidden[:3]}")
         self.expect(forbidden or after.reached() == reached, "order changed which states are reached")
 
+    def drawn_run(self):
+        """The yard at the end of a drawn run, and the lines of its journal."""
+        yard, lines = Yard(self.document), []
+        while True:
+            table = yard.answer(yard.tried + 1)
+            movers = [train for train in range(len(yard.state)) if yard.obstacle(train) is None]
+            if table:
+                form, words = table
+            elif movers:
+                train = self.draw.choice(movers)
+                place = yard.state[train]
+                form, words = "move", dict(zip(("train", "from", "to"), (train, *yard.table.ways[train][place : place + 2])))
+            else:
+                return yard, lines
+            yard.fault(len(lines) + 1, form, words)
+            named = {**words, "train": yard.trains[words["train"]]} if "train" in words else words
+            lines.append(text_of(form, {**named, "n": len(lines) + 1}))
+
+    def of_run(self):
+        yard, lines = self.drawn_run()
+        is_whole = yard.first_unfinished() is None and yard.tried + 1 == len(yard.tables)
+        end = f"end moves={yard.moves} tables={yard.exchanges}\n"
+        given = lines if is_whole and self.draw.random() < 0.6 else lines[: self.draw.choice([0, 0, len(lines) // 2])]
+        is_given = is_whole and len(given) == len(lines)
+        journal = "".join(line + "\n" for line in given) + (end if is_given else "")
+        words = ["order", "--of-run", str(self.draw.randrange(2**32))]
+        code, written, said = self.run("planner", words, self.text + "journal\n" * bool(journal) + journal)
+        self.counts[f"of-run {code}, {'given' if is_given else 'begun' if journal else 'drawn'}"] += 1
+        if code != 0:
+            expected = code == 1 and not written and said and (not is_given or "no room is left" in said)
+            self.expect(expected, f"{' '.join(words)} ended with {code}: {said}")
+            return
+        after = self.kept("of-run", written)
+        last = len(self.states.tables) - 1
+        ends = tuple(len(way) - 1 for way in Yard(self.document).tables[last].ways)
+        self.expect(is_given or last > 0 or (last, ends) in after.reached(), "of-run: the trains can't arrive any more")
+        if is_given:
+            found = verdict(self.whole(written), journal.encode())
+            self.expect(found.startswith("ok "), f"of-run: the run doesn't verify under the new document: {found}")
+            made = self.run("ats", ["make", "--budget", str(BUDGET)], written)
+            if made[0] == 0:
+                checked = self.run("ats", ["verify"], made[1] + "journal\n" + journal)
+                self.counts[f"of-run verify {checked[0]}"] += 1
+                self.expect(checked[0] == 0, f"of-run: verify says {checked[2]}")
+
     def protect(self):
         code, written, said = self.run("planner", ["protect"])
         self.counts[f"protect {code}"] += 1
@@ -285,8 +339,8 @@ def main():
     if set(asked.commands) - set(COMMANDS):
         sys.exit(f"the commands are {', '.join(COMMANDS)}")
     with_programs = {"ats": command_of(asked.ats, "ats"), "planner": command_of(asked.planner, "planner")}
-    helped = "".join(called([*with_programs["planner"], *words, "--help"], "")[1] for words in ([], ["explain"]))
-    there = {"certify": "\n  certify", "order": "\n  order", "protect": "\n  protect", "explain": "--run"}
+    helped = "".join(called([*with_programs["planner"], *words, "--help"], "")[1] for words in ([], ["explain"], ["order"]))
+    there = {"certify": "\n  certify", "order": "\n  order", "protect": "\n  protect", "explain": "--run", "of-run": "--of-run"}
     commands = [command for command in asked.commands or COMMANDS if there[command] in helped]
     for command in set(asked.commands or COMMANDS) - set(commands):
         print(f"left out: planner has no {'explain --run' if command == 'explain' else command}", file=sys.stderr)

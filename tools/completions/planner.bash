@@ -18,6 +18,7 @@ _planner() {
     lint) options="--before" ;;
     certify) options="--budget --effort" ;;
     protect) options="--budget --effort --rounds" ;;
+    order) options="--of-run" ;;
     timetable) options="--csv" ;;
     graph) options="--train" ;;
     layout) options="--at --table" ;;

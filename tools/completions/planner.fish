@@ -18,5 +18,6 @@ complete -c planner -n '__fish_seen_subcommand_from lint' -l before -r -d 'a for
 complete -c planner -f -n '__fish_seen_subcommand_from certify protect' -l budget -x -d 'the most nodes of a certificate'
 complete -c planner -f -n '__fish_seen_subcommand_from certify protect' -l effort -x -a 'small usual great' -d 'how many ways of searching are tried'
 complete -c planner -f -n '__fish_seen_subcommand_from protect' -l rounds -x -d 'the most sections that are made for a table'
+complete -c planner -f -n '__fish_seen_subcommand_from order' -l of-run -x -d 'the orders of one run, given by a journal or drawn from a number'
 complete -c planner -f -n '__fish_seen_subcommand_from timetable' -l csv -d 'with commas instead of columns'
 complete -c planner -f -n '__fish_seen_subcommand_from graph' -l train -x -d 'the train whose route is the axis of places'

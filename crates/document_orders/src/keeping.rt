@@ -24,8 +24,9 @@ fn kept(alloc: Global, nodes: &[Node]) -> Result<Cert, AllocError>
     }
 }
 
-/// Copies of these tables, each with the certificate that the document has for the table of its number.
-pub(crate) fn with_certs(
+/// Copies of these tables, each with the certificate that the document has for the table of its number, or the smallest one where the
+/// document's nodes are no tree.
+pub fn with_certs(
     alloc: Global,
     doc: &Doc,
     tables: &[Table],

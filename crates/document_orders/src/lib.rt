@@ -7,7 +7,8 @@ mod ordering;
 mod refused;
 mod telling;
 
+pub use keeping::with_certs;
 pub use laws::documents_are_offered;
-pub use ordering::{OrderedDoc, ordered};
+pub use ordering::{OrderedDoc, has_no_room, ordered};
 pub use refused::NotOrdered;
 pub use telling::lines_of;

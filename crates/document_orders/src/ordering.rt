@@ -22,8 +22,8 @@ pub struct OrderedDoc {
     pub left_out: Vec<Two>,
 }
 
-// Whether nothing could be added for want of room.
-fn is_full(tables: &[Table], found: &Ordered) -> bool {
+/// Whether nothing could be added to these tables for want of room.
+pub fn has_no_room(tables: &[Table], found: &Ordered) -> bool {
     found.orders.is_empty()
         && (!found.left_out.is_empty()
             || tables
@@ -46,7 +46,7 @@ pub fn ordered(alloc: Global, doc: &Doc) -> Result<OrderedDoc, NotOrdered>
     prove!(is_later);
     let (frame, tables) = tables_apart(alloc, later)?;
     let found = order(alloc, &tables, frame.start())?;
-    if is_full(&tables, &found) {
+    if has_no_room(&tables, &found) {
         return Err(NotOrdered::NoRoom);
     }
     let parts = with_certs(alloc, doc, &found.tables)?;

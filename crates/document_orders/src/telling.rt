@@ -1,7 +1,7 @@
 // What is told of the orders of a document: a line for each section, and for each order that was left out.
 use crate::OrderedDoc;
 use layout_json::{Doc, layout_of, names_of, table_of, tables_of};
-use order_sections::{Reason, Step, Two};
+use order_sections::{Order, Reason, Step, Two};
 use rail_model::{Layout, Names, Table, point_of, sections_of, trains_of};
 use std::alloc::{AllocError, Global};
 
@@ -59,16 +59,21 @@ fn push_step(line: &mut String, told: Told<'_>, trains: Two, step: Step) -> Resu
 fn push_section(
     lines: &mut String,
     told: Told<'_>,
-    trains: Two,
+    order: &Order,
     section: u32,
     steps: &[Step],
 ) -> Result<(), AllocError> {
     let number = told.number;
+    let trains = Two {
+        first: order.first(),
+        second: order.second(),
+    };
     let leader = train_name(told.names, trains.first);
     let follower = train_name(told.names, trains.second);
+    let whose = if order.is_of_run() { ", in this run" } else { "" };
     write!(
         lines,
-        "tables[{number}].sections[{section}]: {follower} goes behind {leader}:"
+        "tables[{number}].sections[{section}]: {follower} goes behind {leader}{whose}:"
     )?;
     for (count, step) in steps.iter().enumerate() {
         if count > 0 {
@@ -89,11 +94,7 @@ fn push_table(
     let mut section = sections_of(told.table);
     for reason in reasons {
         if let Some(order) = made.orders.get(reason.order) {
-            let trains = Two {
-                first: order.first(),
-                second: order.second(),
-            };
-            push_section(lines, told, trains, section, &reason.steps)?;
+            push_section(lines, told, order, section, &reason.steps)?;
         }
         section = section.saturating_add(1);
     }

@@ -2,6 +2,7 @@
 use crate::making::STEPS;
 use crate::search::{Two, grids_of, last_in};
 use crate::stairs::{Leader, Stairs};
+use crate::visits::Visits;
 use crate::{Grid, Order};
 use rail_model::{State, Table, sections_of, trains_of};
 use std::alloc::{AllocError, Global};
@@ -9,19 +10,28 @@ use std::alloc::{AllocError, Global};
 // The most sections of a table.
 const MOST_SECTIONS: usize = 64;
 
-// A train that leads, one that follows, and their stairs under each table.
+// A train that leads, one that follows, and their stairs under each table; and whether a run has them in this order, or the tracks force it.
 #[derive(Drop)]
 struct Lead {
     trains: Two,
     stairs: Vec<Stairs>,
     weight: u32,
+    of_run: bool,
 }
 
-/// The orders that get sections, and the trains of those for which there was no room.
+// What orders are looked for: the tables, the start, and when the trains of a run came to their places, if the orders of a run are wanted.
+#[derive(Clone, Copy)]
+struct Sought<'a> {
+    tables: &'a [Table],
+    start: &'a State,
+    run: Option<&'a Visits>,
+}
+
+/// The trains of the orders that are needed, each two as the one that leads and the one that follows, and the orders that get sections.
 #[derive(Drop)]
 pub(crate) struct Chosen {
+    pub(crate) needed: Vec<Two>,
     pub(crate) orders: Vec<Order>,
-    pub(crate) left_out: Vec<Two>,
 }
 
 // How many sections keep an order, table by table.
@@ -40,7 +50,13 @@ fn counts_of(
 }
 
 // The stairs of one of two trains behind the other, table by table, and their weight.
-fn lead_of(alloc: Global, trains: Two, grids: &[Grid], leader: Leader) -> Result<Lead, AllocError> {
+fn lead_of(
+    alloc: Global,
+    trains: Two,
+    grids: &[Grid],
+    leader: Leader,
+    of_run: bool,
+) -> Result<Lead, AllocError> {
     let mut stairs = Vec::new(alloc);
     let mut weight: u32 = 0;
     for grid in grids {
@@ -52,6 +68,7 @@ fn lead_of(alloc: Global, trains: Two, grids: &[Grid], leader: Leader) -> Result
         trains,
         stairs,
         weight,
+        of_run,
     })
 }
 
@@ -69,48 +86,66 @@ fn add_lead(
     Ok(())
 }
 
-// Adds the orders that the tracks force on two trains.
+// Adds the orders that two trains have by the tracks, or by the run that is given.
 fn add_both(
     alloc: Global,
-    tables: &[Table],
-    start: &State,
+    sought: Sought<'_>,
     trains: Two,
     leads: &mut Vec<Lead>,
 ) -> Result<(), AllocError> {
-    let grids = grids_of(alloc, tables, start, trains)?;
-    let first = lead_of(alloc, trains, &grids, Leader::First)?;
+    let Sought { tables, start, run } = sought;
+    let grids = grids_of(alloc, tables, start, trains, run)?;
+    let first = lead_of(alloc, trains, &grids, Leader::First, run.is_some())?;
     add_lead(alloc, tables, first, leads)?;
     let turned = Two {
         first: trains.second,
         second: trains.first,
     };
-    let second = lead_of(alloc, turned, &grids, Leader::Second)?;
+    let second = lead_of(alloc, turned, &grids, Leader::Second, run.is_some())?;
     add_lead(alloc, tables, second, leads)
+}
+
+// Adds the orders that the tracks force on two trains, or where they force none, those of the run, if orders of one are sought.
+fn add_leads(
+    alloc: Global,
+    sought: Sought<'_>,
+    trains: Two,
+    leads: &mut Vec<Lead>,
+) -> Result<(), AllocError> {
+    let before = leads.len();
+    let forced = Sought {
+        run: None,
+        ..sought
+    };
+    add_both(alloc, forced, trains, leads)?;
+    if leads.len() == before && sought.run.is_some() {
+        add_both(alloc, sought, trains, leads)?;
+    }
+    Ok(())
 }
 
 // The same for a train and each train before it.
 fn add_leads_of(
     alloc: Global,
-    tables: &[Table],
-    start: &State,
+    sought: Sought<'_>,
     second: u32,
     leads: &mut Vec<Lead>,
 ) -> Result<(), AllocError> {
     for first in 0..second {
-        add_both(alloc, tables, start, Two { first, second }, leads)?;
+        add_leads(alloc, sought, Two { first, second }, leads)?;
     }
     Ok(())
 }
 
-// The orders that the tracks force, the strongest first.
-fn all_leads(alloc: Global, tables: &[Table], start: &State) -> Result<Vec<Lead>, AllocError> {
+// The orders of all trains, the strongest first.
+fn all_leads(alloc: Global, sought: Sought<'_>) -> Result<Vec<Lead>, AllocError> {
     let mut leads = Vec::new(alloc);
-    let trains = match tables.first() {
+    let trains = match sought.tables.first() {
         Some(table) => trains_of(table),
         None => 0,
     };
     for second in 0..trains {
-        add_leads_of(alloc, tables, start, second, &mut leads)?;
+        add_leads_of(alloc, sought, second, &mut leads)?;
     }
     leads.sort_by_key(|lead| u32::MAX - lead.weight)?;
     Ok(leads)
@@ -168,35 +203,39 @@ fn has_room(tables: &[Table], orders: &[Order], counts: &[usize]) -> bool {
 // Takes an order whole, or leaves it out.
 fn choose(
     alloc: Global,
-    tables: &[Table],
-    start: &State,
+    sought: Sought<'_>,
     lead: &Lead,
     chosen: &mut Chosen,
 ) -> Result<(), AllocError> {
+    let Sought { tables, start, run } = sought;
+    chosen.needed.push(lead.trains)?;
     let counts = counts_of(alloc, tables, lead.trains.second, &lead.stairs)?;
     if has_room(tables, &chosen.orders, &counts) {
-        let grids = grids_of(alloc, tables, start, lead.trains)?;
-        chosen.orders.push(Order::new(lead.trains, grids, counts))?;
-    } else {
-        chosen.left_out.push(lead.trains)?;
+        let run = if lead.of_run { run } else { None };
+        let grids = grids_of(alloc, tables, start, lead.trains, run)?;
+        chosen
+            .orders
+            .push(Order::new(lead.trains, grids, counts, lead.of_run))?;
     }
     Ok(())
 }
 
-/// The orders that the tracks force, but for those that follow from two others, as long as there is room.
-pub(crate) fn choose_orders(
+/// The orders that are sought, but for those that follow from two others, as long as there is room.
+pub(crate) fn choose_orders<'a>(
     alloc: Global,
-    tables: &[Table],
-    start: &State,
+    tables: &'a [Table],
+    start: &'a State,
+    run: Option<&'a Visits>,
 ) -> Result<Chosen, AllocError> {
-    let leads = all_leads(alloc, tables, start)?;
+    let sought = Sought { tables, start, run };
+    let leads = all_leads(alloc, sought)?;
     let mut chosen = Chosen {
+        needed: Vec::new(alloc),
         orders: Vec::new(alloc),
-        left_out: Vec::new(alloc),
     };
     for lead in &leads {
         if is_needed(lead, &leads) {
-            choose(alloc, tables, start, lead, &mut chosen)?;
+            choose(alloc, sought, lead, &mut chosen)?;
         }
     }
     Ok(chosen)

@@ -13,11 +13,16 @@ mod pairs;
 mod refused;
 mod search;
 mod stairs;
+mod visits;
+mod whole;
 
 pub use grid::Grid;
-pub use laws::{live_orders_complete_runs, orders_keep_runs, reached_pairs_are_in_closed_sets};
+pub use laws::{
+    live_orders_complete_runs, orders_keep_runs, reached_pairs_are_in_closed_sets,
+    whole_orders_are_kept,
+};
 pub use making::Reason;
-pub use ordering::{Ordered, order};
+pub use ordering::{Ordered, order, order_by_run};
 pub use orders::Order;
 pub use refused::OrderRefused;
 pub use search::Two;

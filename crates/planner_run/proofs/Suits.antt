@@ -3,8 +3,8 @@ use Rattle.std.proofs.Common.{ℕ, List, Option}
 use Rattle.std.specs.Prelude.{Result, Ok, Err, IfOk, string_bytes}
 use Rattle.planner_words.specs.declared.orders.Effort.{Effort}
 use Rattle.planner_words.specs.declared.orders.Order.{Order}
-use Rattle.planner_words.specs.declared.orders.Order.TheVariants.{Lint, Certify, Protect, AddOrders}
-use Rattle.planner_run.specs.Answered.{AreWrongFor, IfText, IsAnswerTo, IsCertifying, IsLinted, IsOrdering, IsProtecting, IsTextFor}
+use Rattle.planner_words.specs.declared.orders.Order.TheVariants.{Lint, Certify, Protect, AddOrders, OrderByRun}
+use Rattle.planner_run.specs.Answered.{AreWrongFor, IfText, IsAnswerTo, IsCertifying, IsLinted, IsOrdering, IsOrderingByRun, IsProtecting, IsTextFor}
 use Rattle.planner_run.specs.declared.answer.Answer.{Answer}
 use Rattle.planner_run.specs.declared.answer.Answer.TheVariants.{Text, Remarks, Noted, Wrong}
 use denote.Ref.{Bor}
@@ -33,6 +33,12 @@ ordering_answers former input (Text text) holds = absurd holds
 ordering_answers former input (Remarks lines) holds = absurd holds
 ordering_answers former input (Noted text lines) holds = (tt, holds)
 ordering_answers former input (Wrong lines) holds = tt
+
+pub run_ordering_answers : (seed : ℕ) (former : Option (Bor (List ℕ))) (input : List ℕ) (a : Answer) → IsOrderingByRun input a → IsAnswerTo (OrderByRun seed) former input a
+run_ordering_answers seed former input (Text text) holds = absurd holds
+run_ordering_answers seed former input (Remarks lines) holds = absurd holds
+run_ordering_answers seed former input (Noted text lines) holds = (tt, holds)
+run_ordering_answers seed former input (Wrong lines) holds = tt
 
 pub protecting_answers : (budget : ℕ) (effort : Effort) (rounds : ℕ) (former : Option (Bor (List ℕ))) (input : List ℕ) (a : Answer) →
     IsProtecting input a → IsAnswerTo (Protect budget effort rounds) former input a

@@ -3,6 +3,7 @@ use Rattle.std.specs.Prelude.{◌≡◌, ℕ, ◌++◌, Bool, true, false, List,
 use Rattle.ats_io.specs.Bytes.{AddsPrefix}
 use Rattle.decimal_number.specs.Decimal.{number_of}
 use Rattle.document_shapes.specs.Written.{text_of}
+use Rattle.run_orders.specs.RunOrdered.{IsInputByRun}
 use Rattle.rail_model.specs.State.{Legal}
 use Rattle.refusal_lines.specs.Makers.{places_words}
 use Rattle.layout_json.specs.Reading.{doc_of}
@@ -25,7 +26,7 @@ use Rattle.document_lint.specs.Told.{LosesNoSection}
 use Rattle.svg_text.specs.Tree.{Picture}
 use Rattle.svg_text.specs.Text.{svg_text}
 use Rattle.planner_words.specs.declared.orders.Order.{Order}
-use Rattle.planner_words.specs.declared.orders.Order.TheVariants.{Plan as OfPlan, ExplainState, ExplainLine, Lint, Certify, Protect, AddOrders, Timetable, Graph, Layout}
+use Rattle.planner_words.specs.declared.orders.Order.TheVariants.{Plan as OfPlan, ExplainState, ExplainLine, Lint, Certify, Protect, AddOrders, OrderByRun, Timetable, Graph, Layout}
 use Rattle.planner_words.specs.declared.orders.WordsAnswered.{WordsAnswered}
 use Rattle.planner_words.specs.declared.orders.WordsAnswered.TheVariants.{Shown, Refused, Memory}
 use Rattle.planner_run.specs.Certifying.{IsCertifiedInput, IsCertifyingFault}
@@ -168,6 +169,7 @@ IsTextFor (Lint before) former input text = HasNoRemarks former input text
 IsTextFor (Certify budget effort) former input text = IsCertifiedInput input budget text
 IsTextFor (Protect budget effort rounds) former input text = IsProtectedInput input text
 IsTextFor AddOrders former input text = IsOrderedInput input text
+IsTextFor (OrderByRun seed) former input text = IsInputByRun input text
 IsTextFor (Timetable csv) former input text = IsTimetableText input csv text
 IsTextFor (Graph train) former input text = IsGraphText input text
 IsTextFor (Layout table at) former input text = IsLayoutText input table.now at text
@@ -181,6 +183,7 @@ AreWrongFor (ExplainState table at run) input lines = Unit {0}
 AreWrongFor (ExplainLine line) input lines = Unit {0}
 AreWrongFor (Lint before) input lines = Unit {0}
 AreWrongFor AddOrders input lines = Unit {0}
+AreWrongFor (OrderByRun seed) input lines = Unit {0}
 AreWrongFor (Timetable csv) input lines = Unit {0}
 AreWrongFor (Graph train) input lines = Unit {0}
 AreWrongFor (Layout table at) input lines = Unit {0}
@@ -200,6 +203,7 @@ AsksForRemarks (ExplainLine line) = ⊥
 AsksForRemarks (Certify budget effort) = ⊥
 AsksForRemarks (Protect budget effort rounds) = ⊥
 AsksForRemarks AddOrders = ⊥
+AsksForRemarks (OrderByRun seed) = ⊥
 AsksForRemarks (Timetable csv) = ⊥
 AsksForRemarks (Graph train) = ⊥
 AsksForRemarks (Layout table at) = ⊥
@@ -208,6 +212,7 @@ AsksForRemarks (Layout table at) = ⊥
 abbrev pub AsksForNotes : Order → Type 0
 AsksForNotes (Protect budget effort rounds) = Unit {0}
 AsksForNotes AddOrders = Unit {0}
+AsksForNotes (OrderByRun seed) = Unit {0}
 AsksForNotes OfPlan = ⊥
 AsksForNotes (ExplainState table at run) = ⊥
 AsksForNotes (ExplainLine line) = ⊥
@@ -265,6 +270,13 @@ IsOrdering input (Text text) = ⊥
 IsOrdering input (Remarks lines) = ⊥
 IsOrdering input (Noted text lines) = IsOrderedInput input text.items
 IsOrdering input (Wrong lines) = Unit {0}
+
+-- The answer is the document with the orders of a run and notes on them, or what is wrong.
+abbrev pub IsOrderingByRun : List ℕ → Answer → Type 0
+IsOrderingByRun input (Text text) = ⊥
+IsOrderingByRun input (Remarks lines) = ⊥
+IsOrderingByRun input (Noted text lines) = IsInputByRun input text.items
+IsOrderingByRun input (Wrong lines) = Unit {0}
 
 -- The answer is remarks, or an empty text where there are none.
 abbrev pub IsLinted : Option (Bor (List ℕ)) → List ℕ → Answer → Type 0

@@ -6,7 +6,7 @@ use crate::certifying::certify;
 use crate::drawing::layout;
 use crate::explaining::{line as explain_line, state as explain_state};
 use crate::linting::remarks;
-use crate::ordering::add_orders;
+use crate::ordering::{add_orders, order_by_run};
 use crate::planning::plan;
 use crate::protecting::protect;
 use crate::timing::{graph, timetable};
@@ -27,7 +27,7 @@ pub enum Answer {
 }
 
 /// What an order comes to on this input. `former` is the former document, where the order names one.
-#[tactic(auto, using(crate::proofs::Suits::if_text_answers, crate::proofs::Suits::lint_answers, crate::proofs::Suits::certifying_answers, crate::proofs::Suits::ordering_answers, crate::proofs::Suits::protecting_answers))]
+#[tactic(auto, using(crate::proofs::Suits::if_text_answers, crate::proofs::Suits::lint_answers, crate::proofs::Suits::certifying_answers, crate::proofs::Suits::ordering_answers, crate::proofs::Suits::run_ordering_answers, crate::proofs::Suits::protecting_answers))]
 pub fn answer_to(
     alloc: Global,
     order: &Order<'_>,
@@ -48,6 +48,7 @@ pub fn answer_to(
             rounds,
         } => protect(alloc, input, *budget, *effort, *rounds),
         Order::AddOrders => add_orders(alloc, input),
+        Order::OrderByRun { seed } => order_by_run(alloc, input, *seed),
         Order::Timetable { csv } => timetable(alloc, input, *csv),
         Order::Graph { train } => graph(alloc, input, *train),
         Order::Layout { table, at } => layout(alloc, input, table, *at),

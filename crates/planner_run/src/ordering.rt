@@ -1,13 +1,14 @@
 // Documents with orders.
 ghost use Rattle.std.specs.Prelude.{◌≡◌, IfOk, Ok};
 ghost use Rattle.layout_json.specs.Reading.{doc_of};
-ghost use Rattle.planner_run.specs.Answered.{IsOrdering};
+ghost use Rattle.planner_run.specs.Answered.{IsOrdering, IsOrderingByRun};
 
 use crate::Answer;
 use crate::drawing::refusal;
 use crate::explaining::wrong;
 use document_orders::{NotOrdered, lines_of, ordered};
 use layout_json::{Doc, DocRefused, document};
+use run_orders::{RunRefused, order_input, refused_lines};
 use std::alloc::{AllocError, Global};
 
 const NO_ROOM: &str = "no room is left for a section: a table has at most 64\n";
@@ -40,5 +41,16 @@ fn with_orders(alloc: Global, input: &[u8], doc: &Doc) -> Result<Answer, AllocEr
         Err(NotOrdered::Memory) => Err(AllocError),
         Err(NotOrdered::NoRoom) => wrong(alloc, NO_ROOM),
         Err(NotOrdered::Untrue) => wrong(alloc, UNTRUE),
+    }
+}
+
+/// The document of an input, with sections that keep its trains in the order of a run, which the input gives or begins, or which is drawn.
+pub(crate) fn order_by_run(alloc: Global, input: &[u8], seed: u32) -> Result<Answer, AllocError>
+    ensures { IfOk result (IsOrderingByRun input.now) }
+{
+    match order_input(alloc, input, seed) {
+        Ok(made) => Ok(Answer::Noted(made.text, made.lines)),
+        Err(RunRefused::Memory) => Err(AllocError),
+        Err(refused) => Ok(Answer::Wrong(refused_lines(alloc, &refused)?)),
     }
 }

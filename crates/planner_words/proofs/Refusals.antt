@@ -1,6 +1,7 @@
 -- Words that are refused ask for nothing.
-use Rattle.std.proofs.Common.{◌≡◌, ◌∙◌, sym, ap, arith, get_or, inl, inr, ℕ, List, codes, Option, Some, None, Result}
-use Rattle.std.specs.Prelude.{Ok, Err, IfErr}
+use Rattle.std.proofs.Common.{◌≡◌, ◌∙◌, sym, ap, subst, arith, get_or, inl, inr, ℕ, List, codes, Option, Some, None, Result}
+use Rattle.std.specs.Prelude.{Ok, Err, IfErr, IsSomeAnd}
+use Rattle.decimal_number.specs.Decimal.{number_of}
 use Rattle.clap.specs.Words.{Row, Text, first_of}
 use Rattle.clap.specs.declared.error.ErrorKind.{ErrorKind}
 use Rattle.clap.specs.declared.error.ErrorKind.TheVariants.{DisplayHelp, DisplayVersion, OutOfMemory}
@@ -9,7 +10,7 @@ use Rattle.planner_words.specs.declared.orders.Effort.TheVariants.{Small, Usual,
 use Rattle.planner_words.specs.Answered.{AnswersWords, AsksForNone, MissesNone}
 use Rattle.planner_words.specs.Named.{AsksFor, IsEffort, budget_in, nodes_in, rounds_in, word_of}
 use Rattle.planner_words.specs.declared.orders.Order.{Order}
-use Rattle.planner_words.specs.declared.orders.Order.TheVariants.{Plan, ExplainState, ExplainLine, Lint, Certify, Protect, AddOrders, Timetable, Graph, Layout}
+use Rattle.planner_words.specs.declared.orders.Order.TheVariants.{Plan, ExplainState, ExplainLine, Lint, Certify, Protect, AddOrders, OrderByRun, Timetable, Graph, Layout}
 use Rattle.planner_words.specs.declared.orders.WordsAnswered.{WordsAnswered}
 use Rattle.planner_words.specs.declared.orders.WordsAnswered.TheVariants.{Shown, Refused, Memory}
 
@@ -57,6 +58,7 @@ none_explained given no_places no_line (Lint before) asked = cc
 none_explained given no_places no_line (Certify budget effort) asked = other_name (sym asked.0)
 none_explained given no_places no_line (Protect budget effort rounds) asked = explain_not_protect (sym asked.0)
 none_explained given no_places no_line AddOrders asked = cc
+none_explained given no_places no_line (OrderByRun seed) asked = cc
 none_explained given no_places no_line (Timetable csv) asked = cc
 none_explained given no_places no_line (Graph train) asked = cc
 none_explained given no_places no_line (Layout table at) asked = cc
@@ -70,6 +72,7 @@ none_certified given no_budget (Lint before) asked = cc
 none_certified given no_budget (Certify budget effort) asked = let found : Some budget ≡ None = sym asked.1.0 ∙ no_budget in cc
 none_certified given no_budget (Protect budget effort rounds) asked = certify_not_protect (sym asked.0)
 none_certified given no_budget AddOrders asked = cc
+none_certified given no_budget (OrderByRun seed) asked = cc
 none_certified given no_budget (Timetable csv) asked = cc
 none_certified given no_budget (Graph train) asked = cc
 none_certified given no_budget (Layout table at) asked = cc
@@ -83,6 +86,7 @@ none_tried given no_effort (Lint before) asked = cc
 none_tried given no_effort (Certify budget effort) asked = no_effort effort asked.1.1
 none_tried given no_effort (Protect budget effort rounds) asked = certify_not_protect (sym asked.0)
 none_tried given no_effort AddOrders asked = cc
+none_tried given no_effort (OrderByRun seed) asked = cc
 none_tried given no_effort (Timetable csv) asked = cc
 none_tried given no_effort (Graph train) asked = cc
 none_tried given no_effort (Layout table at) asked = cc
@@ -97,6 +101,7 @@ asks_to_protect given (Certify budget effort) asked = absurd (certify_not_protec
 asks_to_protect given (Protect budget effort rounds) asked =
     record { nodes = budget; effort = effort; rounds = rounds; nodes_are = asked.1.0; rounds_are = asked.1.1; effort_is = asked.1.2 }
 asks_to_protect given AddOrders asked = cc
+asks_to_protect given (OrderByRun seed) asked = cc
 asks_to_protect given (Timetable csv) asked = cc
 asks_to_protect given (Graph train) asked = cc
 asks_to_protect given (Layout table at) asked = cc
@@ -116,6 +121,22 @@ no_rounds_protected given none order asked =
 pub no_effort_protected : (given : List Row) → ((effort : Effort) → IsEffort (first_of (codes "effort") given) effort → ⊥) →
     AsksForNone (Some (codes "protect", given))
 no_effort_protected given no_effort order asked = let has = asks_to_protect given order asked in no_effort has.effort has.effort_is
+
+-- the command `order` asks for nothing with a word that is no number
+pub none_ordered : (given : List Row) (word : Text) → Some word ≡ first_of (codes "of-run") given → number_of word ≡ None → AsksForNone (Some (codes "order", given))
+none_ordered given word found none Plan asked = cc
+none_ordered given word found none (ExplainState table at run) asked = cc
+none_ordered given word found none (ExplainLine line) asked = cc
+none_ordered given word found none (Lint before) asked = cc
+none_ordered given word found none (Certify budget effort) asked = cc
+none_ordered given word found none (Protect budget effort rounds) asked = cc
+none_ordered given word found none AddOrders asked = let unnamed : None ≡ Some word = asked.1 ∙ sym found in cc
+none_ordered given word found none (OrderByRun seed) asked =
+    let number : number_of word ≡ Some seed = subst (λ o. IsSomeAnd o (λ w. number_of w ≡ Some seed)) (sym found) asked.1 in
+    let both : Some seed ≡ None = sym number ∙ none in cc
+none_ordered given word found none (Timetable csv) asked = cc
+none_ordered given word found none (Graph train) asked = cc
+none_ordered given word found none (Layout table at) asked = cc
 
 -- a word that is none of the three is for no effort
 pub no_effort : (word : Text) → (word ≡ codes "small" → ⊥) → (word ≡ codes "usual" → ⊥) → (word ≡ codes "great" → ⊥) → (effort : Effort) → word ≡ word_of effort → ⊥

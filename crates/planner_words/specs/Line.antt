@@ -65,7 +65,7 @@ abbrev pub documents : List Shape
 documents = plan ∷ explain ∷ lint ∷ []
 
 abbrev pub order : Shape
-order = leaf (codes "order") []
+order = leaf (codes "order") (valued (codes "of-run") ∷ [])
 
 -- those that make something of a document
 abbrev pub makers : List Shape

@@ -4,9 +4,10 @@ use Rattle.clap.specs.Words.{Row, Text, first_of, one_of, subcommand_of}
 use Rattle.planner_words.specs.declared.orders.Effort.{Effort}
 use Rattle.planner_words.specs.declared.orders.Effort.TheVariants.{Small, Usual, Great}
 use Rattle.command_words.specs.Options as options
+use Rattle.decimal_number.specs.Decimal.{number_of}
 use Rattle.planner_words.specs.Line.{planner}
 use Rattle.planner_words.specs.declared.orders.Order.{Order}
-use Rattle.planner_words.specs.declared.orders.Order.TheVariants.{Plan, ExplainState, ExplainLine, Lint, Certify, Protect, AddOrders, Timetable, Graph, Layout}
+use Rattle.planner_words.specs.declared.orders.Order.TheVariants.{Plan, ExplainState, ExplainLine, Lint, Certify, Protect, AddOrders, OrderByRun, Timetable, Graph, Layout}
 
 -- the word that asks for an order
 abbrev pub name_of : Order → List ℕ
@@ -17,6 +18,7 @@ name_of (Lint before) = codes "lint"
 name_of (Certify budget effort) = codes "certify"
 name_of (Protect budget effort rounds) = codes "protect"
 name_of AddOrders = codes "order"
+name_of (OrderByRun seed) = codes "order"
 name_of (Timetable csv) = codes "timetable"
 name_of (Graph train) = codes "graph"
 name_of (Layout table at) = codes "layout"
@@ -69,7 +71,8 @@ HasValues given (ExplainLine line) = (None ≡ first_of (codes "at") given) × (
 HasValues given (Lint before) = option_map (λ s. s.now) before ≡ first_of (codes "before") given
 HasValues given (Protect budget effort made) =
     (nodes_in given ≡ Some budget) × (rounds_in given ≡ Some made) × IsEffort (first_of (codes "effort") given) effort
-HasValues given AddOrders = Unit {0}
+HasValues given AddOrders = None ≡ first_of (codes "of-run") given
+HasValues given (OrderByRun seed) = IsSomeAnd (first_of (codes "of-run") given) (λ word. number_of word ≡ Some seed)
 HasValues given (Certify budget effort) = (budget_in given ≡ Some budget) × IsEffort (first_of (codes "effort") given) effort
 HasValues given (Timetable csv) = IsFlag (one_of (codes "csv") given) csv
 HasValues given (Graph train) = option_map (λ s. s.now) train ≡ first_of (codes "train") given

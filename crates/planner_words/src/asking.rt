@@ -98,6 +98,12 @@ const EFFORT: Choice = Choice::Value {
     help: "How many ways of searching are tried: small, usual or great (default: usual)",
 };
 
+const OF_RUN: Choice = Choice::Value {
+    name: "of-run",
+    value: "SEED",
+    help: "The orders of one run: that of a journal behind the document, or one drawn from this number",
+};
+
 const CSV: Choice = Choice::Flag {
     name: "csv",
     help: "With commas instead of columns",
@@ -152,7 +158,7 @@ fn with_makers<'a>(alloc: Global, command: Command<'a>) -> Result<Command<'a>, A
     let command = with_subcommand(alloc, command, "protect", about, &[NODES, EFFORT, ROUNDS])?;
     let about =
         "Reads a document and writes it with sections for the order that its tracks force on trains";
-    with_subcommand(alloc, command, "order", about, &[])
+    with_subcommand(alloc, command, "order", about, &[OF_RUN])
 }
 
 fn with_pictures<'a>(alloc: Global, command: Command<'a>) -> Result<Command<'a>, AllocError>

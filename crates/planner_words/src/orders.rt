@@ -40,6 +40,10 @@ pub enum Order<'a> {
     },
     /// Add sections to a document that keep trains in the order that its tracks force.
     AddOrders,
+    /// Add sections to a document that keep trains in the order of a run, which is given or drawn from a seed.
+    OrderByRun {
+        seed: u32,
+    },
     /// Write the timetable of a timed run, as columns or with commas.
     Timetable {
         csv: bool,

@@ -26,6 +26,8 @@ const NO_ROUNDS: &str = "planner protect: --rounds takes a number of rounds, 0 t
 
 const NO_SEARCHES: &str = "planner protect: --effort takes small, usual or great\n";
 
+const NO_SEED: &str = "planner order: --of-run takes a number, 0 to 4294967295\n";
+
 const MOST_NODES: u32 = 1_000_000;
 
 // The most nodes of a certificate that `protect` looks for, where none are named.
@@ -108,7 +110,7 @@ fn order_called<'a>(
         }),
         "certify" => certify(alloc, matches),
         "protect" => protect(alloc, matches),
-        "order" => Ok(Order::AddOrders),
+        "order" => order_by(alloc, matches),
         "timetable" => Ok(Order::Timetable {
             csv: matches.get_flag("csv"),
         }),
@@ -210,6 +212,19 @@ fn effort_called(word: &str) -> Option<Effort>
         "usual" => Some(Effort::Usual),
         "great" => Some(Effort::Great),
         _ => None,
+    }
+}
+
+fn order_by<'a>(alloc: Global, matches: &ArgMatches<'a>) -> Result<Order<'a>, WordsAnswered>
+    ensures asked { IfOk result (λ order. AsksFor order (codes "order", rows_of (found_of matches.now))) }
+    ensures answered { IfErr result (MissesNone (Some (codes "order", rows_of (found_of matches.now)))) }
+{
+    let Some(text) = matches.get_str("of-run") else {
+        return Ok(Order::AddOrders);
+    };
+    match number_of(text.as_bytes()) {
+        Some(seed) => Ok(Order::OrderByRun { seed }),
+        None => refused(alloc, NO_SEED),
     }
 }
 
