@@ -7,7 +7,7 @@
     bench/scale.py --kept rows.json --picture nodes.svg      rows that this file has aren't measured again; and a picture of all
 
 The documents (families.py) are the same in every run. For each: `ats make`; `planner certify`; `planner order`, and `certify` of what it
-writes. Nodes are counted in the document that was written, and `ats check` has to accept it. `--other-order COMMAND` takes the words of
+writes; the same with `order --of-run 1`. Nodes are counted in the document that was written, and `ats check` has to accept it. `--other-order COMMAND` takes the words of
 `planner order`; what it writes is given to `--other`. SPIN counts the states that are reached, with at most 1 GiB. A SAT solver, cadical
 or minisat, says whether a table allows a stuck state: it gives no certificate. Each tool that is missing is left out, with a line that
 says so. The programs are those of `./build`, or else trial builds. It ends with 1 if an answer is wrong.
@@ -45,7 +45,7 @@ FAMILIES = {
     "junction": [("junction", 8, 6), ("junction", 12, 8), ("junction", 16, 10), ("entered_junction", 32, 48, 48)],
     "circle": [("circle", 4, 12, 1), ("circle", 8, 16, 1), ("circle", 8, 24, 3), ("circle", 12, 36, 2)],
 }
-COLUMNS = ["make", "certify", "order", "other", "other-order", "spin", "sat", "sat-order"]
+COLUMNS = ["make", "certify", "order", "of-run", "other", "other-order", "spin", "sat", "sat-order"]
 
 
 def told(code, said):
@@ -73,6 +73,8 @@ class Measuring:
         for command in ("certify", "order"):
             if f"\n  {command}" not in helped:
                 self.leave_out(command, f"planner has no command {command}")
+        if "--of-run" not in called([*self.planner, "order", "--help"], "")[1]:
+            self.leave_out("of-run", "planner's order has no --of-run")
         for column, command in (("other", self.other), ("other-order", self.other and self.other_order)):
             if not command:
                 self.leave_out(column, f"no --{column}")
@@ -149,6 +151,8 @@ class Measuring:
                 self.wrong(row["name"], "make finds a certificate, and certify doesn't")
         if "order" in columns:
             ordered = self.order(row, "order", [*self.planner, "order"], [*self.planner, "certify"], document)
+        if "of-run" in columns:
+            self.order(row, "of-run", [*self.planner, "order", "--of-run", "1"], [*self.planner, "certify"], document)
         if "other" in columns:
             row["other"] = self.certified(row["name"], self.other, document)
         if "other-order" in columns:
@@ -181,7 +185,7 @@ def cell(answer, seconds):
 def table(rows, seconds):
     """The rows as a table in Markdown, with those columns that have something."""
     heads = {
-        "make": "`make`", "certify": "`certify`", "order": "`order`, `certify`", "other": "other", "other-order": "other, with order",
+        "make": "`make`", "certify": "`certify`", "order": "`order`, `certify`", "of-run": "`order --of-run 1`, `certify`", "other": "other", "other-order": "other, with order",
         "spin": "SPIN: states", "sat": "SAT: stuck states", "sat-order": "SAT, with order",
     }
     shown = [column for column in COLUMNS if any(row.get(column) for row in rows)]
