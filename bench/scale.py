@@ -7,10 +7,11 @@
     bench/scale.py --kept rows.json --picture nodes.svg      rows that this file has aren't measured again; and a picture of all
 
 The documents (families.py) are the same in every run. For each: `ats make`; `planner certify`; `planner order`, and `certify` of what it
-writes; the same with `order --of-run 1`. Nodes are counted in the document that was written, and `ats check` has to accept it. `--other-order COMMAND` takes the words of
-`planner order`; what it writes is given to `--other`. SPIN counts the states that are reached, with at most 1 GiB. A SAT solver, cadical
-or minisat, says whether a table allows a stuck state: it gives no certificate. Each tool that is missing is left out, with a line that
-says so. The programs are those of `./build`, or else trial builds. It ends with 1 if an answer is wrong.
+writes; the same with `order --of-run 1`. Nodes are counted in the document that was written, and `ats check` has to accept it.
+`--other-order COMMAND` takes the words of `planner order`; what it writes is given to `--other`. SPIN counts the states that are reached,
+with at most 1 GiB. A SAT solver, cadical or minisat, says whether a table allows a stuck state: it gives no certificate. Each tool that is
+missing is left out, with a line that says so. The programs are those of `./build`, or else trial builds. It ends with 1 if an answer is
+wrong.
 """
 import argparse
 import json
@@ -185,7 +186,8 @@ def cell(answer, seconds):
 def table(rows, seconds):
     """The rows as a table in Markdown, with those columns that have something."""
     heads = {
-        "make": "`make`", "certify": "`certify`", "order": "`order`, `certify`", "of-run": "`order --of-run 1`, `certify`", "other": "other", "other-order": "other, with order",
+        "make": "`make`", "certify": "`certify`", "order": "`order`, `certify`", "of-run": "`order --of-run 1`, `certify`", "other": "other",
+        "other-order": "other, with order",
         "spin": "SPIN: states", "sat": "SAT: stuck states", "sat-order": "SAT, with order",
     }
     shown = [column for column in COLUMNS if any(row.get(column) for row in rows)]
