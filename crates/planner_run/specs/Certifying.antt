@@ -1,5 +1,5 @@
 -- What certifying a document comes to: its text with certificates, or a line that says why it has none.
-use Rattle.std.specs.Prelude.{◌≡◌, ◌⊎◌, ℕ, List, [], ◌++◌, codes, decimal, Ok, Err}
+use Rattle.std.specs.Prelude.{◌≡◌, ◌⊎◌, ℕ, List, ◌++◌, codes, decimal, Ok, Err}
 use Rattle.document_certificates.specs.Certified.{HasNone, IsCertified}
 use Rattle.document_certificates.specs.declared.uncertified.Uncertified.{Uncertified}
 use Rattle.document_certificates.specs.declared.uncertified.Uncertified.TheVariants.{Memory, Stuck, GaveUp}

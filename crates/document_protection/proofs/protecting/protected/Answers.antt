@@ -6,7 +6,7 @@ use Rattle.legal_state.specs.Illegal.{IsIllegal}
 use Rattle.rail_model.specs.Certificate.{Tree}
 use Rattle.rail_model.specs.State.{Legal}
 use Rattle.rail_model.specs.Table.{Table}
-use Rattle.layout_json.specs.Doc.{Doc, IsDoc}
+use Rattle.layout_json.specs.Doc.{IsDoc}
 use Rattle.layout_json.specs.Keeps.{IsTaken}
 use Rattle.layout_json.specs.Replaced.{new_table, replaced}
 use Rattle.document_protection.specs.Protected.{ArePartsOf, AreProtected, HasNone}
