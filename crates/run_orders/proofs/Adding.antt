@@ -18,7 +18,7 @@ use Rattle.order_sections.specs.Orders.{with_more}
 use Rattle.document_orders.specs.Ordered.{KeepsTree, new_tree}
 use Rattle.document_orders.proofs.Offering.{listed_there, new_there}
 use Rattle.document_orders.proofs.Taking.{is_taken}
-use Rattle.run_orders.specs.RunOrdered.{AddsSectionsTo, IsOrderedByRun}
+use Rattle.run_orders.specs.RunOrdered.{IsOrderedByRun}
 
 -- Tables with more sections were made of those of a document, and come with certificates.
 pub record AreMade (E : Doc) (tables made : List Table) (parts : List (Table × Tree)) : Type 0 where

@@ -1,5 +1,5 @@
 -- Runs of a document, and the states along them.
-use Rattle.std.proofs.Common.{◌≡◌, ℕ, List, [], ◌∷◌, ◌++◌, map, sym, subst}
+use Rattle.std.proofs.Common.{◌≡◌, ℕ, List, [], ◌∷◌, ◌++◌, map, subst}
 use Rattle.std.specs.Prelude.{Result, Ok, Err, OnOk}
 use Rattle.rail_model.specs.declared.types.Line.{Line}
 use Rattle.rail_model.specs.Journal.{Journal, IsRight, IsWhole, after_line, after_lines}
@@ -9,7 +9,7 @@ use Rattle.layout_json.specs.Doc.{Doc, offers_of}
 use Rattle.move_journal.specs.Replays.{Verifies}
 use Rattle.move_journal.specs.declared.faults.BadLine.{BadLine}
 use Rattle.reached_states.specs.Reached.{AreOffered}
-use Rattle.reached_states.proofs.Reaching.{stands_opening, reached_keeps}
+use Rattle.reached_states.proofs.Reaching.{reached_keeps}
 use Rattle.run_sentences.proofs.Offers.{given}
 
 -- a journal that passes is whole under the document's tables
