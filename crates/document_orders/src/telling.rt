@@ -70,7 +70,11 @@ fn push_section(
     };
     let leader = train_name(told.names, trains.first);
     let follower = train_name(told.names, trains.second);
-    let whose = if order.is_of_run() { ", in this run" } else { "" };
+    let whose = if order.is_of_run() {
+        ", in this run"
+    } else {
+        ""
+    };
     write!(
         lines,
         "tables[{number}].sections[{section}]: {follower} goes behind {leader}{whose}:"

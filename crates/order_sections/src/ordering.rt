@@ -70,9 +70,7 @@ fn tested(
 fn has_order(orders: &[Order], trains: Two) -> bool
     ensures { result ≡ has_order orders.now trains }
 {
-    orders
-        .iter()
-        .any(|order| order.first() == trains.first && order.second() == trains.second)
+    orders.iter().any(|order| order.first() == trains.first && order.second() == trains.second)
 }
 
 // The trains of the orders that are needed and weren't made.

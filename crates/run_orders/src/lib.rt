@@ -5,8 +5,8 @@ mod drawing;
 mod given;
 mod laws;
 mod ordering;
-mod refused;
 mod reading;
+mod refused;
 
 pub use drawing::{run_from, verified};
 pub use laws::whole_runs_stay_legal;
