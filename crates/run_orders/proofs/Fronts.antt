@@ -1,5 +1,6 @@
 -- Runs of a document, and the states along them.
-use Rattle.std.proofs.Common.{◌≡◌, ℕ, List, [], ◌∷◌, ◌++◌, map, subst}
+use Rattle.std.proofs.Common.{◌≡◌, ◌∙◌, ℕ, List, [], ◌∷◌, ◌++◌, map, subst}
+use Rattle.std.proofs.lemmas.List.{map-id}
 use Rattle.std.specs.Prelude.{Result, Ok, Err, OnOk}
 use Rattle.rail_model.specs.declared.types.Line.{Line}
 use Rattle.rail_model.specs.Journal.{Journal, IsRight, IsWhole, after_line, after_lines}
@@ -10,13 +11,12 @@ use Rattle.move_journal.specs.Replays.{Verifies}
 use Rattle.move_journal.specs.declared.faults.BadLine.{BadLine}
 use Rattle.reached_states.specs.Reached.{AreOffered}
 use Rattle.reached_states.proofs.Reaching.{reached_keeps}
-use Rattle.run_sentences.proofs.Offers.{given}
 
 -- a journal that passes is whole under the document's tables
 pub whole_of : (D : Doc) (tables : List Offer) (start : List ℕ) (J : Journal) (answer : Result (Unit {0}) BadLine) → tables ≡ offers_of D → start ≡ D.start
     → Verifies (map (λ (o : Offer). o) tables) (opening start) J answer → OnOk answer (IsWhole (offers_of D) (opening D.start) J)
 whole_of D tables start J (Ok u) same begins whole =
-    subst (λ (os : List Offer). IsWhole os (opening D.start) J) (given D tables same)
+    subst (λ (os : List Offer). IsWhole os (opening D.start) J) (map-id tables ∙ same)
     (subst (λ (p : List ℕ). IsWhole (map (λ (o : Offer). o) tables) (opening p) J) begins whole)
 whole_of D tables start J (Err e) same begins answers = tt
 

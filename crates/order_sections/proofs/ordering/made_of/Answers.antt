@@ -10,5 +10,5 @@ returns-clause-keep c =
 
 pub returns-clause-whole : goal.returns-clause-whole
 returns-clause-whole c =
-    subst (λ (ts : List Table). AreWhole (length c.args.tables.now) ts c.args.orders.now) c.deref-3.ensures.value
+    subst (λ (ts : List Table). AreWhole (length c.args.tables.now) ts c.args.orders.now) c.deref-else-not-all_keep.ensures.value
     (c.all_are_whole.ensures (search rules))
