@@ -2,7 +2,6 @@
 #![tactic(auto)]
 
 mod drawing;
-mod given;
 mod laws;
 mod ordering;
 mod reading;

@@ -9,12 +9,12 @@ ghost use Rattle.run_orders.specs.RunOrdered.{IsInputByRun, IsRunFrom, IsOrdered
 
 use crate::RunRefused;
 use crate::drawing::run_from;
-use crate::given::cut;
 use crate::ordering::ordered_by_run;
 use document_orders::{OrderedDoc, lines_of};
 use layout_json::{Doc, DocRefused, document, names_of};
 use move_journal::{BadText, Journal, Part, read_prefix};
 use std::alloc::Global;
+use timed_reading::cut;
 
 /// The text of a document with the orders of a run, and a line for each section that was added and for each order that was left out.
 #[derive(Drop)]

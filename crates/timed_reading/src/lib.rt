@@ -8,4 +8,5 @@ mod reading;
 mod running;
 mod ticks;
 
+pub use parts::cut;
 pub use reading::{Timed, timed_run};

@@ -6,8 +6,8 @@ use memchr::{memchr, memmem};
 
 const MARK: &[u8] = b"\njournal\n";
 
-/// The document and the journal of an input, at the first line between them.
-pub(crate) fn cut(input: &[u8]) -> Option<(&[u8], &[u8])>
+/// The document and the journal of an input: what comes before its first line `journal`, and what follows that.
+pub fn cut(input: &[u8]) -> Option<(&[u8], &[u8])>
     ensures { IfSome result (λ parts. input.now ≡ parts.0.now ++ mark ++ parts.1.now) }
 {
     let Some(place) = memmem::find(input, MARK) else {
