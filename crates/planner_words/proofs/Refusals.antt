@@ -40,6 +40,10 @@ explain_not_protect same = let first : 101 ≡ 112 = ap (λ word. get_or word 0 
 certify_not_protect : codes "certify" ≡ codes "protect" → ⊥
 certify_not_protect same = let first : 99 ≡ 112 = ap (λ word. get_or word 0 0) same in omega (arith, first)
 
+-- and the names of `graph` and `order`
+graph_not_order : codes "graph" ≡ codes "order" → ⊥
+graph_not_order same = let first : 103 ≡ 111 = ap (λ word. get_or word 0 0) same in omega (arith, first)
+
 -- The numbers and the effort that are found for the command `protect`.
 record IsProtecting (given : List Row) (order : Order) : Type 0 where
   nodes : ℕ
@@ -135,7 +139,7 @@ none_ordered given word found none (OrderByRun seed) asked =
     let number : number_of word ≡ Some seed = subst (λ o. IsSomeAnd o (λ w. number_of w ≡ Some seed)) (sym found) asked.1 in
     let both : Some seed ≡ None = sym number ∙ none in cc
 none_ordered given word found none (Timetable csv) asked = cc
-none_ordered given word found none (Graph train) asked = cc
+none_ordered given word found none (Graph train) asked = graph_not_order asked.0
 none_ordered given word found none (Layout table at) asked = cc
 
 -- a word that is none of the three is for no effort
