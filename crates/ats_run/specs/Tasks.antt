@@ -1,5 +1,5 @@
 -- What is left to do of an order that runs trains: to end its run, and to print it.
-use Rattle.std.specs.Prelude.{◌≡◌, ℕ, List, length}
+use Rattle.std.specs.Prelude.{◌≡◌, ℕ, List, [], length}
 use Rattle.command_words.specs.declared.orders.Order.{Order}
 use Rattle.command_words.specs.declared.orders.Order.TheVariants.{Run, Resume, Drill}
 use Rattle.rail_model.specs.Certificate.{Tree}
@@ -8,11 +8,12 @@ use Rattle.rail_model.specs.Journal.{text, with_counts}
 use Rattle.plain_yard.specs.Keeps.{Keeps}
 use Rattle.shared_run.specs.declared.crews.Crew.{Crew}
 use Rattle.layout_json.specs.Doc.{Doc, IsDoc, offers_of, names_of}
+use Rattle.accepted_documents.specs.declared.accepting.Checked.{Checked}
 use Rattle.ats_run.specs.declared.tasks.Task.{Task}
 use Rattle.ats_run.specs.declared.tasks.Task.TheVariants.{Goes, Printed}
 use Rattle.ats_run.specs.Checking.{nodes_below}
 use Rattle.ats_run.specs.Generating.{drill_text}
-use Rattle.ats_run.specs.Headline.{Ends}
+use Rattle.ats_run.specs.Headline.{Ends, plain_after}
 use Rattle.ats_run.specs.Orders.{crew_in}
 
 -- The order runs trains.
@@ -59,3 +60,7 @@ TaskLeads Print P (Printed text) = (crew : Crew) → P crew text.items
 abbrev pub IsPrinted : Task → List ℕ → Type 0
 IsPrinted (Goes checked from) written = ⊥
 IsPrinted (Printed text) written = text.items ≡ written
+
+-- The run of this document at its start.
+abbrev pub IsAtStart : Checked → Task → Type 0
+IsAtStart checked task = (from : Plain) × (task ≡ Goes checked from) × (from ≡ plain_after checked.doc [])

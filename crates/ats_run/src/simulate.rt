@@ -14,6 +14,7 @@ ghost use Rattle.ats_run.specs.declared.failure.Failure.TheVariants.{Memory as N
 
 use crate::Failure;
 use crate::checked::check_document;
+use accepted_documents::Checked;
 use cert_checker::Accepted;
 use layout_json::Frame;
 use move_journal::{Journal, push_line};
@@ -30,17 +31,19 @@ pub fn simulate(rt: &(impl Threads + Sync), alloc: Global, input: &[u8]) -> Resu
     ensures unchecked { IfErr result (λ e. (e ≡ NoMemory) ⊎ RefusesCheck input.now e) }
 {
     let checked = check_document(rt, alloc, input)?;
-    let text = simulate_checked(alloc, &checked.doc, &checked.tables)?;
-    Ok(text)
+    simulate_checked(alloc, &checked)
 }
 
-// The timed journal of a document under its tables, each of which accepts its certificate.
-fn simulate_checked(alloc: Global, doc: &Frame, tables: &[Accepted]) -> Result<Vec<u8>, AllocError>
-    requires { tables.now ≡ offers_of doc.now }
-    ensures simulated { IfOk result (λ text. (trees : List Tree) → AreAccepted doc.now trees → IsSimulated doc.now text.items) }
+// The timed journal of a document whose tables accept their certificates. The only error is that there is no memory.
+fn simulate_checked(alloc: Global, checked: &Checked) -> Result<Vec<u8>, Failure>
+    requires tables { checked.now.tables.items ≡ offers_of checked.now.doc }
+    requires accepted { AreAccepted checked.now.doc checked.now.certs.items }
+    ensures simulated { IfOk result (λ text. IsSimulated checked.now.doc text.items) }
+
+    ensures memory { IfErr result (λ e. e ≡ NoMemory) }
 {
-    let report = report_of(alloc, doc, tables)?;
-    text_of_report(alloc, doc, report)
+    let report = report_of(alloc, &checked.doc, &checked.tables)?;
+    Ok(text_of_report(alloc, &checked.doc, report)?)
 }
 
 // What the simulation of a document reports.
@@ -55,10 +58,10 @@ fn report_of(alloc: Global, doc: &Frame, tables: &[Accepted]) -> Result<SimRepor
     ensures one_each { IfOk result (λ r. length r.ticks.items ≡ length r.state.lines) }
 {
     let yard = begin_run(alloc, doc, tables)?;
-    let Ok(report) = simulate_yard(alloc, yard, doc.times()) else {
-        return Err(AllocError);
-    };
-    Ok(report)
+    match simulate_yard(alloc, yard, doc.times()) {
+        Ok(report) => Ok(report),
+        Err(_) => Err(AllocError),
+    }
 }
 
 // The yard at a document's start.
@@ -73,10 +76,10 @@ fn begin_run<'a>(
         ≡ record { tables = offers_of doc.now; yard = opening doc.now.start; lines = []; room = run.room }) }
 {
     let begun = begin(alloc, doc.start())?;
-    let Ok(yard) = PlainYard::new(tables, begun) else {
-        return Err(AllocError);
-    };
-    Ok(yard)
+    match PlainYard::new(tables, begun) {
+        Ok(yard) => Ok(yard),
+        Err(_) => Err(AllocError),
+    }
 }
 
 // The text of a report.

@@ -15,6 +15,7 @@ ghost use Rattle.ats_run.specs.declared.failure.Failure.TheVariants.{Memory as N
 use crate::Failure;
 use crate::checked::check_document;
 use crate::run::{finish_from, text_of_run};
+use accepted_documents::Checked;
 use cert_checker::Accepted;
 use document_generator::Draws;
 use layout_json::Frame;
@@ -38,26 +39,27 @@ pub fn weave(
     ensures unchecked { IfErr result (λ e. (e ≡ NoMemory) ⊎ RefusesCheck input.now e) }
 {
     let checked = check_document(rt, alloc, input)?;
-    let text = weave_checked(alloc, &checked.doc, &checked.tables, seed, turns)?;
-    Ok(text)
+    weave_checked(alloc, &checked, seed, turns)
 }
 
-// The same of a document under its tables, each of which accepts its certificate.
+// The same of a document whose tables accept their certificates. The only error is that there is no memory.
 fn weave_checked(
     alloc: Global,
-    doc: &Frame,
-    tables: &[Accepted],
+    checked: &Checked,
     seed: u32,
     turns: u32,
-) -> Result<Vec<u8>, AllocError>
-    requires tables { tables.now ≡ offers_of doc.now }
+) -> Result<Vec<u8>, Failure>
+    requires tables { checked.now.tables.items ≡ offers_of checked.now.doc }
+    requires accepted { AreAccepted checked.now.doc checked.now.certs.items }
     requires few { turns ≤ 1000000 }
-    ensures woven { IfOk result (λ text. (trees : List Tree) → AreAccepted doc.now trees
-        → (run : IsRun doc.now text.items) × IsWoven doc.now seed turns run.journal.lines) }
+    ensures woven { IfOk result (λ text. (run : IsRun checked.now.doc text.items)
+        × IsWoven checked.now.doc seed turns run.journal.lines) }
+
+    ensures memory { IfErr result (λ e. e ≡ NoMemory) }
 {
-    let state = state_after(alloc, doc, tables, seed, turns)?;
-    let end = finish_from(doc, tables, state)?;
-    text_of_run(alloc, doc, end)
+    let state = state_after(alloc, &checked.doc, &checked.tables, seed, turns)?;
+    let end = finish_from(&checked.doc, &checked.tables, state)?;
+    Ok(text_of_run(alloc, &checked.doc, end)?)
 }
 
 // The state and the lines after the drawn turns.

@@ -1,0 +1,10 @@
+use Rattle.std.proofs.Common.{inl}
+use Rattle.std.proofs.lemmas.Result.{IfOk-weaker, IfErr-weaker}
+use Rattle.ats_run.proofs.simulate.simulate.Goals as goal
+
+pub returns-clause-simulated : goal.returns-clause-simulated
+returns-clause-simulated g c =
+    IfOk-weaker c.simulate_checked.result _ _ (λ text h. (c.in_ok-checked.checked.doc, c.in_ok-checked.ensures.document, h)) c.simulate_checked.ensures.simulated
+
+pub returns-clause-unchecked : goal.returns-clause-unchecked
+returns-clause-unchecked g c = IfErr-weaker c.simulate_checked.result _ _ (λ e memory. inl memory) c.simulate_checked.ensures.memory
