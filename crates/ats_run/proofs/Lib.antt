@@ -17,6 +17,7 @@ mod Inputs
 mod LightMarked
 pub mod Made
 mod MakeRows
+mod OfChecked
 mod OneTable
 mod PairFaults
 pub mod Reading
