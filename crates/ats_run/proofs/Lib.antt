@@ -30,7 +30,6 @@ mod Runs
 pub mod Simulated
 mod SmallNodes
 mod TableRows
-mod Unchecked
 mod Writing
 pub mod Woven
 pub mod WeaveRows
