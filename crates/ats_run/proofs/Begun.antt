@@ -12,7 +12,7 @@ use Rattle.move_journal.specs.Answers.{IsFrontOf}
 use Rattle.shared_run.specs.declared.crews.Crew.{Crew}
 use Rattle.layout_json.specs.Doc.{Doc, IsDoc, offers_of, names_of}
 use Rattle.layout_json.specs.Reading.{doc_of}
-use Rattle.layout_json.proofs.Offered.{offer_count, legal_start}
+use Rattle.layout_json.proofs.Offered.{legal_start}
 use Rattle.ats_run.specs.declared.failure.Failure.{Failure}
 use Rattle.ats_run.specs.declared.failure.Failure.TheVariants.{Memory as NoMemory}
 use Rattle.accepted_documents.specs.declared.accepting.Checked.{Checked}
@@ -92,10 +92,6 @@ pub printed_leads : (Print : Doc → List Tree → Plain → List ℕ → Type 0
     → ((crew : Crew) → P crew written) → TaskLeads Print P task
 printed_leads Print P (Goes checked from) written is all = absurd is
 printed_leads Print P (Printed text) written is all = λ crew. subst (λ (bytes : List ℕ). P crew bytes) (sym is) (all crew)
-
--- few certificates
-pub few_trees : (D : Doc) (trees : List Tree) → IsDoc D → length trees ≡ length D.tables → length trees ≤ 16
-few_trees D trees doc same = let few = doc.tables.few in let count = offer_count D in omega (arith, few, count, same)
 
 module _ (input : List ℕ) where
   -- what a task says of an order

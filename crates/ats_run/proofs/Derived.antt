@@ -1,7 +1,7 @@
 -- Tables with the sections of their rings.
 use Rattle.std.proofs.Common.{◌≡◌, ◌⊎◌, ℕ, ◌+◌, ◌<◌, ◌≤◌, List, [], ◌∷◌, ◌++◌, length, map, take, get_or, slice_get, All, Some, sym, ◌∙◌, ap, subst, arith, inl, inr}
 use Rattle.std.specs.Prelude.{Ok}
-use Rattle.std.proofs.lemmas.List.{get_or-map, length-map, take_more}
+use Rattle.std.proofs.lemmas.List.{get_or-map, length-map, take_all, take_more}
 use Rattle.rail_model.specs.Table.{Table, Mission, Section, Connection, IsTable, IsConnection}
 use Rattle.rail_model.specs.State.{Legal}
 use Rattle.rail_model.specs.Certificate.{Tree}
@@ -22,9 +22,10 @@ use Rattle.layout_json.proofs.Offered.{offer_count}
 use Rattle.ats_run.specs.declared.failure.Failure.{Failure}
 use Rattle.ats_run.specs.declared.failure.Failure.TheVariants.{Memory as NoMemory}
 use Rattle.ats_run.specs.Deriving.{derived_table, derived, HasFewRings, HaveFewRings, HasTooManyRings, HasManyRings, IsDerived}
-use Rattle.ats_run.specs.Making.{table_in, HaveMade}
+use Rattle.ats_run.specs.Making.{tables_in, table_in, HaveMade}
 use Rattle.ats_run.proofs.AcceptedText.{derived_text}
 use Rattle.ats_run.proofs.LightMarked.{light}
+use Rattle.ats_run.proofs.Made.{table_count}
 
 -- a connection looks at no section
 connected_as : (T : Table) (S : List Section) (k : Connection) → IsConnection T k → IsConnection (record { missions = T.missions; sections = S; connections = [] }) k
@@ -79,6 +80,15 @@ module _ (D : Doc) (most : ℕ) where
       → T ≡ derived_table most (table_at D t) → after ≡ before ++ T ∷ [] → after ≡ take (t + 1) (derived D most)
   derived_more t T before after lt front is pushed =
       pushed ∙ (λ i. front i ++ (is ∙ sym (derived_at t lt)) i ∷ []) ∙ sym (take_more (derived D most) t _ (subst (λ n. t < n) (sym derived_count) lt))
+
+  -- all of them
+  pub all_derived : (done marked : List Table) → tables_in D ≡ done → marked ≡ take (length done) (derived D most) → marked ≡ derived D most
+  all_derived done marked all front =
+      let counted = ap length (sym all) ∙ table_count D in
+      front ∙ take_all (length done) (derived D most) (omega (arith, counted, derived_count))
+
+  pub all_few : (done : List Table) → tables_in D ≡ done → ((u : ℕ) → u < length done → HasFewRings most (table_at D u)) → HaveFewRings D most
+  all_few done all few t lt = few t (omega (arith, lt, ap length all, table_count D))
 
   -- the first with too many rings
   pub many_here : (n number : ℕ) (T : Table) (e : Failure) → n < length D.tables → T ≡ table_at D n → number ≡ n → ((u : ℕ) → u < n → HasFewRings most (table_at D u))

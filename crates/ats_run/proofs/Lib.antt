@@ -17,6 +17,7 @@ mod Inputs
 mod LightMarked
 pub mod Made
 mod MakeRows
+mod OfChecked
 mod OneTable
 mod PairFaults
 pub mod Reading
@@ -29,7 +30,6 @@ mod Runs
 pub mod Simulated
 mod SmallNodes
 mod TableRows
-mod Unchecked
 mod Writing
 pub mod Woven
 pub mod WeaveRows

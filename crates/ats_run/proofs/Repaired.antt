@@ -1,6 +1,6 @@
 -- Tables that are repaired one after another, and what their document is.
-use Rattle.std.specs.Prelude.{Result, Ok, Err, IfErr, IsErrAnd}
-use Rattle.std.proofs.Common.{◌≡◌, ◌⊎◌, ℕ, ◌+◌, ◌<◌, ◌≤◌, List, [], ◌∷◌, ◌++◌, All, length, sym, ◌∙◌, ap, subst, arith, inl, inr}
+use Rattle.std.specs.Prelude.{Ok}
+use Rattle.std.proofs.Common.{◌≡◌, ◌⊎◌, ℕ, ◌+◌, ◌<◌, ◌≤◌, List, [], ◌∷◌, ◌++◌, All, get_or, length, sym, ◌∙◌, ap, subst, arith, inl, inr}
 use Rattle.std.proofs.lemmas.Bool.{cases_eq}
 use Rattle.std.proofs.lemmas.List.{get_or_append_left, length-append}
 use Rattle.std.proofs.Math.Seq.{get_or-append_seam}
@@ -24,7 +24,6 @@ use Rattle.layout_json.proofs.Remade.{remarked-is-taken}
 use Rattle.layout_json.proofs.Offered.{offer_count}
 use Rattle.ats_run.specs.Making.{part_in}
 use Rattle.ats_run.specs.Repairing.{IsRepairedAs, EndsRepair, RepairsNone, AreRepaired, IsUnconnected, IsRepaired, IsRefusedStart, FailsToRepair}
-use Rattle.ats_run.specs.Command.{RefusesRepair}
 use Rattle.ats_run.specs.Starting.{IsBadStart}
 use Rattle.ats_run.specs.declared.failure.Failure.{Failure}
 use Rattle.ats_run.specs.declared.failure.Failure.TheVariants.{Memory}
@@ -119,6 +118,10 @@ repaired_more D budget rounds n parts longer p so is repaired start =
       ];
     }
 
+-- the one that was added to none is the first
+pub first_part : (parts longer : List (Table × Tree)) (p q : Table × Tree) → length parts ≡ 0 → longer ≡ parts ++ p ∷ [] → q ≡ get_or longer 0 q → q ≡ p
+first_part parts longer p q none is at = at ∙ (λ i. get_or (is i) (sym none i) q) ∙ get_or-append_seam parts p [] q
+
 -- the first of which the repair fails
 pub failed_here : (D : Doc) (budget rounds n : ℕ) (parts : List (Table × Tree)) (e : Failure) → IsUnconnected D (length D.tables) → n < length D.tables
     → AreRepaired D budget rounds n parts
@@ -161,10 +164,3 @@ repaired_is D budget rounds parts given bytes enough unconnected so same printed
   repaired = so;
   text = repaired_text D budget rounds parts bytes enough so (printed ∙ ap (λ ps. written (replaced D ps)) same) (reads ∙ ap (λ ps. Ok (replaced D ps)) same);
 }
-
--- its refusal is the input's
-pub unrepaired_input : {A : Type 0} (input : List ℕ) (D : Doc) (budget rounds : ℕ) (result : Result A Failure) (e : Failure) → doc_of input ≡ Ok D
-    → (e ≡ Memory) ⊎ FailsToRepair D budget rounds e → IsErrAnd result (λ y. y ≡ e) → IfErr result (λ f. (f ≡ Memory) ⊎ RefusesRepair input budget rounds f)
-unrepaired_input input D budget rounds (Ok a) e is h told = tt
-unrepaired_input input D budget rounds (Err y) e is h told =
-    subst (λ f. (f ≡ Memory) ⊎ RefusesRepair input budget rounds f) (sym told) (elim h [ inl memory ↦ inl memory | inr un ↦ inr (inr (D, is, un)) ])

@@ -1,19 +1,22 @@
--- What is left to do of an order that runs trains: to end its run, and to print it.
-use Rattle.std.specs.Prelude.{◌≡◌, ℕ, List, length}
+-- What is left to do of an order once its document is checked: to print it, or to end its run and to print that.
+use Rattle.std.specs.Prelude.{◌≡◌, ℕ, List, [], length}
 use Rattle.command_words.specs.declared.orders.Order.{Order}
-use Rattle.command_words.specs.declared.orders.Order.TheVariants.{Run, Resume, Drill}
+use Rattle.command_words.specs.declared.orders.Order.TheVariants.{Run, Resume, Check, Simulate, Drill, Weave}
 use Rattle.rail_model.specs.Certificate.{Tree}
 use Rattle.rail_model.specs.Plain.{Plain}
 use Rattle.rail_model.specs.Journal.{text, with_counts}
 use Rattle.plain_yard.specs.Keeps.{Keeps}
 use Rattle.shared_run.specs.declared.crews.Crew.{Crew}
 use Rattle.layout_json.specs.Doc.{Doc, IsDoc, offers_of, names_of}
+use Rattle.accepted_documents.specs.declared.accepting.Checked.{Checked}
 use Rattle.ats_run.specs.declared.tasks.Task.{Task}
 use Rattle.ats_run.specs.declared.tasks.Task.TheVariants.{Goes, Printed}
-use Rattle.ats_run.specs.Checking.{nodes_below}
+use Rattle.ats_run.specs.Checking.{nodes_below, WritesChecked}
 use Rattle.ats_run.specs.Generating.{drill_text}
-use Rattle.ats_run.specs.Headline.{Ends}
+use Rattle.ats_run.specs.Headline.{Ends, IsRun, plain_after}
 use Rattle.ats_run.specs.Orders.{crew_in}
+use Rattle.ats_run.specs.Simulating.{IsSimulated}
+use Rattle.ats_run.specs.Weaving.{IsWoven}
 
 -- The order runs trains.
 abbrev pub RunsTrains : Order → Type 0
@@ -59,3 +62,21 @@ TaskLeads Print P (Printed text) = (crew : Crew) → P crew text.items
 abbrev pub IsPrinted : Task → List ℕ → Type 0
 IsPrinted (Goes checked from) written = ⊥
 IsPrinted (Printed text) written = text.items ≡ written
+
+-- The run of this document at its start.
+abbrev pub IsAtStart : Checked → Task → Type 0
+IsAtStart checked task = (from : Plain) × (task ≡ Goes checked from) × (from ≡ plain_after checked.doc [])
+
+-- The order reads a document whose tables accept their certificates, and prints what it says of it.
+abbrev pub ReadsChecked : Order → Type 0
+ReadsChecked Check = Unit {0}
+ReadsChecked Simulate = Unit {0}
+ReadsChecked (Weave seed turns) = Unit {0}
+ReadsChecked order = ⊥
+
+-- The bytes are what the order prints of such a document.
+abbrev pub PrintsChecked : Order → Doc → List ℕ → Type 0
+PrintsChecked Check D written = WritesChecked D written
+PrintsChecked Simulate D written = IsSimulated D written
+PrintsChecked (Weave seed turns) D written = (run : IsRun D written) × IsWoven D seed turns run.journal.lines
+PrintsChecked order D written = ⊥

@@ -2,15 +2,17 @@
 ghost use Rattle.std.specs.Prelude.{◌≡◌, ◌≤◌, ◌⊎◌, Ok, Err, MatchResult, IfOk, IfErr, IfSome, IfNone, length};
 ghost use Rattle.command_words.specs.Subcommands.{HasItsNumbers};
 ghost use Rattle.shared_run.specs.Crews.{IsCrew, crew_of as crew_with};
+ghost use Rattle.accepted_documents.specs.Accepting.{AreAccepted};
 ghost use Rattle.ats_run.specs.Command.{Comes};
 ghost use Rattle.ats_run.specs.Orders.{crew_in, IsAlone};
-ghost use Rattle.ats_run.specs.Tasks.{EndsWith, RunsTrains, TaskLeads, Prints};
+ghost use Rattle.ats_run.specs.Tasks.{EndsWith, RunsTrains, TaskLeads, Prints, ReadsChecked, PrintsChecked};
 ghost use Rattle.layout_json.specs.Doc.{offers_of};
 ghost use Rattle.plain_yard.specs.Keeps.{Keeps};
 ghost use Rattle.ats_run.specs.declared.failure.Failure.TheVariants.{Memory as NoMemory};
 
 use crate::Failure;
 use crate::check::check;
+use crate::checked::check_document;
 use crate::derive::derive;
 use crate::drill::{begin_drill, counts_of_run};
 use crate::finishing::{finish_alone, finish_by};
@@ -192,6 +194,40 @@ pub(crate) fn answer_by<R: Threads + Wait + Sync, G: Gate>(
     }
 }
 
+// What an order prints of a document whose tables accept their certificates. The only error is that there is no memory.
+fn print_checked(alloc: Global, order: Order, checked: &Checked) -> Result<Vec<u8>, Failure>
+    requires numbers { HasItsNumbers order }
+    requires reads { ReadsChecked order }
+    requires tables { checked.now.tables.items ≡ offers_of checked.now.doc }
+    requires accepted { AreAccepted checked.now.doc checked.now.certs.items }
+    ensures prints { IfOk result (λ text. PrintsChecked order checked.now.doc text.items) }
+
+    ensures memory { IfErr result (λ e. e ≡ NoMemory) }
+{
+    match order {
+        Order::Check => check(alloc, checked),
+        Order::Simulate => simulate(alloc, checked),
+        Order::Weave { seed, steps } => weave(alloc, checked, seed, steps),
+        _ => unreachable!(),
+    }
+}
+
+// The bytes that an order prints of a document whose tables accept their certificates, or why there are none.
+fn answer_checked(
+    rt: &(impl Threads + Sync),
+    alloc: Global,
+    order: Order,
+    input: &[u8],
+) -> Result<Vec<u8>, Failure>
+    requires numbers { HasItsNumbers order }
+    requires reads { ReadsChecked order }
+    ensures { MatchResult result (λ text. Comes order input.now (Ok text.items))
+        (λ e. (e ≡ NoMemory) ⊎ Comes order input.now (Err e)) }
+{
+    let checked = check_document(rt, alloc, input)?;
+    print_checked(alloc, order, &checked)
+}
+
 /// The bytes that an order without workers prints for its input, or why there are none. An order that reads nothing has the empty input.
 pub(crate) fn answer_alone(
     rt: &(impl Threads + Sync),
@@ -208,14 +244,14 @@ pub(crate) fn answer_alone(
         Order::Run { .. } | Order::Resume { .. } | Order::Drill { .. } => {
             run_alone(rt, alloc, order, input)
         }
-        Order::Check => check(rt, alloc, input),
+        Order::Check | Order::Simulate | Order::Weave { .. } => {
+            answer_checked(rt, alloc, order, input)
+        }
         Order::Verify => verify(rt, alloc, input),
         Order::Migrate => migrate(alloc, input),
         Order::Make { budget } => make(alloc, input, budget),
         Order::Derive { most, budget } => derive(alloc, input, most, budget),
         Order::Repair { budget, rounds } => repair(alloc, input, budget, rounds),
-        Order::Simulate => simulate(rt, alloc, input),
         Order::Generate { seed, trains } => generate(alloc, seed, trains),
-        Order::Weave { seed, steps } => weave(rt, alloc, input, seed, steps),
     }
 }

@@ -1,19 +1,25 @@
 // Sections that are derived from rings.
-ghost use Rattle.std.specs.Prelude.{◌≡◌, ◌⊎◌, ◌≤◌, IfOk, IfErr, OnOk};
+ghost use Rattle.std.specs.Prelude.{◌≡◌, ◌⊎◌, ◌<◌, ◌≤◌, ◌^◌, ◌++◌, ◌∷◌, [], All, length, IfOk, IfErr, OnOk};
+ghost use Rattle.rail_model.specs.State.{Legal};
+ghost use Rattle.ring_sections.specs.Ring.{IsRing};
+ghost use Rattle.ring_sections.specs.Marking.{ring_table};
+ghost use Rattle.layout_json.specs.Doc.{IsDoc};
 ghost use Rattle.layout_json.specs.Keeps.{IsTaken};
 ghost use Rattle.accepted_documents.specs.Accepting.{IsDocWith};
 ghost use Rattle.ats_run.specs.Command.{RefusesDerive};
 ghost use Rattle.ats_run.specs.Deriving.{derived, derived_table, HasFewRings, HaveFewRings, HasTooManyRings, HasManyRings, IsDerived, FailsToDerive};
+ghost use Rattle.ats_run.specs.Making.{tables_in, table_in};
+ghost use Rattle.ats_run.specs.Starting.{IsBadStart};
 ghost use Rattle.ats_run.specs.declared.failure.Failure.TheVariants.{Memory as NoMemory};
 
 use crate::Failure;
 use crate::checked::read_document;
 use crate::make::{make_each, text_of_parts};
 use crate::starting::check_start;
-use layout_json::{Doc, Frame, tables_apart};
+use layout_json::{Frame, tables_apart};
 use rail_model::Table;
-use ring_sections::{Rings, mark_rings, rings};
-use std::alloc::Global;
+use ring_sections::{Ring, Rings, mark_rings, rings};
+use std::alloc::{AllocError, Global};
 
 /// The text of a document with the sections of its rings of at most `most` trains, and certificates made of them.
 pub fn derive(alloc: Global, input: &[u8], most: u32, budget: u32) -> Result<Vec<u8>, Failure>
@@ -26,43 +32,79 @@ pub fn derive(alloc: Global, input: &[u8], most: u32, budget: u32) -> Result<Vec
     ensures underived { IfErr result (λ e. (e ≡ NoMemory) ⊎ RefusesDerive input.now most budget e) }
 {
     let doc = read_document(alloc, input)?;
-    derive_document(alloc, doc, most, budget)
+    let (frame, tables) = tables_apart(alloc, doc)?;
+    derive_document(alloc, &frame, tables, most, budget)
 }
 
-// The text of a document with the sections of its rings, and certificates made of them.
-fn derive_document(alloc: Global, doc: Doc, most: u32, budget: u32) -> Result<Vec<u8>, Failure>
+// The text of a document that has these tables, with the sections of its rings, and certificates made of them.
+fn derive_document(
+    alloc: Global,
+    doc: &Frame,
+    tables: Vec<Table>,
+    most: u32,
+    budget: u32,
+) -> Result<Vec<u8>, Failure>
     requires least { 2 ≤ most }
     requires greatest { most ≤ 8 }
     requires some { 1 ≤ budget }
     requires enough { budget ≤ 1000000 }
-    requires taken { IsTaken doc }
-    ensures derived { IfOk result (λ text. IsDerived doc most budget text.items) }
+    requires taken { IsTaken doc.now }
+    requires tables { tables.items ≡ tables_in doc.now }
+    ensures derived { IfOk result (λ text. IsDerived doc.now most budget text.items) }
 
-    ensures underived { IfErr result (λ e. (e ≡ NoMemory) ⊎ FailsToDerive doc most budget e) }
+    ensures underived { IfErr result (λ e. (e ≡ NoMemory) ⊎ FailsToDerive doc.now most budget e) }
 {
-    let (frame, tables) = derive_all(alloc, doc, most)?;
-    check_start(&tables[0], frame.start())?;
-    let parts = make_each(alloc, tables, budget)?;
-    text_of_parts(alloc, &frame, &parts)
+    let marked = derive_all(alloc, doc, tables, most)?;
+    let parts = make_each(alloc, marked, budget)?;
+    text_of_parts(alloc, doc, &parts)
 }
 
-// Each table of a document with the sections of its rings; and the document without its tables.
-fn derive_all(alloc: Global, doc: Doc, most: u32) -> Result<(Frame, Vec<Table>), Failure>
+// Each of a document's tables with the sections of its rings, if the start is legal under the first of them.
+fn derive_all(
+    alloc: Global,
+    doc: &Frame,
+    tables: Vec<Table>,
+    most: u32,
+) -> Result<Vec<Table>, Failure>
     requires least { 2 ≤ most }
     requires greatest { most ≤ 8 }
-    ensures document { IfOk result (λ r. r.0 ≡ doc) }
-    ensures tables { IfOk result (λ r. r.1.items ≡ derived doc most) }
-    ensures few { OnOk result (HaveFewRings doc most) }
+    requires tables { tables.items ≡ tables_in doc.now }
+    ensures tables { IfOk result (λ marked. marked.items ≡ derived doc.now most) }
+    ensures few { OnOk result (HaveFewRings doc.now most) }
+    ensures start { OnOk result (Legal (table_in (derived doc.now most) 0) doc.now.start) }
+    ensures formed { IsDoc doc.now }
 
-    ensures many { IfErr result (λ e. (e ≡ NoMemory) ⊎ HasManyRings doc most e) }
+    ensures refused { IfErr result (λ e. (e ≡ NoMemory) ⊎ HasManyRings doc.now most e
+        ⊎ (HaveFewRings doc.now most × IsBadStart (table_in (derived doc.now most) 0) doc.now.start e)) }
 {
-    let (frame, tables) = tables_apart(alloc, doc)?;
+    let start = doc.start();
     let mut marked = Vec::new(alloc);
     for table in tables {
-        let number = marked.len() as u32;
-        marked.push(derive_one(alloc, number, table, most)?)?;
+        derive_next(alloc, &mut marked, table, most)?;
     }
-    Ok((frame, marked))
+    check_start(&marked[0], start)?;
+    Ok(marked)
+}
+
+// Adds the next table with the sections of its rings.
+fn derive_next(
+    alloc: Global,
+    marked: &mut Vec<Table>,
+    table: Table,
+    most: u32,
+) -> Result<(), Failure>
+    requires least { 2 ≤ most }
+    requires greatest { most ≤ 8 }
+    requires count { length marked.old.items < 2 ^ 32 }
+    ensures table { OnOk result (marked.new.items ≡ marked.old.items ++ derived_table most table ∷ []) }
+    ensures few { OnOk result (HasFewRings most table) }
+
+    ensures many { IfErr result (λ e. (e ≡ NoMemory) ⊎ HasTooManyRings most table (length marked.old.items) e) }
+{
+    let number = marked.len() as u32;
+    let derived = derive_one(alloc, number, table, most)?;
+    marked.push(derived)?;
+    Ok(())
 }
 
 // A table, which has this number, with the sections of its rings in place of its own.
@@ -74,13 +116,22 @@ fn derive_one(alloc: Global, number: u32, table: Table, most: u32) -> Result<Tab
 
     ensures many { IfErr result (λ e. (e ≡ NoMemory) ⊎ HasTooManyRings most table number e) }
 {
-    let (missions, _sections, connections) = table.into_parts();
-    match rings(alloc, &missions, most) {
-        Ok(rings) => Ok(mark_rings(alloc, missions, &rings)?.with_connections(connections)),
+    match rings(alloc, table.missions(), most) {
+        Ok(rings) => Ok(with_rings(alloc, table, &rings)?),
         Err(Rings::Many { count }) => Err(Failure::Many {
             table: number,
             count,
         }),
         Err(Rings::Memory) => Err(Failure::Memory),
     }
+}
+
+// A table with the sections of these rings in place of its own. The only error is that there is no memory.
+fn with_rings(alloc: Global, table: Table, rings: &[Ring]) -> Result<Table, AllocError>
+    requires few { length rings.now ≤ 64 }
+    requires rings { All (IsRing table.missions) rings.now }
+    ensures { IfOk result (λ T. T ≡ record (ring_table table.missions rings.now) { connections = table.connections }) }
+{
+    let (missions, _sections, connections) = table.into_parts();
+    Ok(mark_rings(alloc, missions, rings)?.with_connections(connections))
 }

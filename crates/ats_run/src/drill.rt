@@ -2,9 +2,10 @@
 ghost use Rattle.std.specs.Prelude.{◌≡◌, ◌⊎◌, ◌<◌, ◌≤◌, ℕ, length, IfOk, IfErr, string_bytes};
 ghost use Rattle.document_generator.specs.Generated.{generated};
 ghost use Rattle.rail_model.specs.Move.{Live};
-ghost use Rattle.layout_json.specs.Doc.{offers_of, table_at};
+ghost use Rattle.layout_json.specs.Doc.{IsDoc, offers_of, table_at};
 ghost use Rattle.ats_run.specs.Command.{RefusesMake, IsDrilledInput};
 ghost use Rattle.ats_run.specs.Generating.{drill_text, full_budget};
+ghost use Rattle.ats_run.specs.Making.{tables_in};
 ghost use Rattle.ats_run.specs.Tasks.{TaskLeads, PrintsCounts};
 ghost use Rattle.plain_yard.specs.Keeps.{Keeps};
 ghost use Rattle.ats_run.specs.declared.failure.Failure.TheVariants.{Memory as NoMemory};
@@ -13,14 +14,13 @@ use crate::Failure;
 use crate::check::nodes;
 use crate::generate::{FULL_BUDGET, generated_document};
 use crate::make::make_all;
-use crate::tasks::Task;
+use crate::tasks::{Task, task_at_start};
 use accepted_documents::Checked;
 use cert_checker::Accepted;
 use cert_tree::Cert;
-use layout_json::{Doc, tables_apart};
+use layout_json::{Doc, Frame, tables_apart};
 use move_journal::Journal;
-use plain_yard::begin;
-use rail_model::PlainState;
+use rail_model::{PlainState, Table};
 use std::alloc::{AllocError, Global};
 
 /// The run of a generated document, at its start.
@@ -33,8 +33,7 @@ pub(crate) fn begin_drill(alloc: Global, seed: u32, trains: u32) -> Result<Task,
     let doc = generated_document(alloc, seed, trains)?;
     let certs = make_all(alloc, &doc, FULL_BUDGET)?;
     let checked = with_live_tables(alloc, doc, certs)?;
-    let from = begin(alloc, checked.doc.start())?;
-    Ok(Task::Goes { checked, from })
+    Ok(task_at_start(alloc, checked)?)
 }
 
 // A document, each of whose tables is live, with these certificates. The only error is that there is no memory.
@@ -45,16 +44,28 @@ fn with_live_tables(alloc: Global, doc: Doc, certs: Vec<Cert>) -> Result<Checked
     ensures offers { IfOk result (λ c. c.tables.items ≡ offers_of c.doc) }
 {
     let (frame, apart) = tables_apart(alloc, doc)?;
-    let mut tables = Vec::new(alloc);
-    for table in apart {
-        let after = frame.after(tables.len() as u32);
-        tables.push(Accepted::live(table, after))?;
-    }
+    let tables = live_tables(alloc, &frame, apart)?;
     Ok(Checked {
         doc: frame,
         certs,
         tables,
     })
+}
+
+// These tables of a document, each of which is live, with the moves after which it is due. The only error is that there
+// is no memory.
+fn live_tables(alloc: Global, doc: &Frame, apart: Vec<Table>) -> Result<Vec<Accepted>, AllocError>
+    requires formed { IsDoc doc.now }
+    requires tables { apart.items ≡ tables_in doc.now }
+    requires live { (t : ℕ) → t < length doc.now.tables → Live (table_at doc.now t) }
+    ensures { IfOk result (λ tables. tables.items ≡ offers_of doc.now) }
+{
+    let mut tables = Vec::new(alloc);
+    for table in apart {
+        let after = doc.after(tables.len() as u32);
+        tables.push(Accepted::live(table, after))?;
+    }
+    Ok(tables)
 }
 
 /// The line that counts a run of a document.

@@ -1,5 +1,5 @@
 // Certificates that are made anew.
-ghost use Rattle.std.specs.Prelude.{◌≡◌, ◌⊎◌, ◌<◌, ◌≤◌, List, length, Ok, IfOk, IfErr};
+ghost use Rattle.std.specs.Prelude.{◌≡◌, ◌⊎◌, ◌<◌, ◌≤◌, ◌^◌, ◌++◌, ◌∷◌, [], List, length, Ok, IfOk, IfErr, OnOk};
 ghost use Rattle.rail_model.specs.Certificate.{Tree, Accepts};
 ghost use Rattle.cert_maker.specs.Rule.{Makes};
 ghost use Rattle.cert_maker.specs.declared.made.Made.TheVariants.{Cert as cert};
@@ -97,10 +97,30 @@ pub fn make_each(
 {
     let mut parts = Vec::new(alloc);
     for table in tables {
-        let cert = make_one(alloc, &table, parts.len() as u32, budget)?;
-        parts.push((table, cert))?;
+        make_next(alloc, &mut parts, table, budget)?;
     }
     Ok(parts)
+}
+
+// Adds the next table with its certificate.
+fn make_next(
+    alloc: Global,
+    parts: &mut Vec<(Table, Cert)>,
+    table: Table,
+    budget: u32,
+) -> Result<(), Failure>
+    requires some { 1 ≤ budget }
+    requires most { budget ≤ 1000000 }
+    requires count { length parts.old.items < 2 ^ 32 }
+    ensures part { OnOk result ((tree : Tree) × (parts.new.items ≡ parts.old.items ++ (table, tree) ∷ [])
+        × Makes table budget (cert tree) × Accepts table tree) }
+
+    ensures none { IfErr result (λ e. (e ≡ NoMemory) ⊎ MakesNone table (length parts.old.items) budget e) }
+{
+    let number = parts.len() as u32;
+    let cert = make_one(alloc, &table, number, budget)?;
+    parts.push((table, cert))?;
+    Ok(())
 }
 
 /// The text of a document with these tables and certificates in place of its own.

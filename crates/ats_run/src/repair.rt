@@ -1,11 +1,12 @@
 // Sections that are made by repairs.
-ghost use Rattle.std.specs.Prelude.{◌≡◌, ◌⊎◌, ◌<◌, ◌≤◌, ℕ, length, IfOk, IfErr, OnOk};
-ghost use Rattle.rail_model.specs.State.{Legal};
-ghost use Rattle.layout_json.specs.Doc.{table_at};
+ghost use Rattle.std.specs.Prelude.{◌≡◌, ◌⊎◌, ◌+◌, ◌<◌, ◌≤◌, ℕ, length, IfOk, IfErr, OnOk};
+ghost use Rattle.layout_json.specs.Doc.{IsDoc, table_at};
+ghost use Rattle.layout_json.specs.Keeps.{IsTaken};
 ghost use Rattle.section_repair.specs.Claims.{DoomsAlike};
 ghost use Rattle.section_repair.specs.declared.repaired.Repair.TheVariants.{Done};
 ghost use Rattle.accepted_documents.specs.Accepting.{IsDocWith};
 ghost use Rattle.ats_run.specs.Command.{RefusesRepair};
+ghost use Rattle.ats_run.specs.Making.{tables_in};
 ghost use Rattle.ats_run.specs.Repairing.{IsRepairedAs, RepairsNone, AreRepaired, IsUnconnected, IsRepaired, FailsToRepair, HasConnection, IsRefusedStart};
 ghost use Rattle.ats_run.specs.declared.failure.Failure.TheVariants.{Memory as NoMemory};
 
@@ -30,8 +31,8 @@ pub fn repair(alloc: Global, input: &[u8], budget: u32, rounds: u32) -> Result<V
 {
     let doc = read_document(alloc, input)?;
     check_connections(&doc)?;
-    let (frame, parts) = repair_all(alloc, doc, budget, rounds)?;
-    text_of_parts(alloc, &frame, &parts)
+    let (frame, tables) = tables_apart(alloc, doc)?;
+    repair_document(alloc, &frame, tables, budget, rounds)
 }
 
 // Refuses the first table with a connection.
@@ -48,56 +49,57 @@ fn check_connections(doc: &Doc) -> Result<(), Failure>
     Ok(())
 }
 
-// Each table of a document with the sections that its repair makes, and its certificate; and the document without its
-// tables.
-fn repair_all(
-    alloc: Global,
-    doc: Doc,
-    budget: u32,
-    rounds: u32,
-) -> Result<(Frame, Vec<(Table, Cert)>), Failure>
-    requires some { 1 ≤ budget }
-    requires most { budget ≤ 1000000 }
-    requires unconnected { IsUnconnected doc (length doc.tables) }
-    ensures document { IfOk result (λ r. r.0 ≡ doc) }
-    ensures repaired { IfOk result (λ r. AreRepaired doc budget rounds (length doc.tables) r.1.items) }
-
-    ensures unrepaired { IfErr result (λ e. (e ≡ NoMemory) ⊎ FailsToRepair doc budget rounds e) }
-{
-    let (frame, tables) = tables_apart(alloc, doc)?;
-    let mut parts = Vec::new(alloc);
-    for table in tables {
-        let number = parts.len() as u32;
-        parts.push(repair_at(alloc, &frame, number, table, budget, rounds)?)?;
-    }
-    Ok((frame, parts))
-}
-
-// One table of a document so, which has this number. Where it is the first, the start is judged under its new sections.
-fn repair_at(
+// The text of a document that has these tables, with the sections that their repairs make, and their certificates.
+fn repair_document(
     alloc: Global,
     doc: &Frame,
-    number: u32,
+    tables: Vec<Table>,
+    budget: u32,
+    rounds: u32,
+) -> Result<Vec<u8>, Failure>
+    requires some { 1 ≤ budget }
+    requires most { budget ≤ 1000000 }
+    requires formed { IsDoc doc.now }
+    requires taken { IsTaken doc.now }
+    requires tables { tables.items ≡ tables_in doc.now }
+    requires unconnected { IsUnconnected doc.now (length doc.now.tables) }
+    ensures repaired { IfOk result (λ text. IsRepaired doc.now budget rounds text.items) }
+
+    ensures unrepaired { IfErr result (λ e. (e ≡ NoMemory) ⊎ FailsToRepair doc.now budget rounds e) }
+{
+    let mut parts = Vec::new(alloc);
+    for table in tables {
+        repair_next(alloc, doc, &mut parts, table, budget, rounds)?;
+    }
+    text_of_parts(alloc, doc, &parts)
+}
+
+// Adds the next table of a document so. If it is the first, the start is judged under its new sections.
+fn repair_next(
+    alloc: Global,
+    doc: &Frame,
+    parts: &mut Vec<(Table, Cert)>,
     table: Table,
     budget: u32,
     rounds: u32,
-) -> Result<(Table, Cert), Failure>
+) -> Result<(), Failure>
     requires some { 1 ≤ budget }
     requires most { budget ≤ 1000000 }
-    requires number { number < length doc.now.tables }
-    requires table { table ≡ table_at doc.now number }
-    ensures repaired { IfOk result (λ p. IsRepairedAs (table_at doc.now number) budget rounds p.0 p.1) }
-    ensures start { IfOk result (λ p. number ≡ 0 → Legal p.0 doc.now.start) }
+    requires formed { IsDoc doc.now }
+    requires number { length parts.old.items < length doc.now.tables }
+    requires table { table ≡ table_at doc.now (length parts.old.items) }
+    requires earlier { AreRepaired doc.now budget rounds (length parts.old.items) parts.old.items }
+    ensures repaired { OnOk result (AreRepaired doc.now budget rounds (length parts.old.items + 1) parts.new.items) }
 
-    ensures unrepaired { IfErr result (λ e. (e ≡ NoMemory) ⊎ RepairsNone (table_at doc.now number) number budget rounds e
-        ⊎ ((number ≡ 0) × IsRefusedStart (table_at doc.now number) doc.now.start budget rounds e)) }
+    ensures unrepaired { IfErr result (λ e. (e ≡ NoMemory) ⊎ RepairsNone table (length parts.old.items) budget rounds e
+        ⊎ ((length parts.old.items ≡ 0) × IsRefusedStart table doc.now.start budget rounds e)) }
 {
-    let part = repair_one(alloc, doc.layout(), number, table, budget, rounds)?;
+    let number = parts.len() as u32;
+    parts.push(repair_one(alloc, doc.layout(), number, table, budget, rounds)?)?;
     if number > 0 {
-        return Ok(part);
+        return Ok(());
     }
-    check_start(&part.0, doc.start())?;
-    Ok(part)
+    check_start(&parts[0].0, doc.start())
 }
 
 // The missions of a table, that has this number, with the sections that a repair makes, and the certificate.

@@ -12,11 +12,11 @@ ghost use Rattle.ats_run.specs.declared.failure.Failure.TheVariants.{Memory as N
 
 use crate::Failure;
 use crate::checked::check_document;
-use crate::tasks::Task;
+use crate::tasks::{Task, task_at_start};
 use cert_checker::Accepted;
 use layout_json::Frame;
 use move_journal::{Journal, text};
-use plain_yard::{PlainYard, begin};
+use plain_yard::PlainYard;
 use rail_model::PlainState;
 use std::alloc::{AllocError, Global};
 use std::thread::Threads;
@@ -32,8 +32,7 @@ pub(crate) fn begin_run(
     ensures unchecked { IfErr result (λ e. (e ≡ NoMemory) ⊎ RefusesCheck input.now e) }
 {
     let checked = check_document(rt, alloc, input)?;
-    let from = begin(alloc, checked.doc.start())?;
-    Ok(Task::Goes { checked, from })
+    Ok(task_at_start(alloc, checked)?)
 }
 
 /// The state and the lines in which the round robin from a state of a document's run ends.

@@ -1,46 +1,35 @@
 // The run of a document by its travel times, as text.
-ghost use Rattle.std.specs.Prelude.{◌≡◌, ◌⊎◌, ◌-◌, ◌++◌, [], All, List, length, IfOk, IfErr, OnOk, string_bytes};
-ghost use Rattle.rail_model.specs.Certificate.{Tree};
+ghost use Rattle.std.specs.Prelude.{◌≡◌, ◌-◌, ◌++◌, [], All, length, IfOk, IfErr, OnOk, string_bytes};
 ghost use Rattle.rail_model.specs.Journal.{IsDone, with_counts};
 ghost use Rattle.rail_model.specs.Yard.{opening};
 ghost use Rattle.plain_yard.specs.Keeps.{Keeps};
 ghost use Rattle.move_journal.specs.Printable.{IsNamed};
 ghost use Rattle.train_sim.specs.Report.{Simulates, IsSoon};
 ghost use Rattle.layout_json.specs.Doc.{IsDoc, offers_of, times_of, names_of};
-ghost use Rattle.accepted_documents.specs.Accepting.{AreAccepted, IsDocWith};
-ghost use Rattle.ats_run.specs.Command.{RefusesCheck};
+ghost use Rattle.accepted_documents.specs.Accepting.{AreAccepted};
 ghost use Rattle.ats_run.specs.Simulating.{IsSimulated, timed_text, last_text};
 ghost use Rattle.ats_run.specs.declared.failure.Failure.TheVariants.{Memory as NoMemory};
 
 use crate::Failure;
-use crate::checked::check_document;
+use accepted_documents::Checked;
 use cert_checker::Accepted;
 use layout_json::Frame;
 use move_journal::{Journal, push_line};
 use plain_yard::{PlainYard, begin};
 use rail_model::{Line, Names};
 use std::alloc::{AllocError, Global};
-use std::thread::Threads;
 use train_sim::{SimReport, simulate as simulate_yard};
 
-/// The timed journal of a document's run, with the tick of its last move.
-pub fn simulate(rt: &(impl Threads + Sync), alloc: Global, input: &[u8]) -> Result<Vec<u8>, Failure>
-    ensures simulated { IfOk result (λ text. IsDocWith input.now (λ D. IsSimulated D text.items)) }
+/// The timed journal of a document's run, with the tick of its last move. The only error is that there is no memory.
+pub fn simulate(alloc: Global, checked: &Checked) -> Result<Vec<u8>, Failure>
+    requires tables { checked.now.tables.items ≡ offers_of checked.now.doc }
+    requires accepted { AreAccepted checked.now.doc checked.now.certs.items }
+    ensures simulated { IfOk result (λ text. IsSimulated checked.now.doc text.items) }
 
-    ensures unchecked { IfErr result (λ e. (e ≡ NoMemory) ⊎ RefusesCheck input.now e) }
+    ensures memory { IfErr result (λ e. e ≡ NoMemory) }
 {
-    let checked = check_document(rt, alloc, input)?;
-    let text = simulate_checked(alloc, &checked.doc, &checked.tables)?;
-    Ok(text)
-}
-
-// The timed journal of a document under its tables, each of which accepts its certificate.
-fn simulate_checked(alloc: Global, doc: &Frame, tables: &[Accepted]) -> Result<Vec<u8>, AllocError>
-    requires { tables.now ≡ offers_of doc.now }
-    ensures simulated { IfOk result (λ text. (trees : List Tree) → AreAccepted doc.now trees → IsSimulated doc.now text.items) }
-{
-    let report = report_of(alloc, doc, tables)?;
-    text_of_report(alloc, doc, report)
+    let report = report_of(alloc, &checked.doc, &checked.tables)?;
+    Ok(text_of_report(alloc, &checked.doc, report)?)
 }
 
 // What the simulation of a document reports.
@@ -55,10 +44,10 @@ fn report_of(alloc: Global, doc: &Frame, tables: &[Accepted]) -> Result<SimRepor
     ensures one_each { IfOk result (λ r. length r.ticks.items ≡ length r.state.lines) }
 {
     let yard = begin_run(alloc, doc, tables)?;
-    let Ok(report) = simulate_yard(alloc, yard, doc.times()) else {
-        return Err(AllocError);
-    };
-    Ok(report)
+    match simulate_yard(alloc, yard, doc.times()) {
+        Ok(report) => Ok(report),
+        Err(_) => Err(AllocError),
+    }
 }
 
 // The yard at a document's start.
@@ -73,10 +62,10 @@ fn begin_run<'a>(
         ≡ record { tables = offers_of doc.now; yard = opening doc.now.start; lines = []; room = run.room }) }
 {
     let begun = begin(alloc, doc.start())?;
-    let Ok(yard) = PlainYard::new(tables, begun) else {
-        return Err(AllocError);
-    };
-    Ok(yard)
+    match PlainYard::new(tables, begun) {
+        Ok(yard) => Ok(yard),
+        Err(_) => Err(AllocError),
+    }
 }
 
 // The text of a report.

@@ -1,63 +1,39 @@
 // A run that begins with drawn turns of its trains and its control, as text.
 ghost use Rattle.std.specs.Prelude.{◌≡◌, ◌⊎◌, ◌≤◌, ◌++◌, [], ℕ, List, IfOk, IfErr};
-ghost use Rattle.rail_model.specs.Certificate.{Tree};
 ghost use Rattle.rail_model.specs.Yard.{opening, IsHistory};
 ghost use Rattle.zone_machine.specs.Sound.{Sound};
 ghost use Rattle.zone_machine.specs.Weave.{plain_of};
 ghost use Rattle.document_generator.specs.Draws.{drawn_of};
 ghost use Rattle.layout_json.specs.Doc.{IsDoc, offers_of};
-ghost use Rattle.accepted_documents.specs.Accepting.{AreAccepted, IsDocWith};
-ghost use Rattle.ats_run.specs.Command.{RefusesCheck};
+ghost use Rattle.accepted_documents.specs.Accepting.{AreAccepted};
 ghost use Rattle.ats_run.specs.Headline.{IsRun};
 ghost use Rattle.ats_run.specs.Weaving.{IsWoven, after_turn, core_of, drawn_actor as actor_of_draw, drawn_world, woven};
 ghost use Rattle.ats_run.specs.declared.failure.Failure.TheVariants.{Memory as NoMemory};
 
 use crate::Failure;
-use crate::checked::check_document;
 use crate::run::{finish_from, text_of_run};
+use accepted_documents::Checked;
 use cert_checker::Accepted;
 use document_generator::Draws;
 use layout_json::Frame;
 use rail_model::{HasTable, PlainState, trains_of};
 use std::alloc::{AllocError, Global};
-use std::thread::Threads;
 use zone_machine::{CONTROL, Core};
 
-/// The text of the journal of a document's run that begins with this number of drawn turns.
-pub fn weave(
-    rt: &(impl Threads + Sync),
-    alloc: Global,
-    input: &[u8],
-    seed: u32,
-    turns: u32,
-) -> Result<Vec<u8>, Failure>
-    requires { turns ≤ 1000000 }
-    ensures woven { IfOk result (λ text. IsDocWith input.now (λ D.
-        (run : IsRun D text.items) × IsWoven D seed turns run.journal.lines)) }
-
-    ensures unchecked { IfErr result (λ e. (e ≡ NoMemory) ⊎ RefusesCheck input.now e) }
-{
-    let checked = check_document(rt, alloc, input)?;
-    let text = weave_checked(alloc, &checked.doc, &checked.tables, seed, turns)?;
-    Ok(text)
-}
-
-// The same of a document under its tables, each of which accepts its certificate.
-fn weave_checked(
-    alloc: Global,
-    doc: &Frame,
-    tables: &[Accepted],
-    seed: u32,
-    turns: u32,
-) -> Result<Vec<u8>, AllocError>
-    requires tables { tables.now ≡ offers_of doc.now }
+/// The text of the journal of a document's run that begins with this number of drawn turns. The only error is that there
+/// is no memory.
+pub fn weave(alloc: Global, checked: &Checked, seed: u32, turns: u32) -> Result<Vec<u8>, Failure>
+    requires tables { checked.now.tables.items ≡ offers_of checked.now.doc }
+    requires accepted { AreAccepted checked.now.doc checked.now.certs.items }
     requires few { turns ≤ 1000000 }
-    ensures woven { IfOk result (λ text. (trees : List Tree) → AreAccepted doc.now trees
-        → (run : IsRun doc.now text.items) × IsWoven doc.now seed turns run.journal.lines) }
+    ensures woven { IfOk result (λ text. (run : IsRun checked.now.doc text.items)
+        × IsWoven checked.now.doc seed turns run.journal.lines) }
+
+    ensures memory { IfErr result (λ e. e ≡ NoMemory) }
 {
-    let state = state_after(alloc, doc, tables, seed, turns)?;
-    let end = finish_from(doc, tables, state)?;
-    text_of_run(alloc, doc, end)
+    let state = state_after(alloc, &checked.doc, &checked.tables, seed, turns)?;
+    let end = finish_from(&checked.doc, &checked.tables, state)?;
+    Ok(text_of_run(alloc, &checked.doc, end)?)
 }
 
 // The state and the lines after the drawn turns.

@@ -9,7 +9,7 @@ abbrev pub invariant-loop-table : goal.invariant-loop-table
 invariant-loop-table l =
     (goal.iterator-loop-table).can_next l.table-iterator
     × (goal.iterator-loop-table).is_finite l.table-iterator
-    × (tables_in l.fn.doc ≡ l.yielded ++ into_iter_items l.table-iterator)
+    × (tables_in l.doc ≡ l.yielded ++ into_iter_items l.table-iterator)
     × (length l.marked.items ≡ length l.yielded)
-    × (l.marked.items ≡ take (length l.yielded) (derived l.fn.doc l.most))
-    × ((u : ℕ) → u < length l.yielded → HasFewRings l.most (table_at l.fn.doc u))
+    × (l.marked.items ≡ take (length l.yielded) (derived l.doc l.most))
+    × ((u : ℕ) → u < length l.yielded → HasFewRings l.most (table_at l.doc u))

@@ -1,53 +1,49 @@
-use Rattle.std.proofs.Common.{◌≡◌, ◌⊎◌, ◌∙◌, sym, ap, subst, inl, inr}
-use Rattle.std.specs.Prelude.{IfErr, Ok}
-use Rattle.std.proofs.lemmas.Result.{err_from_is_err_and}
-use Rattle.rail_model.specs.State.{Legal}
-use Rattle.layout_json.specs.Doc.{Doc, IsDoc}
-use Rattle.layout_json.specs.Keeps.{IsTaken}
-use Rattle.layout_json.specs.Replaced.{replaced}
-use Rattle.layout_json.specs.Written.{written}
+use Rattle.std.proofs.Common.{◌≡◌, ◌⊎◌, ◌≤◌, List, length, sym, subst, inl, inr}
+use Rattle.rail_model.specs.Table.{Table}
+use Rattle.layout_json.proofs.Refusals.{refused-so}
 use Rattle.ats_run.specs.Deriving.{FailsToDerive}
-use Rattle.ats_run.specs.Starting.{IsBadStart}
-use Rattle.ats_run.specs.declared.failure.Failure.{Failure}
+use Rattle.ats_run.specs.Making.{FailsToMake}
 use Rattle.ats_run.specs.declared.failure.Failure.TheVariants.{Memory as NoMemory}
 use Rattle.ats_run.proofs.AcceptedText.{on_both}
-use Rattle.ats_run.proofs.Derived.{of_first, still_taken, derived_is}
+use Rattle.ats_run.proofs.Derived.{few_tables, still_taken, derived_is}
 use Rattle.ats_run.proofs.derive.derive_document.Goals as goal
 
-pub returns-in_err-check_start-clause-underived : goal.returns-in_err-check_start-clause-underived
-returns-in_err-check_start-clause-underived c =
-    let D = c.args.doc in
-    let same = c.in_ok-frame.ensures.document in
-    let e = c.in_err-check_start.field-0.0 in
-    let bad =
-    of_first D c.args.most (λ T p. IsBadStart T p e) c.in_ok-frame.tables.items c.index.result.now c.start.result.now (subst IsDoc same c.start.ensures.formed)
-    c.in_ok-frame.ensures.tables c.index.ensures (c.start.ensures.start ∙ ap (λ (E : Doc). E.start) same) c.in_err-check_start.ensures.bad in
-    let got = err_from_is_err_and c.from_residual-in_err-check_start.result c.from_residual-in_err-check_start.ensures.1 in
-    subst (λ r. IfErr r (λ e. (e ≡ NoMemory) ⊎ FailsToDerive D c.args.most c.args.budget e)) (sym got.1)
-    (subst (λ (e : Failure). (e ≡ NoMemory) ⊎ FailsToDerive D c.args.most c.args.budget e) (sym got.2) (inr (inr (inl (c.in_ok-frame.ensures.few, bad)))))
+pub make_each-requires-clause-few : goal.make_each-requires-clause-few
+make_each-requires-clause-few c =
+    subst (λ (tables : List Table). length tables ≤ 16) (sym c.in_ok-marked.ensures.tables) (few_tables c.args.doc.now c.args.most c.derive_all.ensures.formed)
+
+pub returns-in_err-marked-clause-underived : goal.returns-in_err-marked-clause-underived
+returns-in_err-marked-clause-underived c =
+    refused-so (λ e. (e ≡ NoMemory) ⊎ FailsToDerive c.args.doc.now c.args.most c.args.budget e) c.from_residual.result
+    c.in_err-marked.field-0.0 c.from_residual.ensures.1
+    (elim c.in_err-marked.ensures.refused [ inl memory ↦ inl memory | inr (inl many) ↦ inr (inl many) | inr (inr bad) ↦ inr (inr (inl bad)) ])
+
+pub returns-in_err-parts-clause-underived : goal.returns-in_err-parts-clause-underived
+returns-in_err-parts-clause-underived c =
+    let marked = c.in_ok-marked.ensures in
+    let e = c.in_err-parts.field-0.0 in
+    refused-so (λ e. (e ≡ NoMemory) ⊎ FailsToDerive c.args.doc.now c.args.most c.args.budget e) c.from_residual-in_err-parts.result
+    e c.from_residual-in_err-parts.ensures.1
+    (elim c.in_err-parts.ensures.unmade [
+      | inl memory ↦ inl memory
+      | inr none ↦ inr (inr (inr (
+        marked.few,
+        marked.start,
+        subst (λ (tables : List Table). FailsToMake tables c.args.budget e) marked.tables none,
+      )))
+    ])
 
 pub text_of_parts-requires-clause-taken : goal.text_of_parts-requires-clause-taken
 text_of_parts-requires-clause-taken c =
-    let D = c.args.doc in
-    let same = c.in_ok-frame.ensures.document in
-    let formed = subst IsDoc same c.start.ensures.formed in
-    let start =
-    of_first D c.args.most Legal c.in_ok-frame.tables.items c.index.result.now c.start.result.now formed c.in_ok-frame.ensures.tables c.index.ensures
-    (c.start.ensures.start ∙ ap (λ (E : Doc). E.start) same) c.in_ok-check_start.ensures.legal in
-    subst (λ (E : Doc). IsTaken (replaced E c.deref.result.now)) (sym same)
-    (still_taken D c.args.most c.args.budget c.in_ok-frame.tables.items c.in_ok-parts.parts.items c.deref.result.now formed c.requires.taken
-    c.in_ok-frame.ensures.few start c.in_ok-frame.ensures.tables c.in_ok-parts.ensures.made c.deref.ensures.value)
+    let marked = c.in_ok-marked.ensures in
+    still_taken c.args.doc.now c.args.most c.args.budget c.in_ok-marked.marked.items c.in_ok-parts.parts.items c.deref.result.now
+    c.derive_all.ensures.formed c.requires.taken marked.few marked.start marked.tables c.in_ok-parts.ensures.made c.deref.ensures.value
 
 pub returns-clause-derived : goal.returns-clause-derived
 returns-clause-derived c =
-    let D = c.args.doc in
-    let same = c.in_ok-frame.ensures.document in
-    let start =
-    of_first D c.args.most Legal c.in_ok-frame.tables.items c.index.result.now c.start.result.now (subst IsDoc same c.start.ensures.formed)
-    c.in_ok-frame.ensures.tables c.index.ensures (c.start.ensures.start ∙ ap (λ (E : Doc). E.start) same) c.in_ok-check_start.ensures.legal in
+    let marked = c.in_ok-marked.ensures in
     on_both c.text_of_parts.result _ _ _
     (λ text printed reads.
-    derived_is D c.args.most c.args.budget c.in_ok-frame.tables.items c.in_ok-parts.parts.items c.deref.result.now text.items c.requires.enough
-    c.in_ok-frame.ensures.few start c.in_ok-frame.ensures.tables c.in_ok-parts.ensures.made c.deref.ensures.value
-    (printed ∙ ap (λ (E : Doc). written (replaced E c.deref.result.now)) same) (reads ∙ ap (λ (E : Doc). Ok (replaced E c.deref.result.now)) same))
+    derived_is c.args.doc.now c.args.most c.args.budget c.in_ok-marked.marked.items c.in_ok-parts.parts.items c.deref.result.now text.items c.requires.enough
+    marked.few marked.start marked.tables c.in_ok-parts.ensures.made c.deref.ensures.value printed reads)
     c.text_of_parts.ensures.printed c.text_of_parts.ensures.reads

@@ -1,40 +1,36 @@
-use Rattle.std.proofs.Common.{List, subst, sym, ap, ◌∙◌}
+use Rattle.std.proofs.Common.{◌≡◌, ◌∙◌, ap, length, sym, subst, inl, inr}
 use Rattle.std.specs.Prelude.{Ok}
-use Rattle.rail_model.specs.Table.{Table}
-use Rattle.rail_model.specs.Certificate.{Tree}
-use Rattle.layout_json.specs.Doc.{Doc}
+use Rattle.std.proofs.lemmas.Result.{IfOk-weaker, IfErr-weaker}
+use Rattle.layout_json.specs.Doc.{Doc, IsDoc}
 use Rattle.layout_json.specs.Keeps.{IsTaken}
-use Rattle.layout_json.specs.Replaced.{replaced}
-use Rattle.layout_json.specs.Written.{written}
+use Rattle.layout_json.specs.Reading.{doc_of}
 use Rattle.layout_json.proofs.FormedDoc.{read-is-formed}
-use Rattle.ats_run.proofs.AcceptedText.{on_both}
-use Rattle.ats_run.proofs.Repaired.{repaired_taken, repaired_is, unrepaired_input}
+use Rattle.ats_run.specs.Making.{tables_in}
+use Rattle.ats_run.specs.Repairing.{IsUnconnected}
 use Rattle.ats_run.proofs.repair.repair.Goals as goal
 
-pub returns-in_err-frame-clause-unrepaired : goal.returns-in_err-frame-clause-unrepaired
-returns-in_err-frame-clause-unrepaired c =
-    unrepaired_input c.args.input.now c.in_ok-doc.doc c.args.budget c.args.rounds c.from_residual-in_err-frame.result c.in_err-frame.field-0.0
-    c.in_ok-doc.ensures.document c.in_err-frame.ensures.unrepaired c.from_residual-in_err-frame.ensures.1
+pub repair_document-requires-clause-formed : goal.repair_document-requires-clause-formed
+repair_document-requires-clause-formed c = subst IsDoc (sym c.in_ok-frame.ensures.frame) c.in_ok-frame.ensures.formed
 
-pub text_of_parts-requires-clause-taken : goal.text_of_parts-requires-clause-taken
-text_of_parts-requires-clause-taken c =
-    let D = c.in_ok-doc.doc in
-    let formed = read-is-formed c.args.input.now D c.in_ok-doc.ensures.document in
-    subst (λ (E : Doc). IsTaken (replaced E c.deref.result.now)) (sym c.in_ok-frame.ensures.document)
-    (subst (λ (parts : List (Table × Tree)). IsTaken (replaced D parts)) (sym c.deref.ensures.value)
-    (repaired_taken D c.args.budget c.args.rounds c.in_ok-frame.parts.items formed.is formed.taken c.in_ok-check_connections.ensures.unconnected
-    c.in_ok-frame.ensures.repaired))
+pub repair_document-requires-clause-taken : goal.repair_document-requires-clause-taken
+repair_document-requires-clause-taken c =
+    subst IsTaken (sym c.in_ok-frame.ensures.frame) (read-is-formed c.args.input.now c.in_ok-doc.doc c.in_ok-doc.ensures.document).taken
+
+pub repair_document-requires-clause-tables : goal.repair_document-requires-clause-tables
+repair_document-requires-clause-tables c = c.in_ok-frame.ensures.tables ∙ ap tables_in (sym c.in_ok-frame.ensures.frame)
+
+pub repair_document-requires-clause-unconnected : goal.repair_document-requires-clause-unconnected
+repair_document-requires-clause-unconnected c =
+    subst (λ (D : Doc). IsUnconnected D (length D.tables)) (sym c.in_ok-frame.ensures.frame) c.in_ok-check_connections.ensures.unconnected
 
 pub returns-clause-repaired : goal.returns-clause-repaired
 returns-clause-repaired c =
-    let D = c.in_ok-doc.doc in
-    let same = c.in_ok-frame.ensures.document in
-    on_both c.text_of_parts.result _ _ _
-    (λ text printed reads. (
-      D,
-      c.in_ok-doc.ensures.document,
-      repaired_is D c.args.budget c.args.rounds c.in_ok-frame.parts.items c.deref.result.now text.items c.requires.most
-          c.in_ok-check_connections.ensures.unconnected c.in_ok-frame.ensures.repaired c.deref.ensures.value
-          (printed ∙ ap (λ (E : Doc). written (replaced E c.deref.result.now)) same) (reads ∙ ap (λ (E : Doc). Ok (replaced E c.deref.result.now)) same),
-    ))
-    c.text_of_parts.ensures.printed c.text_of_parts.ensures.reads
+    let read = subst (λ (D : Doc). doc_of c.args.input.now ≡ Ok D) (sym c.in_ok-frame.ensures.frame) c.in_ok-doc.ensures.document in
+    IfOk-weaker c.repair_document.result _ _ (λ text h. (c.in_ok-frame.frame, read, h)) c.repair_document.ensures.repaired
+
+pub returns-clause-unrepaired : goal.returns-clause-unrepaired
+returns-clause-unrepaired c =
+    let read = subst (λ (D : Doc). doc_of c.args.input.now ≡ Ok D) (sym c.in_ok-frame.ensures.frame) c.in_ok-doc.ensures.document in
+    IfErr-weaker c.repair_document.result _ _
+    (λ e h. elim h [ inl memory ↦ inl memory | inr fails ↦ inr (inr (c.in_ok-frame.frame, read, fails)) ])
+    c.repair_document.ensures.unrepaired

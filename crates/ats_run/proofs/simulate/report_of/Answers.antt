@@ -13,8 +13,8 @@ simulate-requires c =
     (subst (λ (tables : List Offer). HaveTimes tables (times_of D)) (sym (ap (λ (run : PlainRun). run.tables) c.in_ok-yard.ensures.run))
     (have_times D c.times.ensures.formed))
 
-pub returns-clause-soon : goal.returns-clause-soon
-returns-clause-soon c =
+pub returns-in-Ok-clause-soon : goal.returns-in-Ok-clause-soon
+returns-in-Ok-clause-soon c =
     let moves = c.in-Ok.report.state.yard.moves in
     let tick = c.in-Ok.report.last_tick in
     let tables = offers_of c.args.doc.now in
