@@ -18,37 +18,39 @@ use Rattle.order_sections.specs.Orders.{with_more}
 use Rattle.document_orders.specs.Ordered.{KeepsTree, new_tree}
 use Rattle.document_orders.proofs.Offering.{listed_there, new_there}
 use Rattle.document_orders.proofs.Taking.{is_taken}
-use Rattle.run_orders.specs.RunOrdered.{IsOrderedByRun}
+use Rattle.run_orders.specs.RunOrdered.{HaveMore, IsOrderedByRun}
 
--- Tables with more sections were made of those of a document, and come with certificates.
-pub record AreMade (E : Doc) (tables made : List Table) (parts : List (Table × Tree)) : Type 0 where
-  pub tables_are : tables ≡ map (λ t. t.table) E.tables
-  pub count : length made ≡ length tables
-  pub formed : (t : ℕ) → t < length tables → IsTable (table_at made t)
-  pub more : (t : ℕ) → t < length tables → (more : List Section) × (table_at made t ≡ with_more (table_at tables t) more)
-  pub parts_are : map (λ p. p.0) parts ≡ made
+-- tables with more sections than those of the document, which were taken out of it
+pub have_more : (E : Doc) (tables made : List Table) → tables ≡ map (λ t. t.table) E.tables → length made ≡ length tables
+    → ((t : ℕ) → t < length tables → IsTable (table_at made t))
+    → ((t : ℕ) → t < length tables → (more : List Section) × (table_at made t ≡ with_more (table_at tables t) more))
+    → Legal (table_at made 0) E.start → HaveMore E made
+have_more E tables made are count formed adds start =
+    record { one_each = count ∙ same; formed = λ t lt. formed t (omega (arith, lt, same)); more = more; start = start }
+  where
+    same : length tables ≡ length E.tables
+    same = ap length are ∙ length-map E.tables (λ (t : DocTable). t.table)
 
-module _ (E : Doc) (tables made : List Table) (parts : List (Table × Tree)) (h : AreMade E tables made parts) where
-  pub tables_count : length tables ≡ length E.tables
-  tables_count = ap length h.tables_are ∙ length-map E.tables (λ (t : DocTable). t.table)
+    more : (t : ℕ) → t < length E.tables → (more : List Section) × (table_at made t ≡ with_more (doc_table_at E t) more)
+    more t lt =
+        let added = adds t (omega (arith, lt, same)) in
+        (added.0, added.1 ∙ ap (λ (T : Table). with_more T added.0) (ap (λ (ts : List Table). table_at ts t) are ∙ listed_there E.tables t))
 
+module _ (E : Doc) (made : List Table) (parts : List (Table × Tree)) (h : HaveMore E made) (parts_are : map (λ p. p.0) parts ≡ made) where
   pub one_each : length parts ≡ length E.tables
-  one_each = sym (length-map parts (λ (p : Table × Tree). p.0)) ∙ ap length h.parts_are ∙ h.count ∙ tables_count
+  one_each = sym (length-map parts (λ (p : Table × Tree). p.0)) ∙ ap length parts_are ∙ h.one_each
 
   -- the table that comes with a number is the one that was made
-  pub new_at : (t : ℕ) → new_table parts t ≡ table_at made t
-  new_at t = sym (new_there parts t) ∙ ap (λ (ts : List Table). table_at ts t) h.parts_are
+  new_at : (t : ℕ) → new_table parts t ≡ table_at made t
+  new_at t = sym (new_there parts t) ∙ ap (λ (ts : List Table). table_at ts t) parts_are
 
   more_at : (t : ℕ) → t < length E.tables → (more : List Section) × (new_table parts t ≡ with_more (doc_table_at E t) more)
-  more_at t lt =
-      let added = h.more t (omega (arith, lt, tables_count)) in
-      (added.0, new_at t ∙ added.1 ∙ ap (λ (T : Table). with_more T added.0) (ap (λ (ts : List Table). table_at ts t) h.tables_are ∙ listed_there E.tables t))
+  more_at t lt = let added = h.more t lt in (added.0, new_at t ∙ added.1)
 
-  pub replaced_is_taken : IsTaken E → (E.version == 1) ≡ false → Legal (table_at made 0) E.start → IsTaken (replaced E parts)
-  replaced_is_taken taken later legal =
-      is_taken E taken later parts one_each
-      (λ t lt. subst IsTable (sym (new_at t)) (h.formed t (omega (arith, lt, tables_count)))) more_at
-      (subst (λ (T : Table). Legal T E.start) (sym (new_at 0)) legal)
+  pub replaced_is_taken : IsTaken E → (E.version == 1) ≡ false → IsTaken (replaced E parts)
+  replaced_is_taken taken later =
+      is_taken E taken later parts one_each (λ t lt. subst IsTable (sym (new_at t)) (h.formed t lt)) more_at
+      (subst (λ (T : Table). Legal T E.start) (sym (new_at 0)) h.start)
 
   -- the text of the document with these tables, under which a run stays right
   pub is_ordered : (D M : Doc) (J : Journal) (text : List ℕ) → IsMigrated D E → M ≡ replaced E parts

@@ -13,8 +13,8 @@ use Rattle.reached_states.specs.Reached.{AreOffered}
 use Rattle.reached_states.proofs.Reaching.{reached_keeps}
 
 -- a journal that passes is whole under the document's tables
-pub whole_of : (D : Doc) (tables : List Offer) (start : List ℕ) (J : Journal) (answer : Result (Unit {0}) BadLine) → tables ≡ offers_of D → start ≡ D.start
-    → Verifies (map (λ (o : Offer). o) tables) (opening start) J answer → OnOk answer (IsWhole (offers_of D) (opening D.start) J)
+pub whole_of : (D : Doc) (tables : List Offer) (start : List ℕ) (J : Journal) (answer : Result (Unit {0}) BadLine)
+    → tables ≡ offers_of D → start ≡ D.start → Verifies (map (λ (o : Offer). o) tables) (opening start) J answer → OnOk answer (IsWhole (offers_of D) (opening D.start) J)
 whole_of D tables start J (Ok u) same begins whole =
     subst (λ (os : List Offer). IsWhole os (opening D.start) J) (map-id tables ∙ same)
     (subst (λ (p : List ℕ). IsWhole (map (λ (o : Offer). o) tables) (opening p) J) begins whole)

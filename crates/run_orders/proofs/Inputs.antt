@@ -14,5 +14,5 @@ pub of_input : (input : List ℕ) (D : Doc) (begun : List Line) (answer : Result
     → IfOk answer (λ made. (run : Journal) × IsRunFrom D begun run × IsOrderedByRun D run made.text.items)
     → IfOk answer (λ made. IsInputByRun input made.text.items)
 of_input input D begun (Ok made) gives holds =
-    record { document = D; begun = begun; run = holds.0; gives = gives; is_run = holds.1.0; is_ordered = holds.1.1 }
+    record { document = D; begun = begun; run = holds.0; gives = gives; is_run = holds.1; is_ordered = holds.2 }
 of_input input D begun (Err e) gives holds = tt

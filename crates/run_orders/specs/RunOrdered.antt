@@ -3,7 +3,8 @@ use Rattle.std.specs.Prelude.{◌≡◌, ◌⊎◌, ℕ, ◌<◌, List, [], ◌+
 use Rattle.rail_model.specs.declared.types.Line.{Line}
 use Rattle.rail_model.specs.Certificate.{Tree}
 use Rattle.rail_model.specs.Journal.{Journal, IsWhole}
-use Rattle.rail_model.specs.Table.{Table, Section}
+use Rattle.rail_model.specs.State.{Legal}
+use Rattle.rail_model.specs.Table.{Table, Section, IsTable}
 use Rattle.rail_model.specs.Yard.{opening}
 use Rattle.move_journal.specs.Answers.{IsTextPart}
 use Rattle.move_journal.specs.declared.lines.Part.{Part}
@@ -13,6 +14,7 @@ use Rattle.layout_json.specs.Migrated.{IsMigrated}
 use Rattle.layout_json.specs.Reading.{doc_of}
 use Rattle.layout_json.specs.Replaced.{new_table, replaced}
 use Rattle.layout_json.specs.Written.{written}
+use Rattle.order_sections.specs.Grids.{table_at as table_in}
 use Rattle.order_sections.specs.Orders.{with_more}
 use Rattle.document_orders.specs.Ordered.{KeepsTree, new_tree}
 use Rattle.timed_reading.specs.Reads.{mark}
@@ -22,6 +24,13 @@ pub record IsRunFrom (D : Doc) (begun : List Line) (J : Journal) : Type 0 where
   pub later : List Line
   pub begins : J.lines ≡ begun ++ later
   pub whole : IsWhole (offers_of D) (opening D.start) J
+
+-- The tables are those of the document with more sections behind their own, and its start is legal under the first.
+pub record HaveMore (later : Doc) (made : List Table) : Type 0 where
+  pub one_each : length made ≡ length later.tables
+  pub formed : (t : ℕ) → t < length later.tables → IsTable (table_in made t)
+  pub more : (t : ℕ) → t < length later.tables → (more : List Section) × (table_in made t ≡ with_more (table_at later t) more)
+  pub start : Legal (table_in made 0) later.start
 
 -- Tables and certificates for the document in version 2 or later: each table has more sections behind its own, and each certificate is the
 -- document's own, if its nodes spell one.
@@ -59,7 +68,8 @@ pub record HasJournal (input : List ℕ) (D : Doc) (begun : List Line) : Type 0 
   pub is_text : IsTextPart (names_of D) journal part
   pub lines : lines_in part ≡ begun
 
--- The input is a document, with or without a journal, and the text is it with the orders of a run of it that begins with the journal's lines.
+-- The input is a document, with or without a journal, and the text is it with the orders of a run of it that begins with the
+-- journal's lines.
 pub record IsInputByRun (input text : List ℕ) : Type 0 where
   pub document : Doc
   pub begun : List Line

@@ -1,4 +1,5 @@
-//! Documents with the orders of one run: a run that a journal gives or begins, or that is drawn, and sections that keep trains in its order.
+//! Documents with the orders of one run: a run that a journal gives or begins, or that is drawn, and sections that keep
+//! trains in its order.
 #![tactic(auto)]
 
 mod drawing;

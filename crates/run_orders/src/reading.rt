@@ -47,7 +47,8 @@ fn read_journal(alloc: Global, doc: &Doc, bytes: &[u8]) -> Result<Part, RunRefus
 
 // A document with the orders of a run that begins with the lines of a journal.
 fn ordered_from(alloc: Global, doc: &Doc, given: Part, seed: u32) -> Result<RunOrdered, RunRefused>
-    ensures { IfOk result (λ made. (run : JournalValue) × IsRunFrom doc.now (lines_in given) run × IsOrderedByRun doc.now run made.text.items) }
+    ensures { IfOk result (λ made. (run : JournalValue) × IsRunFrom doc.now (lines_in given) run
+        × IsOrderedByRun doc.now run made.text.items) }
 {
     let run = run_from(alloc, doc, given, seed)?;
     let made = ordered_by_run(alloc, doc, &run)?;

@@ -17,4 +17,5 @@ verify-requires-clause-legal c =
 pub returns : goal.returns
 returns c =
     let same : c.deref.result.now ≡ offers_of c.args.doc.now = c.deref.ensures.value ∙ c.in_ok-tables.ensures in
-    whole_of c.args.doc.now c.deref.result.now c.start_of.result.now c.args.run.now c.verify.result same c.start_of.ensures.start c.verify.ensures
+    whole_of c.args.doc.now c.deref.result.now c.start_of.result.now c.args.run.now c.verify.result same
+    c.start_of.ensures.start c.verify.ensures
