@@ -1,5 +1,6 @@
 -- The trains that a train waits for.
-use Rattle.std.specs.Prelude.{ℕ, zero, suc, pos, int_lt, List, [], ◌∷◌, ◌++◌, Bool, Option, Some, None, slice_get, if◌then◌else◌}
+use Rattle.std.specs.Prelude.{ℕ, zero, suc, pos, int_lt, List, [], ◌∷◌, ◌++◌, Bool, true, false, Option, Some, None}
+use Rattle.std.specs.Prelude.{slice_get, if◌then◌else◌}
 use Rattle.rail_model.specs.Table.{Connection, trains, place, share}
 use Rattle.live_yard.specs.declared.told.Told.{Told}
 use Rattle.live_yard.specs.declared.told.Told.TheVariants.{May, Arrived, Occupied, Full, Waits, Away, Leaving, Clearing}
@@ -13,6 +14,11 @@ counts_in v s j = int_lt (pos 0) (share v.table j s (place v.positions j))
 -- whether train j counts in a section with more than where it is, since it hasn't reported that it is out of it
 abbrev pub still_counts : Seen → ℕ → ℕ → Bool
 still_counts v s j = int_lt (share v.table j s (place v.positions j)) (greatest_of v.table v.positions v.reported s j)
+
+-- whether train j counts in a section; with `still`, with more than where it is
+abbrev pub counting : Seen → ℕ → Bool → ℕ → Bool
+counting v s true = still_counts v s
+counting v s false = counts_in v s
 
 -- the numbers below n that are chosen, in order
 abbrev pub chosen : (ℕ → Bool) → ℕ → List ℕ

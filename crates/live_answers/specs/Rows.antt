@@ -1,5 +1,6 @@
 -- Rows and answers on what trains are told.
-use Rattle.std.specs.Prelude.{◌≡◌, ℕ, zero, suc, List, [], ◌++◌, length, slice_index, filter, count_by, codes, Bool, true, false, not, ◌||◌, Option, Some, None, if◌then◌else◌}
+use Rattle.std.specs.Prelude.{◌≡◌, ℕ, zero, suc, List, [], ◌++◌, length, slice_index, filter, count_by, codes, Bool}
+use Rattle.std.specs.Prelude.{true, false, not, ◌||◌, Option, Some, None, if◌then◌else◌}
 use Rattle.rail_model.specs.Names.{Names, train_name}
 use Rattle.rail_model.specs.Table.{trains, place}
 use Rattle.live_yard.specs.declared.told.Told.{Told}
@@ -36,6 +37,16 @@ abbrev pub IsToldRow : Names → Seen → List ℕ → ℕ → Told → List ℕ
 IsToldRow N v tag i told text =
     (what : Prospect) × IsProspect v i told what × (text ≡ line_of tag (row_words N (row.Told what)))
 
+-- the words on what a train is told, in a row or in the answer to its request
+abbrev pub told_words : Bool → Names → Prospect → List ℕ
+told_words true N what = row_words N (row.Told what)
+told_words false N what = train_words N (answer.Told what)
+
+-- What train i is told, as a row or as the answer to its request.
+abbrev pub IsToldText : Bool → Names → Seen → List ℕ → ℕ → Told → List ℕ → Type 0
+IsToldText is_row N v tag i told text =
+    (what : Prospect) × IsProspect v i told what × (text ≡ line_of tag (told_words is_row N what))
+
 -- what a train is told, in short
 abbrev pub is_may : Told → Bool
 is_may May = true
@@ -48,6 +59,11 @@ is_arrived told = false
 abbrev pub is_away : Told → Bool
 is_away Away = true
 is_away told = false
+
+-- whether a train hasn't reported, or whether it may go on
+abbrev pub is_one_of : Bool → (Told → Bool)
+is_one_of true = is_away
+is_one_of false = is_may
 
 abbrev pub waits : Told → Bool
 waits told = not (is_may told || is_arrived told)

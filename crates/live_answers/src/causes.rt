@@ -1,5 +1,5 @@
 // The trains that stand in the way of a train.
-ghost use Rattle.std.specs.Prelude.{◌≡◌, ◌<◌, ◌∷◌, [], All, IfOk, Some, length, slice_get};
+ghost use Rattle.std.specs.Prelude.{◌≡◌, ◌<◌, All, IfOk, Some, length, slice_get};
 ghost use Rattle.rail_model.specs.Table.{trains};
 ghost use Rattle.live_answers.specs.Seen.{IsTold};
 ghost use Rattle.live_answers.specs.Causes as spec;
@@ -10,62 +10,40 @@ use rail_model::{Connection, connection_of, share_at};
 use state_boxes::{Span, greatest_share};
 use std::alloc::{AllocError, Global};
 
-// Whether a train counts in a section.
-fn counts_in(scene: &Scene<'_>, section: u32, train: u32) -> bool
+// Whether a train counts in a section; with `still`, with more than where it is, since it hasn't reported that it is
+// out of it.
+fn counts(scene: &Scene<'_>, section: u32, still: bool, train: u32) -> bool
     requires section { section < length scene.now.table.sections }
     requires train { train < trains scene.now.table }
-    ensures { result ≡ spec.counts_in scene.now section train }
-{
-    0 < share_at(scene.table(), train, section, scene.place(train))
-}
-
-// Whether a train counts in a section with more than where it is, since it hasn't reported that it is out of it.
-fn still_counts(scene: &Scene<'_>, section: u32, train: u32) -> bool
-    requires section { section < length scene.now.table.sections }
-    requires train { train < trains scene.now.table }
-    ensures { result ≡ spec.still_counts scene.now section train }
+    ensures { result ≡ spec.counting scene.now section still train }
 {
     let place = scene.place(train);
     let share = share_at(scene.table(), train, section, place);
-    let span = Span::new(scene.reported(train), place);
-    share < greatest_share(scene.table(), train, section, span)
-}
-
-// The trains that count in a section.
-fn counted(alloc: Global, scene: &Scene<'_>, section: u32) -> Result<Vec<u32>, AllocError>
-    requires { section < length scene.now.table.sections }
-    ensures { IfOk result (λ by. by.items ≡ spec.chosen (spec.counts_in scene.now section) (trains scene.now.table)) }
-{
-    let mut by = Vec::new(alloc);
-    for train in 0..scene.trains() {
-        if counts_in(scene, section, train) {
-            by.push(train)?;
-        }
+    if still {
+        let span = Span::new(scene.reported(train), place);
+        share < greatest_share(scene.table(), train, section, span)
+    } else {
+        0 < share
     }
-    Ok(by)
 }
 
-// The trains that count in a section with more than where they are.
-fn still_counted(alloc: Global, scene: &Scene<'_>, section: u32) -> Result<Vec<u32>, AllocError>
+// The trains that count in a section; with `still`, those that count there with more than where they are.
+fn counted(
+    alloc: Global,
+    scene: &Scene<'_>,
+    section: u32,
+    still: bool,
+) -> Result<Vec<u32>, AllocError>
     requires { section < length scene.now.table.sections }
-    ensures { IfOk result (λ by. by.items ≡ spec.chosen (spec.still_counts scene.now section)
+    ensures { IfOk result (λ by. by.items ≡ spec.chosen (spec.counting scene.now section still)
         (trains scene.now.table)) }
 {
     let mut by = Vec::new(alloc);
     for train in 0..scene.trains() {
-        if still_counts(scene, section, train) {
+        if counts(scene, section, still, train) {
             by.push(train)?;
         }
     }
-    Ok(by)
-}
-
-// One train.
-fn only(alloc: Global, train: u32) -> Result<Vec<u32>, AllocError>
-    ensures { IfOk result (λ by. by.items ≡ train ∷ []) }
-{
-    let mut by = Vec::new(alloc);
-    by.push(train)?;
     Ok(by)
 }
 
@@ -91,9 +69,11 @@ pub fn in_the_way(
 {
     match told {
         Told::May | Told::Arrived | Told::Away => Ok(Vec::new(alloc)),
-        Told::Occupied { by } | Told::Leaving { by } => only(alloc, by),
-        Told::Waits { connection: number } => only(alloc, connection(scene, number).other()),
-        Told::Full { section, .. } => counted(alloc, scene, section),
-        Told::Clearing { section, .. } => still_counted(alloc, scene, section),
+        Told::Occupied { by } | Told::Leaving { by } => Vec::from_slice(alloc, &[by]),
+        Told::Waits { connection: number } => {
+            Vec::from_slice(alloc, &[connection(scene, number).other()])
+        }
+        Told::Full { section, .. } => counted(alloc, scene, section, false),
+        Told::Clearing { section, .. } => counted(alloc, scene, section, true),
     }
 }

@@ -7,7 +7,8 @@ ghost use Rattle.live_answers.specs.Causes.{in_the_way};
 ghost use Rattle.live_answers.specs.Seen.{IsTold};
 ghost use Rattle.live_lines.specs.Told.{IsNamedCause, IsNamedProspect, IsNamedSpot};
 ghost use Rattle.live_lines.specs.declared.told.Prospect.TheVariants.{Waits as HasToWait};
-ghost use Rattle.live_answers.specs.Prospects.{HasNames, IsCause, IsProspect, IsRoom, next_spot as next_spot_of, spot_at};
+ghost use Rattle.live_answers.specs.Prospects.{HasNames, IsCause, IsProspect, IsRoom, next_spot as next_spot_of};
+ghost use Rattle.live_answers.specs.Prospects.{spot_at};
 
 use crate::{Scene, connection};
 use live_lines::{Cause, Prospect, Room, Spot};

@@ -1,17 +1,67 @@
 // Rows and answers on what trains are told.
-ghost use Rattle.std.specs.Prelude.{◌≡◌, ◌<◌, ◌≤◌, OnOk, count_by, length};
+ghost use Rattle.std.specs.Prelude.{◌≡◌, ◌<◌, ◌≤◌, ◌++◌, OnOk, count_by, length};
+ghost use Rattle.live_lines.specs.Lines.{line_of};
+ghost use Rattle.live_lines.specs.Told.{IsNamedProspect};
 ghost use Rattle.rail_model.specs.Table.{trains};
 ghost use Rattle.live_answers.specs.Seen.{AreTold, IsTold, told_at};
 ghost use Rattle.live_lines.specs.declared.session.SessionAnswer.TheVariants.{Could};
 ghost use Rattle.live_answers.specs.Prospects.{HasNames};
-ghost use Rattle.live_answers.specs.Rows.{AreRows, IsAtRow, IsToldAnswer, IsToldRow, Says, TellsAll, TellsState, is_arrived as is_arrived_told, is_may as is_may_told, there_of, waits as waits_told};
+ghost use Rattle.live_answers.specs.Rows.{AreRows, IsAtRow, IsToldAnswer, IsToldRow, IsToldText, Says, TellsAll};
+ghost use Rattle.live_answers.specs.Rows.{TellsState};
+ghost use Rattle.live_answers.specs.Rows.{is_arrived as is_arrived_told, is_may as is_may_told, there_of, told_words};
+ghost use Rattle.live_answers.specs.Rows.{waits as waits_told};
 
 use crate::prospects::{prospect_of, spot};
 use crate::{Scene, in_the_way, tolds_of};
-use live_lines::{Answer, Counts, Row, SessionAnswer, TrainAnswer, push_answer, push_row};
+use live_lines::{
+    Answer, Counts, Prospect, Row, SessionAnswer, TrainAnswer, push_answer, push_row,
+};
 use live_yard::Told;
 use rail_model::Names;
 use std::alloc::{AllocError, Global};
+
+// Adds the words on what a train is told, as a row or as the answer to its request.
+fn push_prospect(
+    alloc: Global,
+    out: &mut Vec<u8>,
+    tag: &[u8],
+    names: &Names,
+    is_row: bool,
+    prospect: Prospect<'_>,
+) -> Result<(), AllocError>
+    requires { IsNamedProspect names.now prospect }
+    ensures { OnOk result (out.new.items ≡ out.old.items ++ line_of tag.now
+        (told_words is_row names.now prospect.entry)) }
+{
+    if is_row {
+        push_row(alloc, out, tag, names, Row::Told { prospect })
+    } else {
+        let answer = TrainAnswer::Told { prospect };
+        push_answer(alloc, out, tag, names, Answer::Train(answer))
+    }
+}
+
+/// Adds what a train was told, as a row or as the answer to its request.
+pub(crate) fn push_told_text(
+    alloc: Global,
+    out: &mut Vec<u8>,
+    tag: &[u8],
+    names: &Names,
+    scene: &Scene<'_>,
+    is_row: bool,
+    train: u32,
+    told: Told,
+) -> Result<(), AllocError>
+    requires named { HasNames names.now scene.now.table }
+    requires train { train < trains scene.now.table }
+    requires told { IsTold scene.now train told }
+    ensures { OnOk result (Says (IsToldText is_row names.now scene.now tag.now train told) out.old.items
+        out.new.items) }
+{
+    let by = in_the_way(alloc, scene, train, told)?;
+    let prospect = prospect_of(scene, train, told, &by);
+    push_prospect(alloc, out, tag, names, is_row, prospect)
+}
 
 /// Adds what a train was told, as the answer to its request.
 pub fn push_told(
@@ -28,35 +78,7 @@ pub fn push_told(
     requires told { IsTold scene.now train told }
     ensures { OnOk result (Says (IsToldAnswer names.now scene.now tag.now train told) out.old.items out.new.items) }
 {
-    let by = in_the_way(alloc, scene, train, told)?;
-    let prospect = prospect_of(scene, train, told, &by);
-    push_answer(
-        alloc,
-        out,
-        tag,
-        names,
-        Answer::Train(TrainAnswer::Told { prospect }),
-    )
-}
-
-/// Adds what a train is told, as a row.
-pub(crate) fn push_told_row(
-    alloc: Global,
-    out: &mut Vec<u8>,
-    tag: &[u8],
-    names: &Names,
-    scene: &Scene<'_>,
-    train: u32,
-    told: Told,
-) -> Result<(), AllocError>
-    requires named { HasNames names.now scene.now.table }
-    requires train { train < trains scene.now.table }
-    requires told { IsTold scene.now train told }
-    ensures { OnOk result (Says (IsToldRow names.now scene.now tag.now train told) out.old.items out.new.items) }
-{
-    let by = in_the_way(alloc, scene, train, told)?;
-    let prospect = prospect_of(scene, train, told, &by);
-    push_row(alloc, out, tag, names, Row::Told { prospect })
+    push_told_text(alloc, out, tag, names, scene, false, train, told)
 }
 
 // Adds a row for each train.
@@ -75,7 +97,16 @@ fn push_told_rows(
         out.old.items out.new.items) }
 {
     for train in 0..scene.trains() {
-        push_told_row(alloc, out, tag, names, scene, train, tolds[train as usize])?;
+        push_told_text(
+            alloc,
+            out,
+            tag,
+            names,
+            scene,
+            true,
+            train,
+            tolds[train as usize],
+        )?;
     }
     Ok(())
 }

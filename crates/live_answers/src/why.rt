@@ -4,9 +4,9 @@ ghost use Rattle.rail_model.specs.Table.{trains};
 ghost use Rattle.live_answers.specs.Seen.{AreTold, told_at};
 ghost use Rattle.live_answers.specs.Waiting.{AreAwaited};
 ghost use Rattle.live_answers.specs.Prospects.{HasNames};
-ghost use Rattle.live_answers.specs.Rows.{AreRows, IsToldRow, Says, TellsWhy, is_away, is_may, of_told, why_line};
+ghost use Rattle.live_answers.specs.Rows.{AreRows, IsToldRow, Says, TellsWhy, is_one_of, of_told, why_line};
 
-use crate::rows::push_told_row;
+use crate::rows::push_told_text;
 use crate::{Scene, awaited, tolds_of};
 use live_lines::{Answer, TrainAnswer, push_answer};
 use live_yard::Told;
@@ -31,33 +31,44 @@ fn push_rows_of(
 {
     for index in 0..waiting.len() {
         let train = waiting[index];
-        push_told_row(alloc, out, tag, names, scene, train, tolds[train as usize])?;
+        push_told_text(
+            alloc,
+            out,
+            tag,
+            names,
+            scene,
+            true,
+            train,
+            tolds[train as usize],
+        )?;
     }
     Ok(())
 }
 
-// Those trains of a list that may go on.
-fn going_of(alloc: Global, tolds: &[Told], waiting: &[u32]) -> Result<Vec<u32>, AllocError>
-    requires { All (λ i. i < length tolds.now) waiting.now }
-    ensures { IfOk result (λ some. some.items ≡ filter (of_told is_may tolds.now) waiting.now) }
+// Whether a train that was told this may go on, or whether it hasn't reported.
+fn is_one(told: Told, away: bool) -> bool
+    ensures { result ≡ is_one_of away told }
 {
-    let mut some = Vec::new(alloc);
-    for train in waiting {
-        if let Told::May = tolds[*train as usize] {
-            some.push(*train)?;
-        }
+    if away {
+        matches!(told, Told::Away)
+    } else {
+        matches!(told, Told::May)
     }
-    Ok(some)
 }
 
-// Those trains of a list that haven't reported.
-fn away_of(alloc: Global, tolds: &[Told], waiting: &[u32]) -> Result<Vec<u32>, AllocError>
+// Those trains of a list that may go on, or those that haven't reported.
+fn some_of(
+    alloc: Global,
+    tolds: &[Told],
+    waiting: &[u32],
+    away: bool,
+) -> Result<Vec<u32>, AllocError>
     requires { All (λ i. i < length tolds.now) waiting.now }
-    ensures { IfOk result (λ some. some.items ≡ filter (of_told is_away tolds.now) waiting.now) }
+    ensures { IfOk result (λ some. some.items ≡ filter (of_told (is_one_of away) tolds.now) waiting.now) }
 {
     let mut some = Vec::new(alloc);
     for train in waiting {
-        if let Told::Away = tolds[*train as usize] {
+        if is_one(tolds[*train as usize], away) {
             some.push(*train)?;
         }
     }
@@ -80,8 +91,8 @@ fn push_why_answer(
     requires named { length tolds.now ≤ length names.now.trains }
     ensures { OnOk result (out.new.items ≡ out.old.items ++ why_line names.now tag.now tolds.now waiting.now train) }
 {
-    let may = going_of(alloc, tolds, waiting)?;
-    let away = away_of(alloc, tolds, waiting)?;
+    let may = some_of(alloc, tolds, waiting, false)?;
+    let away = some_of(alloc, tolds, waiting, true)?;
     let why = TrainAnswer::Why {
         train,
         trains: waiting.len() as u32,

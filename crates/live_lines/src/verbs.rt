@@ -53,9 +53,8 @@ const VERBS: [(&str, Verb); 14] = [
 fn row_of(rows: &[(&str, Verb)], word: &[u8]) -> Option<Verb>
     ensures { result ≡ option_map (λ row. row.1) (find (λ row. bytes_eq row.0.now word.now) rows.now) }
 {
-    rows.iter()
-        .find(|&&(name, _)| name.as_bytes() == word)
-        .map(|&(_, verb)| verb)
+    let (_, verb) = rows.iter().find(|&&(name, _)| name.as_bytes() == word)?;
+    Some(*verb)
 }
 
 // The verb that a word is.
@@ -150,14 +149,23 @@ fn followed(names: &Names, reports: bool, verb: Verb, rest: &[u8]) -> Result<Cal
     match verb {
         Verb::Ask => ask_of(names, rest),
         Verb::Want => want_of(names, rest),
-        Verb::Drop => only_train(names, rest).map(|train| Call::Serve {
-            request: Request::Drop { train },
-        }),
+        Verb::Drop => {
+            let train = only_train(names, rest)?;
+            Ok(Call::Serve {
+                request: Request::Drop { train },
+            })
+        }
         Verb::Can => can_of(names, rest),
         Verb::At => at_of(names, reports, rest),
-        Verb::Why => only_train(names, rest).map(|train| Call::Why { train }),
+        Verb::Why => {
+            let train = only_train(names, rest)?;
+            Ok(Call::Why { train })
+        }
         Verb::Table => table_of(rest),
-        Verb::Since => only_number(rest).map(|line| Call::Since { line }),
+        Verb::Since => {
+            let line = only_number(rest)?;
+            Ok(Call::Since { line })
+        }
         _ => Err(Fault::Words),
     }
 }

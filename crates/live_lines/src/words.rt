@@ -14,8 +14,8 @@ fn split_at_space(bytes: &[u8]) -> Option<(&[u8], &[u8])>
     ensures { MatchOption result (All (λ b. b ≢ 32) bytes.now)
         (λ parts. (bytes.now ≡ parts.0.now ++ 32 ∷ parts.1.now) × All (λ b. b ≢ 32) parts.0.now) }
 {
-    for (i, byte) in bytes.iter().enumerate() {
-        if *byte == b' ' {
+    for i in 0..bytes.len() {
+        if bytes[i] == b' ' {
             return Some((&bytes[..i], &bytes[i + 1..]));
         }
     }

@@ -21,7 +21,8 @@ use Rattle.live_lines.specs.declared.tables.TableLine.TheVariants as table
 use Rattle.live_lines.specs.declared.trains.TrainAnswer.TheVariants as train
 use Rattle.live_session.specs.Answering.{course_of, fired_text, is_whole, line_text, refused_text, tags_with}
 use Rattle.live_session.specs.News.{done_text, due_text, exchanges, news_text, was_due}
-use Rattle.live_session.specs.Replies.{answer_of, keeps_tag, place_named, spot_by, table_line, target_of, train_of, tried_answer}
+use Rattle.live_session.specs.Replies.{answer_of, keeps_tag, place_named, spot_by, table_line, target_of, train_of}
+use Rattle.live_session.specs.Replies.{tried_answer}
 use Rattle.live_session.specs.declared.start.Start.{Start}
 
 abbrev journal : List Line

@@ -1,8 +1,10 @@
 -- Of the lines that are written in a session, those that begin with a digit are those of its journal.
-use Rattle.std.proofs.Common.{◌≡◌, ℕ, ◌+◌, ◌-◌, List, [], ◌∷◌, ◌++◌, Bool, true, false, Option, None, Some, length, take, drop, refl, sym, ap, subst, ◌∙◌, arith, inl, inr, length-append, take_all}
+use Rattle.std.proofs.Common.{◌≡◌, ℕ, ◌+◌, ◌-◌, List, [], ◌∷◌, ◌++◌, Bool, true, false, Option, None, Some, length}
+use Rattle.std.proofs.Common.{take, drop, refl, sym, ap, subst, ◌∙◌, arith, inl, inr, length-append, take_all}
 use Rattle.std.specs.Prelude.{◌&&◌, not, if◌then◌else◌, slice_index_or, slice_set}
 use Rattle.std.proofs.lemmas.Bool.{cases_eq, cases_lt}
-use Rattle.std.proofs.lemmas.List.{drop-drop, get_or-set_other, get_or-set_same, length-drop, length-take, take-append-drop, set_past}
+use Rattle.std.proofs.lemmas.List.{drop-drop, get_or-set_other, get_or-set_same, length-drop, length-take}
+use Rattle.std.proofs.lemmas.List.{take-append-drop, set_past}
 use Rattle.std.proofs.Math.Seq.{drop-append_seam}
 use Rattle.rail_model.specs.declared.types.Line.{Line}
 use Rattle.rail_model.specs.declared.types.Line.TheVariants as line
@@ -11,7 +13,8 @@ use Rattle.line_service.specs.Answered.{Answered}
 use Rattle.line_service.specs.declared.server.Course.{Course}
 use Rattle.live_lines.proofs.Beginnings.{answers, closes, events, no_digit}
 use Rattle.live_lines.proofs.Tags.{heard_tag}
-use Rattle.live_lines.proofs.Telling.{AreOthers, journal_line, no_text, other_line, other_lines, others_anywhere, others_then, more_text, then_others}
+use Rattle.live_lines.proofs.Telling.{AreOthers, journal_line, no_text, other_line, other_lines, others_anywhere}
+use Rattle.live_lines.proofs.Telling.{others_then, more_text, then_others}
 use Rattle.live_lines.specs.Hearing.{heard}
 use Rattle.live_lines.specs.Kinds.{IsTag, TellsLines, tag_length}
 use Rattle.live_lines.specs.Lines.{line_of}
@@ -32,7 +35,9 @@ use Rattle.live_yard.specs.declared.requests.Reply.{Reply}
 use Rattle.live_yard.specs.declared.requests.Request.{Request}
 use Rattle.live_yard.specs.Reported.{positions_of}
 use Rattle.live_session.proofs.JournalRows.{journal_rows}
-use Rattle.live_session.specs.Answering.{Answers, IsFiredRow, IsHeard, IsLineRow, IsNews, IsOpening, IsQueryText, IsReply, IsRequestServed, OfTrain, fired_text, is_whole, last_text, ready_text, refused_text, tags_with}
+use Rattle.live_session.specs.Answering.{Answers, IsFiredRow, IsHeard, IsLineRow, IsNews, IsOpening, IsQueryText}
+use Rattle.live_session.specs.Answering.{IsReply, IsRequestServed, OfTrain, fired_text, is_whole, last_text, ready_text}
+use Rattle.live_session.specs.Answering.{refused_text, tags_with}
 use Rattle.live_session.specs.Journals.{HasTags, TellsJournal}
 use Rattle.live_session.specs.News.{due_text, exchanges, was_due}
 use Rattle.live_session.specs.Replies.{keeps_tag, start_of, train_of}

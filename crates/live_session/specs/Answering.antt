@@ -1,5 +1,6 @@
 -- What a line is answered in a session, and what it changes.
-use Rattle.std.specs.Prelude.{◌≡◌, ◌⊎◌, ℕ, ◌+◌, ◌-◌, ◌<◌, ◌≤◌, ◌==◌, ◌&&◌, nat_le, Bool, List, [], ◌++◌, length, take, codes, decimal, Option, Some, None, slice_get, slice_set, slice_index_or}
+use Rattle.std.specs.Prelude.{◌≡◌, ◌⊎◌, ℕ, ◌+◌, ◌-◌, ◌<◌, ◌≤◌, ◌==◌, ◌&&◌, nat_le, Bool, true, false, List, [], ◌++◌}
+use Rattle.std.specs.Prelude.{length, take, codes, decimal, Option, Some, None, slice_get, slice_set, slice_index_or}
 use Rattle.rail_model.specs.declared.types.Line.{Line}
 use Rattle.rail_model.specs.declared.types.Line.TheVariants as line
 use Rattle.rail_model.specs.Journal.{words}
@@ -62,6 +63,11 @@ abbrev pub IsFiredRow : Names → List ℕ → List (List ℕ) → List Line →
 IsFiredRow N p tags lines from k text =
     (l : Line) × (slice_get lines (from + k) ≡ Some l)
     × (text ≡ line_text N (from + k + 1) l ++ fired_text N p tags (from + k + 1) l)
+
+-- A line of the journal; where it granted a want, with the event of the want.
+abbrev pub IsRow : Bool → Names → List ℕ → List (List ℕ) → List Line → ℕ → (ℕ → List ℕ → Type 0)
+IsRow true N p tags lines from = IsFiredRow N p tags lines from
+IsRow false N p tags lines from = IsLineRow N lines from
 
 -- The answer of a request that was replied so.
 abbrev pub IsReply : Names → Seen → List ℕ → List Line → Start → Request → Reply → List ℕ → Type 0

@@ -1,5 +1,6 @@
 -- What is told beside the answers: that the next table is due, and that all is done.
-use Rattle.std.specs.Prelude.{◌≡◌, ◌↔◌, ℕ, ◌+◌, ◌==◌, ◌&&◌, not, List, [], ◌++◌, Bool, false, IsTrue, MatchOption, Option, Some, None, count_by, if◌then◌else◌}
+use Rattle.std.specs.Prelude.{◌≡◌, ◌↔◌, ℕ, ◌+◌, ◌==◌, ◌&&◌, not, List, [], ◌++◌, Bool, false, IsTrue, MatchOption}
+use Rattle.std.specs.Prelude.{Option, Some, None, count_by, if◌then◌else◌}
 use Rattle.rail_model.specs.declared.types.Line.{Line}
 use Rattle.rail_model.specs.Journal.{IsDone, is_table}
 use Rattle.rail_model.specs.Names.{Names}

@@ -1,6 +1,6 @@
 // Calls that change nothing.
 ghost use Rattle.std.specs.Prelude.{◌≡◌, ◌++◌, OnOk, Some};
-ghost use Rattle.live_lines.specs.declared.calls.Call.TheVariants.{Can, Fits, Serve, Since, Why};
+ghost use Rattle.live_lines.specs.declared.calls.Call.TheVariants.{Can, Fits, Serve, Why};
 ghost use Rattle.live_yard.specs.declared.requests.Request.{Request as RequestValue};
 ghost use Rattle.live_lines.specs.Lines.{line_of};
 ghost use Rattle.live_lines.specs.Session.{session_words};
@@ -81,13 +81,6 @@ impl<'a, A: CheckedTable> Session<'a, A> {
         push_answer(self.alloc, text, tag, self.names, Answer::Table(fit))
     }
 
-    // The journal's lines after one of them.
-    fn push_lines_since(&self, tag: &[u8], line: u32, text: &mut Vec<u8>) -> Result<(), AllocError>
-        ensures { OnOk result (Says (IsQueryText self.now tag.now (Since line)) text.old.items text.new.items) }
-    {
-        push_since(self.alloc, text, tag, self.names, self.lines(), line)
-    }
-
     // The first line.
     pub(crate) fn push_ready(&self, tag: &[u8], text: &mut Vec<u8>) -> Result<(), AllocError>
         ensures { OnOk result (text.new.items ≡ text.old.items ++ ready_text_of self.now tag.now) }
@@ -140,7 +133,14 @@ impl<'a, A: CheckedTable> Session<'a, A> {
                 )
             }
             Call::Fits => self.push_fit(tag, text),
-            Call::Since { line } => self.push_lines_since(tag, line, text),
+            Call::Since { line } => push_since(
+                self.alloc,
+                text,
+                tag,
+                self.names,
+                self.lines(),
+                line,
+            ),
             Call::Ping => self.push_session(
                 tag,
                 SessionAnswer::Pong {

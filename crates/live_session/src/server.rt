@@ -1,7 +1,7 @@
 // The session as a server of lines.
-ghost use Rattle.std.specs.Prelude.{◌≡◌, ◌++◌, OnOk};
+ghost use Rattle.std.specs.Prelude.{OnOk};
 ghost use Rattle.live_answers.specs.Rows.{Says};
-ghost use Rattle.live_session.specs.Answering.{IsOpening, last_text as last_text_of};
+ghost use Rattle.live_session.specs.Answering.{IsOpening};
 
 use crate::Session;
 use crate::news::push_due;
@@ -24,16 +24,6 @@ impl<'a, A: CheckedTable> Session<'a, A> {
         let now = self.status();
         push_due(self.alloc, text, self.names, None, now.due)
     }
-
-    // Adds what is said at the end.
-    fn push_last(&self, text: &mut Vec<u8>) -> Result<(), AllocError>
-        ensures { OnOk result (text.new.items ≡ text.old.items ++ last_text_of self.now) }
-    {
-        let counts = self.counts();
-        let whole = counts.arrived == counts.trains && counts.of.saturating_sub(1) <= counts.tried;
-        let tables = exchanges_of(self.lines()) as u32;
-        push_close(self.alloc, text, whole, counts.moves, tables)
-    }
 }
 
 impl<'a, A: CheckedTable> LineServer for Session<'a, A> {
@@ -49,6 +39,9 @@ impl<'a, A: CheckedTable> LineServer for Session<'a, A> {
     }
 
     fn end(&self, text: &mut Vec<u8>) -> Result<(), AllocError> {
-        self.push_last(text)
+        let counts = self.counts();
+        let whole = counts.arrived == counts.trains && counts.of.saturating_sub(1) <= counts.tried;
+        let tables = exchanges_of(self.lines()) as u32;
+        push_close(self.alloc, text, whole, counts.moves, tables)
     }
 }

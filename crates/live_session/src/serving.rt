@@ -7,7 +7,7 @@ ghost use Rattle.live_session.specs.Answering.{IsNews, IsReply, IsRequestServed,
 
 use crate::Session;
 use crate::answers::answer_of;
-use crate::lines::{push_fired_lines, push_lines};
+use crate::lines::{Journal, push_lines};
 use crate::news::push_news;
 use crate::start::{Start, start_of, train_of};
 use crate::status::{Status, exchanges_of};
@@ -94,20 +94,17 @@ impl<'a, A: CheckedTable> Session<'a, A> {
     {
         let lines = self.lines();
         let state = self.yard.yard().run().yard().positions();
+        let journal = Journal {
+            names: self.names,
+            lines,
+            state,
+            tags: &self.tags,
+        };
         let fired = lines.len() - served.granted;
         let first = start.line as usize;
-        push_lines(self.alloc, text, self.names, lines, first, fired - first)?;
+        push_lines(self.alloc, text, &journal, false, first, fired - first)?;
         self.push_reply(tag, request, start, served.reply, text)?;
-        push_fired_lines(
-            self.alloc,
-            text,
-            self.names,
-            state,
-            &self.tags,
-            lines,
-            fired,
-            served.granted,
-        )?;
+        push_lines(self.alloc, text, &journal, true, fired, served.granted)?;
         self.push_news_after(before, text)
     }
 

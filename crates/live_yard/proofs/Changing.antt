@@ -5,7 +5,8 @@ use Rattle.rail_model.specs.Yard.{Tries}
 use Rattle.live_yard.specs.declared.told.Told.{Told}
 use Rattle.live_yard.specs.declared.told.Told.TheVariants.{May, Arrived, Occupied, Full, Waits, Away, Leaving, Clearing}
 use Rattle.live_yard.specs.declared.requests.Reply.{Reply}
-use Rattle.live_yard.specs.declared.requests.Reply.TheVariants.{Granted, Held, Elsewhere, Dropped, There, NotThere, NoReports, Tried, TriedBefore, TooSoon, NoTable}
+use Rattle.live_yard.specs.declared.requests.Reply.TheVariants.{Granted, Held, Elsewhere, Dropped, There, NotThere}
+use Rattle.live_yard.specs.declared.requests.Reply.TheVariants.{NoReports, Tried, TriedBefore, TooSoon, NoTable}
 use Rattle.live_yard.specs.declared.requests.Request.{Request}
 use Rattle.live_yard.specs.declared.requests.Request.TheVariants.{Ask, Want, Drop, At, Table}
 use Rattle.live_yard.specs.declared.requests.Served.{Served}

@@ -1,5 +1,6 @@
 -- Reports stay behind the trains, and the state one of a legal run.
-use Rattle.std.proofs.Common.{◌≡◌, ◌≢◌, ℕ, ◌+◌, ◌^◌, ◌<◌, ◌≤◌, List, length, max, Bool, true, false, refl, sym, ap, subst, ◌∙◌, arith, inl, inr}
+use Rattle.std.proofs.Common.{◌≡◌, ◌≢◌, ℕ, ◌+◌, ◌^◌, ◌<◌, ◌≤◌, List, length, max, Bool, true, false, refl, sym, ap}
+use Rattle.std.proofs.Common.{subst, ◌∙◌, arith, inl, inr}
 use Rattle.std.proofs.lemmas.Bool.{cases_eq}
 use Rattle.std.proofs.lemmas.List.{length-set, get_or-set_same, get_or-set_other}
 use Rattle.std.specs.Prelude.{slice_set, if◌then◌else◌}
@@ -16,7 +17,8 @@ use Rattle.plain_yard.specs.Keeps.{Keeps, PlainRun}
 use Rattle.plain_yard.specs.Lines.{most_lines}
 use Rattle.plain_yard.proofs.Keeping.{keeps_stands}
 use Rattle.live_yard.specs.Telling.{Reports, Tells}
-use Rattle.live_yard.specs.Reported.{Reported, IsReported, MayGoOn, after_told, granted, place_of, positions_of, reported, stepped, table_of, tried_on}
+use Rattle.live_yard.specs.Reported.{Reported, IsReported, MayGoOn, after_told, granted, place_of, positions_of}
+use Rattle.live_yard.specs.Reported.{reported, stepped, table_of, tried_on}
 use Rattle.live_yard.specs.declared.told.Told.{Told}
 use Rattle.live_yard.specs.declared.told.Told.TheVariants.{May, Arrived, Occupied, Full, Waits, Away, Leaving, Clearing}
 
@@ -44,7 +46,8 @@ reports_moved : (p r : List ℕ) (i : ℕ) → i < length p → Reports p r → 
 reports_moved p r i within before = record {
   one_each = before.one_each ∙ sym (length-set p i (place p i + 1));
   behind = λ j. elim (cases_eq j i) [
-    | inl same ↦ subst (λ (k : ℕ). place r k ≤ place (advance p i) k) (sym same) (omega (arith, before.behind i, place_moved p i within))
+    | inl same ↦ subst (λ (k : ℕ). place r k ≤ place (advance p i) k) (sym same)
+        (omega (arith, before.behind i, place_moved p i within))
     | inr other ↦ omega (arith, before.behind j, place_other p i j other)
   ];
 }

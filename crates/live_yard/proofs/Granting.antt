@@ -6,7 +6,8 @@ use Rattle.live_yard.proofs.Once.{tells_may}
 use Rattle.live_yard.specs.declared.requests.Elsewhere.{Elsewhere as ElsewhereValue}
 use Rattle.live_yard.specs.declared.requests.Elsewhere.TheVariants.{Beyond, Ahead, Before}
 use Rattle.live_yard.specs.declared.requests.Reply.{Reply}
-use Rattle.live_yard.specs.declared.requests.Reply.TheVariants.{Granted, Held, Elsewhere, Dropped, There, NotThere, NoReports, Tried, TriedBefore, TooSoon, NoTable}
+use Rattle.live_yard.specs.declared.requests.Reply.TheVariants.{Granted, Held, Elsewhere, Dropped, There, NotThere}
+use Rattle.live_yard.specs.declared.requests.Reply.TheVariants.{NoReports, Tried, TriedBefore, TooSoon, NoTable}
 use Rattle.live_yard.specs.Answers.{Asks, AtNext, Wants}
 use Rattle.live_yard.specs.Firing.{DispatchState}
 use Rattle.live_yard.specs.Reported.{Reported, IsElsewhere, IsNext, MayGoOn, NamesElsewhere, NamesNext, TellsTrain}

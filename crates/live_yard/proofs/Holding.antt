@@ -1,5 +1,6 @@
 -- A train that has to wait lets no other go.
-use Rattle.std.proofs.Common.{◌≡◌, ◌≢◌, ◌⊎◌, ℕ, ◌+◌, ◌-◌, ◌<◌, List, [], ◌∷◌, ◌++◌, length, get_or, refl, ap, subst, ◌∙◌, arith, length-append, inl, inr}
+use Rattle.std.proofs.Common.{◌≡◌, ◌≢◌, ◌⊎◌, ℕ, ◌+◌, ◌-◌, ◌<◌, List, [], ◌∷◌, ◌++◌, length, get_or, refl, ap, subst}
+use Rattle.std.proofs.Common.{◌∙◌, arith, length-append, inl, inr}
 use Rattle.std.specs.Prelude.{slice_index}
 use Rattle.std.specs.List.{remove}
 use Rattle.std.proofs.lemmas.Bool.{cases_lt}
@@ -40,8 +41,11 @@ left_before wants fewer i n k drops here = elim drops [
       let there = ap (λ (ws : List ℕ). slice_index ws k) same in
       elim (cases_lt k at) [
         | inl below ↦ (k, omega (arith, below, within), there ∙ get_or-remove_below wants at 0 k below within)
-        | inr above ↦
-            (k + 1, omega (arith, left, length-remove wants at within), there ∙ get_or-remove_above wants at 0 k above within)
+        | inr above ↦ (
+          k + 1,
+          omega (arith, left, length-remove wants at within),
+          there ∙ get_or-remove_above wants at 0 k above within,
+        )
       ]
 ]
 

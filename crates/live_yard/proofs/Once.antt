@@ -1,7 +1,8 @@
 -- A train that may go on is told so.
 use Rattle.std.proofs.Common.{◌≡◌, ℕ, List}
 use Rattle.rail_model.specs.declared.types.Ask.{Ask}
-use Rattle.rail_model.specs.declared.types.Ask.TheVariants.{Yes, Arrived as ArrivedAsk, Occupied as OccupiedAsk, Full as FullAsk, Waits as WaitsAsk}
+use Rattle.rail_model.specs.declared.types.Ask.TheVariants.{Yes, Arrived as ArrivedAsk, Occupied as OccupiedAsk}
+use Rattle.rail_model.specs.declared.types.Ask.TheVariants.{Full as FullAsk, Waits as WaitsAsk}
 use Rattle.rail_model.specs.Move.{Answers}
 use Rattle.rail_model.specs.Table.{Table}
 use Rattle.rail_model.proofs.Asks.{told_once}

@@ -5,8 +5,12 @@ use Rattle.live_yard.specs.Telling.{HasPassed, IsLeaving, taken}
 
 abbrev corridor : Table
 corridor = record {
-  missions = record { points = 0 ∷ 1 ∷ 2 ∷ 3 ∷ []; exits = false } ∷ record { points = 4 ∷ 2 ∷ 1 ∷ 5 ∷ []; exits = false } ∷ [];
-  sections = record { limit = 1; changes = (pos 0 ∷ pos 1 ∷ pos 0 ∷ negsuc 0 ∷ []) ∷ (pos 0 ∷ pos 1 ∷ pos 0 ∷ negsuc 0 ∷ []) ∷ [] } ∷ [];
+  missions = record { points = 0 ∷ 1 ∷ 2 ∷ 3 ∷ []; exits = false }
+      ∷ record { points = 4 ∷ 2 ∷ 1 ∷ 5 ∷ []; exits = false } ∷ [];
+  sections = record {
+    limit = 1;
+    changes = (pos 0 ∷ pos 1 ∷ pos 0 ∷ negsuc 0 ∷ []) ∷ (pos 0 ∷ pos 1 ∷ pos 0 ∷ negsuc 0 ∷ []) ∷ [];
+  } ∷ [];
   connections = [];
 }
 

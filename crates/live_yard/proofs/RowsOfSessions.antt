@@ -1,4 +1,5 @@
--- Worked rows: the corridor A M N B against C N M D in a session with reports, where T0 was granted M and has reported only A.
+-- Worked rows: the corridor A M N B against C N M D in a session with reports, where T0 was granted M and has reported
+-- only A.
 use Rattle.std.proofs.Common.{◌≡◌, ◌∷◌, [], true, false, None, Some, refl, inr, lit<, lit≤}
 use Rattle.rail_model.specs.declared.types.Line.TheVariants.{Move}
 use Rattle.rail_model.specs.declared.types.Tried.TheVariants.{Early}
@@ -12,7 +13,8 @@ use Rattle.live_yard.specs.declared.requests.Reply.TheVariants.{Elsewhere, Held,
 use Rattle.live_yard.specs.declared.requests.Request.TheVariants.{Ask}
 use Rattle.live_yard.specs.Answers.{IsOfRun, Reports, StandsIfHeld, TriesTable}
 use Rattle.live_yard.specs.Firing.{DispatchState, fired}
-use Rattle.live_yard.specs.Reported.{Reported, IsElsewhere, IsNext, NamesNext, after_table, after_told, forgotten, granted, reported}
+use Rattle.live_yard.specs.Reported.{Reported, IsElsewhere, IsNext, NamesNext, after_table, after_told, forgotten}
+use Rattle.live_yard.specs.Reported.{granted, reported}
 use Rattle.live_yard.specs.Sessions.{GoesOn, IsPlain, IsSession, is_refusal, plain}
 
 abbrev run : PlainRun

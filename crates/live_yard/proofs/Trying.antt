@@ -1,5 +1,6 @@
 -- Right lines answer each table that was tried.
-use Rattle.std.proofs.Common.{◌≡◌, ℕ, zero, suc, ◌-◌, ◌<◌, ◌≤◌, List, [], ◌∷◌, Some, refl, ap, ◌∙◌, arith, inl, inr, lit<}
+use Rattle.std.proofs.Common.{◌≡◌, ℕ, zero, suc, ◌-◌, ◌<◌, ◌≤◌, List, [], ◌∷◌, Some, refl, ap, ◌∙◌, arith, inl, inr}
+use Rattle.std.proofs.Common.{lit<}
 use Rattle.std.specs.Prelude.{slice_get}
 use Rattle.std.proofs.lemmas.Bool.{cases_eq}
 use Rattle.rail_model.specs.declared.types.Line.{Line}
@@ -14,15 +15,23 @@ later l lines t zero tried = absurd (omega (arith, tried.0))
 later l lines t (suc n) tried =
     let here : suc (suc n) - 1 ≡ suc n = omega arith in
     let there : n ≡ suc n - 1 = omega arith in
-    let step : slice_get (l ∷ lines) (suc n) ≡ slice_get lines n = refl in
-    (omega arith, (tried.1.0, ap (λ (k : ℕ). slice_get (l ∷ lines) k) here ∙ step ∙ ap (λ (k : ℕ). slice_get lines k) there ∙ tried.1.1, tried.1.2))
+    let step : slice_get (l ∷ lines) (suc n) ≡ slice_get lines n = refl in (
+      omega arith,
+      (
+        tried.1.0,
+        ap (λ (k : ℕ). slice_get (l ∷ lines) k) here ∙ step
+            ∙ ap (λ (k : ℕ). slice_get lines k) there ∙ tried.1.1,
+        tried.1.2,
+      ),
+    )
 
 -- the line in front
 front : (l : Line) (lines : List Line) (t : ℕ) → answered l ≡ Some t → WasTried (l ∷ lines) t 1
 front l lines t is = (lit< tt, (l, refl, is))
 
 -- each table that was tried has its line
-pub tried_line : (tables : List Offer) (y : Yard) (lines : List Line) (t : ℕ) → IsRight tables y lines → y.tried < t → t ≤ (after_lines y lines).tried → (n : ℕ) × WasTried lines t n
+pub tried_line : (tables : List Offer) (y : Yard) (lines : List Line) (t : ℕ) → IsRight tables y lines → y.tried < t
+    → t ≤ (after_lines y lines).tried → (n : ℕ) × WasTried lines t n
 tried_line tables y [] t right more done = absurd (omega (arith, more, done))
 tried_line tables y (Move i from to ∷ lines) t right more done =
     let rest = tried_line tables (after_line y (Move i from to)) lines t right.1 more done in

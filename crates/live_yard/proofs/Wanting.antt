@@ -21,7 +21,8 @@ held_reply Away n held = refl
 held_reply (Leaving by) n held = refl
 held_reply (Clearing s m) n held = refl
 
-pub held_stands : (told : Told) (wants longer : List ℕ) (i : ℕ) → told ≢ May → told ≢ Arrived → StandsLast wants i longer
+pub held_stands : (told : Told) (wants longer : List ℕ) (i : ℕ) → told ≢ May → told ≢ Arrived
+    → StandsLast wants i longer
     → StandsIfHeld told wants i longer
 held_stands May wants longer i held other stands = absurd (held refl)
 held_stands Arrived wants longer i held other stands = absurd (other refl)

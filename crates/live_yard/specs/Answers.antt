@@ -8,11 +8,13 @@ use Rattle.live_yard.specs.declared.requests.Elsewhere.{Elsewhere as ElsewhereVa
 use Rattle.live_yard.specs.declared.requests.Request.{Request}
 use Rattle.live_yard.specs.declared.requests.Request.TheVariants.{Ask, Want, Drop, At, Table}
 use Rattle.live_yard.specs.declared.requests.Reply.{Reply}
-use Rattle.live_yard.specs.declared.requests.Reply.TheVariants.{Granted, Held, Elsewhere, Dropped, There, NotThere, NoReports, Tried, TriedBefore, TooSoon, NoTable}
+use Rattle.live_yard.specs.declared.requests.Reply.TheVariants.{Granted, Held, Elsewhere, Dropped, There, NotThere}
+use Rattle.live_yard.specs.declared.requests.Reply.TheVariants.{NoReports, Tried, TriedBefore, TooSoon, NoTable}
 use Rattle.live_yard.specs.declared.requests.Served.{Served}
 use Rattle.live_yard.specs.declared.told.Told.TheVariants.{May, Arrived}
 use Rattle.live_yard.specs.declared.told.Told.{Told}
-use Rattle.live_yard.specs.Reported.{MayGoOn, NamesElsewhere, NamesNext, TellsTrain, after_table, granted, place_of, reported}
+use Rattle.live_yard.specs.Reported.{MayGoOn, NamesElsewhere, NamesNext, TellsTrain, after_table, granted, place_of}
+use Rattle.live_yard.specs.Reported.{reported}
 use Rattle.live_yard.specs.Firing.{DispatchState, Settles}
 
 -- the answer to a train that was told this, with the number of the line that comes next
@@ -51,7 +53,8 @@ abbrev pub Reports : DispatchState → ℕ → ℕ → Reply → DispatchState �
 Reports v i k NoReports w = (v.yard.reports ≡ false) × (w ≡ v)
 Reports v i k (NotThere at) w = (v.yard.reports ≡ true) × (at ≡ place_of v.yard i) × (at < k) × (w ≡ v)
 Reports v i k (There at) w =
-    (v.yard.reports ≡ true) × (k ≤ place_of v.yard i) × (w ≡ record v { yard = reported v.yard i k }) × (at ≡ place w.yard.there i)
+    (v.yard.reports ≡ true) × (k ≤ place_of v.yard i) × (w ≡ record v { yard = reported v.yard i k })
+    × (at ≡ place w.yard.there i)
 Reports v i k _ w = ⊥
 
 -- The next table is tried, or a table is named that isn't the next one.
@@ -59,10 +62,12 @@ abbrev pub TriesTable : DispatchState → Option ℕ → Reply → DispatchState
 TriesTable v table (NoTable n) w =
     (n ≡ length v.yard.run.tables) × ((t : ℕ) × (table ≡ Some t) × ((t ≡ 0) ⊎ (n ≤ t))) × (w ≡ v)
 TriesTable v table (TooSoon tried) w =
-    (tried ≡ v.yard.run.yard.tried) × ((t : ℕ) × (table ≡ Some t) × (tried + 1 < t) × (t < length v.yard.run.tables)) × (w ≡ v)
+    (tried ≡ v.yard.run.yard.tried) × ((t : ℕ) × (table ≡ Some t) × (tried + 1 < t) × (t < length v.yard.run.tables))
+    × (w ≡ v)
 TriesTable v table (TriedBefore n) w = ((t : ℕ) × (table ≡ Some t) × WasTried v.yard.run.lines t n) × (w ≡ v)
 TriesTable v table (Tried tried) w =
-    ((table ≡ None) ⊎ ((table ≡ Some (v.yard.run.yard.tried + 1)) × (v.yard.run.yard.tried + 1 < length v.yard.run.tables)))
+    ((table ≡ None) ⊎ ((table ≡ Some (v.yard.run.yard.tried + 1))
+    × (v.yard.run.yard.tried + 1 < length v.yard.run.tables)))
     × Tries v.yard.run.tables v.yard.run.yard tried × (w ≡ record v { yard = after_table v.yard tried })
 TriesTable v table _ w = ⊥
 

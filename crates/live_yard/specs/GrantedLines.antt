@@ -1,5 +1,6 @@
 -- Which line of a journal granted a train a place, or answered a table.
-use Rattle.std.specs.Prelude.{◌≡◌, ℕ, ◌+◌, ◌-◌, ◌<◌, ◌≤◌, ◌==◌, List, length, drop, count_by, slice_get, Bool, true, false, Option, Some, None}
+use Rattle.std.specs.Prelude.{◌≡◌, ℕ, ◌+◌, ◌-◌, ◌<◌, ◌≤◌, ◌==◌, List, length, drop, count_by, slice_get, Bool, true}
+use Rattle.std.specs.Prelude.{false, Option, Some, None}
 use Rattle.rail_model.specs.declared.types.Line.{Line}
 use Rattle.rail_model.specs.declared.types.Line.TheVariants.{Move, Table, KeptDiffers, KeptOver}
 use Rattle.live_yard.specs.declared.granted_lines.Passed.{Passed}

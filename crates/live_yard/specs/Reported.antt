@@ -1,5 +1,6 @@
 -- A run with reports: what its trains are told, and what a grant, a report and a table change.
-use Rattle.std.specs.Prelude.{◌≡◌, ℕ, ◌+◌, ◌-◌, ◌<◌, ◌≤◌, List, [], ◌∷◌, ◌++◌, length, max, slice_set, ◌⊎◌, Bool, true, false, if◌then◌else◌, Option, Some, None}
+use Rattle.std.specs.Prelude.{◌≡◌, ℕ, ◌+◌, ◌-◌, ◌<◌, ◌≤◌, List, [], ◌∷◌, ◌++◌, length, max, slice_set, ◌⊎◌, Bool, true}
+use Rattle.std.specs.Prelude.{false, if◌then◌else◌, Option, Some, None}
 use Rattle.rail_model.specs.declared.types.Tried.{Tried}
 use Rattle.rail_model.specs.declared.types.Line.{Line}
 use Rattle.rail_model.specs.Lines.{move_line}
@@ -52,7 +53,11 @@ stepped run i = record run { yard = moved run.yard i; lines = run.lines ++ move_
 
 -- the state after train i was granted its next place; without reports it is there at once
 abbrev pub granted : Reported → ℕ → Reported
-granted v i = record { run = stepped v.run i; there = if v.reports then v.there else advance v.there i; reports = v.reports }
+granted v i = record {
+  run = stepped v.run i;
+  there = if v.reports then v.there else advance v.there i;
+  reports = v.reports;
+}
 
 -- the state after a train was told: only a train that may go on is granted its next place
 abbrev pub after_told : Reported → ℕ → Told → Reported
@@ -69,7 +74,10 @@ forgotten v = record { run = v.run; there = positions_of v; reports = false }
 
 -- the run after the next table was tried, with its line where the table has its answer
 abbrev pub tried_on : PlainRun → Tried → PlainRun
-tried_on run tried = record run { yard = after_tried run.yard tried; lines = run.lines ++ tried_lines run.tables run.yard tried }
+tried_on run tried = record run {
+  yard = after_tried run.yard tried;
+  lines = run.lines ++ tried_lines run.tables run.yard tried;
+}
 
 abbrev pub after_table : Reported → Tried → Reported
 after_table v tried = record v { run = tried_on v.run tried }
@@ -94,8 +102,9 @@ abbrev pub NamesElsewhere : Reported → ℕ → Option ℕ → Elsewhere → Ty
 NamesElsewhere v i None found = ⊥
 NamesElsewhere v i (Some k) found = IsElsewhere v i k found
 
--- Of train i that is at a place after these lines: the place that it counts as having reported when a session with reports
--- begins. Where a line granted it the place where it is, it is still on its last step; else it is where it began.
+-- Of train i that is at a place after these lines: the place that it counts as having reported when a session with
+-- reports begins. Where a line granted it the place where it is, it is still on its last step; else it is where it
+-- began.
 abbrev pub IsFirstReport : List Line → ℕ → ℕ → ℕ → Type 0
 IsFirstReport lines i at k =
     (((n : ℕ) × WasGranted lines at i at n) × (k ≡ at - 1))
@@ -106,7 +115,8 @@ pub record AreFirstReports (lines : List Line) (p r : List ℕ) : Type 0 where
   pub behind : Reports p r
   pub first : (i : ℕ) → i < length p → IsFirstReport lines i (place p i) (place r i)
 
--- A session begins after these lines: with reports by first reports, and without them each train is where it was granted.
+-- A session begins after these lines: with reports by first reports, and without them each train is where it was
+-- granted.
 abbrev pub BeginsAt : List Line → List ℕ → Bool → List ℕ → Type 0
 BeginsAt lines p true r = AreFirstReports lines p r
 BeginsAt lines p false r = r ≡ p

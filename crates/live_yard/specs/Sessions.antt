@@ -5,7 +5,8 @@ use Rattle.rail_model.specs.declared.types.Line.{Line}
 use Rattle.rail_model.specs.Journal.{IsRight, after_lines}
 use Rattle.plain_yard.specs.Keeps.{PlainRun}
 use Rattle.live_yard.specs.declared.requests.Reply.{Reply}
-use Rattle.live_yard.specs.declared.requests.Reply.TheVariants.{Elsewhere, NotThere, NoReports, TriedBefore, TooSoon, NoTable}
+use Rattle.live_yard.specs.declared.requests.Reply.TheVariants.{Elsewhere, NotThere, NoReports, TriedBefore, TooSoon}
+use Rattle.live_yard.specs.declared.requests.Reply.TheVariants.{NoTable}
 use Rattle.live_yard.specs.declared.requests.Request.{Request}
 use Rattle.live_yard.specs.declared.requests.Request.TheVariants.{Ask, Table}
 use Rattle.live_yard.specs.declared.requests.Served.{Served}
@@ -16,7 +17,8 @@ use Rattle.live_yard.specs.Reported.{forgotten}
 -- Each request is served at the state after those before it.
 abbrev pub IsSession : DispatchState → List Request → List Served → DispatchState → Type 0
 IsSession v [] [] w = w ≡ v
-IsSession v (request ∷ later) (served ∷ rest) w = (u : DispatchState) × IsServed v request served u × IsSession u later rest w
+IsSession v (request ∷ later) (served ∷ rest) w = (u : DispatchState) × IsServed v request served u
+    × IsSession u later rest w
 IsSession v _ _ w = ⊥
 
 -- the same state of a session without reports, where no want stands: each train is where it was granted
@@ -29,7 +31,8 @@ IsPlain (Ask i named) = named ≡ None
 IsPlain (Table named) = named ≡ None
 IsPlain _ = ⊥
 
--- There is a session without reports and wants from one state to another, whose grants and lines are therefore the same.
+-- There is a session without reports and wants from one state to another, whose grants and lines are therefore the
+-- same.
 pub record PlainSession (v w : DispatchState) : Type 0 where
   pub requests : List Request
   pub served : List Served

@@ -1,6 +1,7 @@
 -- What a train is told: the yard's answer, and where that is Yes, what trains still take that haven't reported.
 use Rattle.std.specs.Prelude.{◌≡◌, ◌≢◌, ℕ, ◌+◌, ◌-◌, ◌<◌, ◌≤◌, ℤ, pos, ◌+ℤ◌, ◌<ℤ◌, List, length, Some}
-use Rattle.rail_model.specs.declared.types.Ask.TheVariants.{Arrived as ArrivedAsk, Occupied as OccupiedAsk, Full as FullAsk, Waits as WaitsAsk}
+use Rattle.rail_model.specs.declared.types.Ask.TheVariants.{Arrived as ArrivedAsk, Occupied as OccupiedAsk}
+use Rattle.rail_model.specs.declared.types.Ask.TheVariants.{Full as FullAsk, Waits as WaitsAsk}
 use Rattle.rail_model.specs.Move.{Answers, IsFirst, Move, advance}
 use Rattle.rail_model.specs.Sums.{total_below, greatest}
 use Rattle.rail_model.specs.Table.{Table, trains, point, limit, change, share, place}

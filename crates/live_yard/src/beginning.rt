@@ -19,13 +19,18 @@ fn first_report(lines: &[Line], train: u32, at: u32) -> u32
 }
 
 // The places that all trains count as having reported when a session with reports begins.
-fn first_reports(alloc: Global, lines: &[Line], positions: &State) -> Result<State, AllocError>
+fn first_reports(
+    alloc: Global,
+    trains: u32,
+    lines: &[Line],
+    positions: &State,
+) -> Result<State, AllocError>
     requires few { length lines.now < 2 ^ 31 }
-    requires trains { length positions.now ≤ 32 }
+    requires trains { trains ≡ length positions.now }
     ensures { IfOk result (λ there. AreFirstReports lines.now positions.now there) }
 {
     let mut there = positions.copy(alloc)?;
-    for train in 0..positions.len() as u32 {
+    for train in 0..trains {
         let place = first_report(lines, train, positions.place(train));
         there.set(train, place);
     }
@@ -35,16 +40,17 @@ fn first_reports(alloc: Global, lines: &[Line], positions: &State) -> Result<Sta
 /// The places where all trains count as being when a session begins.
 pub(crate) fn first_places(
     alloc: Global,
+    trains: u32,
     lines: &[Line],
     positions: &State,
     reports: bool,
 ) -> Result<State, AllocError>
     requires few { length lines.now < 2 ^ 31 }
-    requires trains { length positions.now ≤ 32 }
+    requires trains { trains ≡ length positions.now }
     ensures { IfOk result (λ there. BeginsAt lines.now positions.now reports there) }
 {
     if reports {
-        first_reports(alloc, lines, positions)
+        first_reports(alloc, trains, lines, positions)
     } else {
         positions.copy(alloc)
     }

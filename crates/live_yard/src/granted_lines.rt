@@ -23,7 +23,8 @@ fn is_move_of(line: Line, train: u32) -> bool
     matches!(line, Line::Move { train: other, .. } if other == train)
 }
 
-/// What a place is that a train has passed, or where it stands: granted by a line, or not after the place where it began.
+/// What a place is that a train has passed, or where it stands: granted by a line, or not after the place where it
+/// began.
 pub fn passed_place(lines: &[Line], train: u32, place: u32, now: u32) -> Passed
     requires few { length lines.now < 2 ^ 31 }
     requires passed { place ≤ now }

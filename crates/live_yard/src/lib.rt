@@ -1,5 +1,6 @@
-//! Answers requests for trains while they run: who may go on, who waits and why, and which wants are granted then. Below
-//! that: what a train is told beside trains that haven't reported, which line granted what, and the queue of wants.
+//! Answers requests for trains while they run: who may go on, who waits and why, and which wants are granted then.
+//! Below that: what a train is told beside trains that haven't reported, which line granted what, and the queue of
+//! wants.
 #![tactic(auto)]
 
 mod beginning;

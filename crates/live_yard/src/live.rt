@@ -23,7 +23,8 @@ impl<'a, A: CheckedTable> Model for LiveYard<'a, A> {
 
     ghost view = { λ s. record { yard = s.yard; wants = s.queue.wants } };
 
-    ghost invariant = { λ s. (s.queue.trains ≡ length s.yard.there) × IsSettled (record { yard = s.yard; wants = s.queue.wants }) };
+    ghost invariant = { λ s. (s.queue.trains ≡ length s.yard.there)
+        × IsSettled (record { yard = s.yard; wants = s.queue.wants }) };
 }
 
 impl<'a, A: CheckedTable> LiveYard<'a, A> {

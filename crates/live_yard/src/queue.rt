@@ -28,7 +28,8 @@ impl Model for WantQueue {
 
 // Where a train's want stands.
 fn index_of(wants: &[u32], train: u32) -> Option<usize>
-    ensures { MatchOption result (HasWant wants.now train → ⊥) (λ k. (k < length wants.now) × (slice_index wants.now k ≡ train)) }
+    ensures { MatchOption result (HasWant wants.now train → ⊥)
+        (λ k. (k < length wants.now) × (slice_index wants.now k ≡ train)) }
 {
     for index in 0..wants.len() {
         if wants[index] == train {

@@ -10,7 +10,7 @@ ghost use Rattle.live_yard.specs.Reported.{stepped};
 use crate::beginning::first_places;
 use crate::{Elsewhere, Told, answer_of, passed_place, tell};
 use plain_yard::{CheckedTable, PlainYard};
-use rail_model::{Ask, State, Tried, last_of};
+use rail_model::{Ask, State, Tried, last_of, trains_of};
 use std::alloc::{AllocError, Global};
 use std::marker::Model;
 
@@ -36,10 +36,12 @@ impl<'a, A: CheckedTable> Model for ReportedYard<'a, A> {
 impl<'a, A: CheckedTable> ReportedYard<'a, A> {
     ghost use Rattle.std.specs.Prelude.{IfOk};
     ghost use Rattle.live_yard.specs.GrantedLines.{WasTried};
-    ghost use Rattle.live_yard.specs.Reported.{after_table, after_told, granted, positions_of, BeginsAt, reported, table_of, place_of, IsElsewhere, IsNext, IsReported, MayGoOn, TellsTrain};
+    ghost use Rattle.live_yard.specs.Reported.{after_table, after_told, granted, positions_of, BeginsAt, reported};
+    ghost use Rattle.live_yard.specs.Reported.{table_of, place_of, IsElsewhere, IsNext, IsReported, MayGoOn};
+    ghost use Rattle.live_yard.specs.Reported.{TellsTrain};
 
-    /// A session at the end of a run. Without reports each train is where it was granted. With them a train that was granted
-    /// the place where it is, by a line of the journal, counts as still on its last step until it reports.
+    /// A session at the end of a run. Without reports each train is where it was granted. With them a train that was
+    /// granted the place where it is, by a line of the journal, counts as still on its last step until it reports.
     ///
     /// # Errors
     ///
@@ -49,9 +51,8 @@ impl<'a, A: CheckedTable> ReportedYard<'a, A> {
         ensures reports { IfOk result (λ begun. begun.reports ≡ reports) }
         ensures there { IfOk result (λ begun. BeginsAt begun.run.lines (positions_of begun) reports begun.there) }
     {
-        // Read for the proof: the state is legal, and the lines are few.
-        let _table = run.live_in_force();
-        let there = first_places(alloc, run.lines(), run.yard().positions(), reports)?;
+        let trains = trains_of(run.live_in_force());
+        let there = first_places(alloc, trains, run.lines(), run.yard().positions(), reports)?;
         Ok(ReportedYard {
             run,
             there,
@@ -178,7 +179,8 @@ impl<'a, A: CheckedTable> ReportedYard<'a, A> {
 
 // A train that may move asks, and so it has moved.
 fn move_train<A: CheckedTable>(run: &mut PlainYard<'_, A>, train: u32)
-    requires { Move (in_force run.old.tables run.old.yard) run.old.yard.positions train (advance run.old.yard.positions train) }
+    requires { Move (in_force run.old.tables run.old.yard) run.old.yard.positions train
+        (advance run.old.yard.positions train) }
     ensures moved { run.new ≡ stepped run.old train }
     ensures keeps { Keeps run.new.tables run.new.yard run.new.lines }
     ensures few { length run.new.lines ≤ most_lines }

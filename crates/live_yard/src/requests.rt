@@ -55,7 +55,8 @@ pub enum Reply {
     NoTable { tables: u32 },
 }
 
-/// What one request gave: its answer, and how many standing wants were granted after it. Their moves are the last lines of the journal.
+/// What one request gave: its answer, and how many standing wants were granted after it. Their moves are the last lines
+/// of the journal.
 #[derive(Clone, Copy)]
 pub struct Served {
     pub reply: Reply,

@@ -1,6 +1,7 @@
 // Requests, one by one, before standing wants are tried.
 ghost use Rattle.std.specs.Prelude.{◌≡◌, ◌<◌, ℕ, List, length, MatchOption};
-ghost use Rattle.live_yard.specs.Answers.{told_reply, Asks, AsksAt, IsOfRun, Reports, Serves, StandsIfHeld, StandsLast, TriesTable, Wants as IsWanted, WantsAt};
+ghost use Rattle.live_yard.specs.Answers.{told_reply, Asks, AsksAt, IsOfRun, Reports, Serves, StandsIfHeld, StandsLast};
+ghost use Rattle.live_yard.specs.Answers.{TriesTable, Wants as IsWanted, WantsAt};
 ghost use Rattle.live_yard.specs.Reported.{NamesElsewhere, NamesNext};
 
 use crate::{Elsewhere, Reply, ReportedYard, Request, Told, WantQueue};
@@ -34,7 +35,8 @@ fn reply_of(told: Told, line: u32) -> Reply
 // A train asks for its next place.
 fn ask<A: CheckedTable>(yard: &mut ReportedYard<'_, A>, train: u32) -> Reply
     requires { train < length yard.old.there }
-    ensures asks { (wants : List ℕ) → Asks (record { yard = yard.old; wants = wants }) train result (record { yard = yard.new; wants = wants }) }
+    ensures asks { (wants : List ℕ)
+        → Asks (record { yard = yard.old; wants = wants }) train result (record { yard = yard.new; wants = wants }) }
     ensures size { length yard.new.there ≡ length yard.old.there }
 {
     let line = yard.run().lines().len() as u32 + 1;
@@ -69,7 +71,8 @@ fn stand_if_held(queue: &mut WantQueue, told: Told, train: u32)
 fn want<A: CheckedTable>(yard: &mut ReportedYard<'_, A>, queue: &mut WantQueue, train: u32) -> Reply
     requires train { train < length yard.old.there }
     requires trains { queue.old.trains ≡ length yard.old.there }
-    ensures wants { IsWanted (record { yard = yard.old; wants = queue.old.wants }) train result (record { yard = yard.new; wants = queue.new.wants }) }
+    ensures wants { IsWanted (record { yard = yard.old; wants = queue.old.wants }) train result
+        (record { yard = yard.new; wants = queue.new.wants }) }
     ensures trains { queue.new.trains ≡ length yard.new.there }
 {
     let line = yard.run().lines().len() as u32 + 1;
@@ -81,7 +84,9 @@ fn want<A: CheckedTable>(yard: &mut ReportedYard<'_, A>, queue: &mut WantQueue, 
 // A train reports that it is wholly at a place, and that all behind it is clear.
 fn report<A: CheckedTable>(yard: &mut ReportedYard<'_, A>, train: u32, place: u32) -> Reply
     requires { train < length yard.old.there }
-    ensures reports { (wants : List ℕ) → Reports (record { yard = yard.old; wants = wants }) train place result (record { yard = yard.new; wants = wants }) }
+    ensures reports { (wants : List ℕ)
+        → Reports (record { yard = yard.old; wants = wants }) train place result
+        (record { yard = yard.new; wants = wants }) }
     ensures size { length yard.new.there ≡ length yard.old.there }
 {
     if !yard.reports() {
@@ -99,7 +104,9 @@ fn report<A: CheckedTable>(yard: &mut ReportedYard<'_, A>, train: u32, place: u3
 
 // Tries the next table, or says of the one that is named why it isn't the next.
 fn try_table<A: CheckedTable>(yard: &mut ReportedYard<'_, A>, table: Option<u32>) -> Reply
-    ensures tries { (wants : List ℕ) → TriesTable (record { yard = yard.old; wants = wants }) table result (record { yard = yard.new; wants = wants }) }
+    ensures tries { (wants : List ℕ)
+        → TriesTable (record { yard = yard.old; wants = wants }) table result
+        (record { yard = yard.new; wants = wants }) }
     ensures size { length yard.new.there ≡ length yard.old.there }
 {
     let Some(table) = table else {
@@ -128,7 +135,9 @@ fn try_table<A: CheckedTable>(yard: &mut ReportedYard<'_, A>, table: Option<u32>
 // A train asks for its next place, or for the one that is named.
 fn ask_at<A: CheckedTable>(yard: &mut ReportedYard<'_, A>, train: u32, place: Option<u32>) -> Reply
     requires { train < length yard.old.there }
-    ensures asks { (wants : List ℕ) → AsksAt (record { yard = yard.old; wants = wants }) train place result (record { yard = yard.new; wants = wants }) }
+    ensures asks { (wants : List ℕ)
+        → AsksAt (record { yard = yard.old; wants = wants }) train place result
+        (record { yard = yard.new; wants = wants }) }
     ensures size { length yard.new.there ≡ length yard.old.there }
 {
     match elsewhere(yard, train, place) {
@@ -146,7 +155,8 @@ fn want_at<A: CheckedTable>(
 ) -> Reply
     requires train { train < length yard.old.there }
     requires trains { queue.old.trains ≡ length yard.old.there }
-    ensures wants { WantsAt (record { yard = yard.old; wants = queue.old.wants }) train place result (record { yard = yard.new; wants = queue.new.wants }) }
+    ensures wants { WantsAt (record { yard = yard.old; wants = queue.old.wants }) train place result
+        (record { yard = yard.new; wants = queue.new.wants }) }
     ensures trains { queue.new.trains ≡ length yard.new.there }
 {
     match elsewhere(yard, train, place) {
@@ -163,7 +173,8 @@ pub(crate) fn answer<A: CheckedTable>(
 ) -> Reply
     requires request { IsOfRun (length yard.old.there) request }
     requires trains { queue.old.trains ≡ length yard.old.there }
-    ensures serves { Serves (record { yard = yard.old; wants = queue.old.wants }) request result (record { yard = yard.new; wants = queue.new.wants }) }
+    ensures serves { Serves (record { yard = yard.old; wants = queue.old.wants }) request result
+        (record { yard = yard.new; wants = queue.new.wants }) }
     ensures trains { queue.new.trains ≡ length yard.new.there }
 {
     match request {

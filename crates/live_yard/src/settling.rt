@@ -42,13 +42,15 @@ fn fire<A: CheckedTable>(yard: &mut ReportedYard<'_, A>, queue: &mut WantQueue, 
     yard.grant(train);
 }
 
-/// Grants standing wants, each time the first in the order of coming that can be granted, until none can be; and says how many.
+/// Grants standing wants, each time the first in the order of coming that can be granted, until none can be; and says
+/// how many.
 pub(crate) fn settle<A: CheckedTable>(
     yard: &mut ReportedYard<'_, A>,
     queue: &mut WantQueue,
 ) -> usize
     requires { queue.old.trains ≡ length yard.old.there }
-    ensures settles { Settles (record { yard = yard.old; wants = queue.old.wants }) (record { yard = yard.new; wants = queue.new.wants }) result }
+    ensures settles { Settles (record { yard = yard.old; wants = queue.old.wants })
+        (record { yard = yard.new; wants = queue.new.wants }) result }
     ensures trains { queue.new.trains ≡ length yard.new.there }
 {
     let before = queue.len();

@@ -10,4 +10,4 @@ returns-in-Full-clause-below c =
 pub returns-in-Clearing-clause-below : goal.returns-in-Clearing-clause-below
 returns-in-Clearing-clause-below c =
     all_below (still_counts c.args.scene.now c.in-Clearing.section)
-    (trains c.args.scene.now.table) _ c.still_counted.ensures
+    (trains c.args.scene.now.table) _ c.counted-in-Clearing.ensures

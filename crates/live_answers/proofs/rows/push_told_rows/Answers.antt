@@ -14,7 +14,7 @@ pub loop-train-preserved : goal.loop-train-preserved
 loop-train-preserved c =
     one_more (λ i. IsToldRow c.args.names.now c.args.scene.now c.args.tag.now i (told_at c.args.tolds.now i))
     c.loop-train.train
-    c.args.out.now.items c.loop-train.out.items _ c.loop-train.invariant c.in_ok-push_told_row.ensures
+    c.args.out.now.items c.loop-train.out.items _ c.loop-train.invariant c.in_ok-push_told_text.ensures
 
 pub returns : goal.returns
 returns c =

@@ -12,7 +12,7 @@ loop-train-preserved c =
     let i = c.loop-train.train in
     let k = c.first_report-place.result in
     let before = c.loop-train.invariant in
-    let here : i < length r = omega (arith, before.one_each, c.loop-train-test.true, c.len-train-end.ensures) in
+    let here : i < length r = omega (arith, before.one_each, c.loop-train-test.true, c.requires.trains) in
     let low : k ≤ place p i = omega (arith, c.first_report-place.ensures.behind, c.place.ensures) in
     let first : IsFirstReport c.args.lines.now i (place p i) k =
     subst (λ (at : ℕ). IsFirstReport c.args.lines.now i at k) c.place.ensures c.first_report-place.ensures.first in

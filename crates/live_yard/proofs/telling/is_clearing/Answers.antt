@@ -1,4 +1,5 @@
-use Rattle.std.proofs.Common.{◌≡◌, ℕ, ◌+◌, ◌≤◌, ℤ, pos, negsuc, ◌+ℤ◌, ◌<ℤ◌, ◌≤ℤ◌, to_z, of_z, w32, IsTrue, arith, ap, ◌∙◌}
+use Rattle.std.proofs.Common.{◌≡◌, ℕ, ◌+◌, ◌≤◌, ℤ, pos, negsuc, ◌+ℤ◌, ◌<ℤ◌, ◌≤ℤ◌, to_z, of_z, w32, IsTrue, arith, ap}
+use Rattle.std.proofs.Common.{◌∙◌}
 use Rattle.std.specs.Int.Signed.{lt_z}
 use Rattle.std.proofs.lemmas.Int.{ints}
 use Rattle.rail_model.specs.Table.{place, change}
@@ -22,7 +23,8 @@ overflow_add-result c =
     let next = share_next T i s (place p i) in
     let few = table.few_trains in
     let small = c.taken_of-taken.ensures.small in
-    let more : c.change_at-more.result ≡ change T i s (place p i + 1) = c.change_at-more.ensures.change ∙ ap (change T i s) c.requires.next.0 in
+    let more : c.change_at-more.result ≡ change T i s (place p i + 1) =
+    c.change_at-more.ensures.change ∙ ap (change T i s) c.requires.next.0 in
     grind (arith, ints)
 
 pub returns : goal.returns
@@ -39,11 +41,14 @@ returns c =
     let small = c.taken_of-taken.ensures.small in
     let taken_is = c.taken_of-taken.ensures.taken in
     let low = (table.sections s c.requires.section).low_limit in
-    let more : c.change_at-more.result ≡ change T i s (place p i + 1) = c.change_at-more.ensures.change ∙ ap (change T i s) c.requires.next.0 in
+    let more : c.change_at-more.result ≡ change T i s (place p i + 1) =
+    c.change_at-more.ensures.change ∙ ap (change T i s) c.requires.next.0 in
     let positive = c.if-more-le0.false in (
       λ e. (c.requires.section, grind (arith, ints), grind (arith, ints)),
       λ clearing.
           is_above c.limit_of-limit.result c.taken_of-taken.result c.change_at-more.result
-          (omega (arith, c.limit_of-limit.ensures.limit)) (omega (arith, small)) (grind (arith, ints)) (grind (arith, ints))
-          (let over = clearing.2 in let limit_is = c.limit_of-limit.ensures.limit in omega (arith, ints, over, limit_is, more, taken_is)),
+          (omega (arith, c.limit_of-limit.ensures.limit)) (omega (arith, small)) (grind (arith, ints))
+          (grind (arith, ints))
+          (let over = clearing.2 in let limit_is = c.limit_of-limit.ensures.limit in
+          omega (arith, ints, over, limit_is, more, taken_is)),
     )

@@ -10,10 +10,12 @@ loop-other-preserved c =
     let T = c.args.table.now in
     let q = leaving.1.0 in
     let ahead : Some q ≡ Some c.in_ok-next.next =
-    sym leaving.1.1 ∙ ap (λ (k : ℕ). point T c.args.train (k + 1)) (sym c.place.ensures) ∙ sym c.point_of.ensures ∙ c.in_ok-next.was in
+    sym leaving.1.1 ∙ ap (λ (k : ℕ). point T c.args.train (k + 1)) (sym c.place.ensures) ∙ sym c.point_of.ensures
+    ∙ c.in_ok-next.was in
     let same : q ≡ c.in_ok-next.next = cc in
     iff_false c.has_passed.ensures c.if-has_passed.false
-    (passed_as T c.loop-other.other (place c.args.there.now c.loop-other.other) (place c.args.state.now c.loop-other.other) _ _ q _
+    (passed_as T c.loop-other.other (place c.args.there.now c.loop-other.other)
+    (place c.args.state.now c.loop-other.other) _ _ q _
     c.place-in-loop-other.ensures c.place-in-loop-other-2.ensures same leaving.1.2))
 
 pub returns : goal.returns

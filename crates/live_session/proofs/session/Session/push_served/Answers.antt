@@ -17,7 +17,7 @@ returns g c =
     let lines = c.lines-lines.ensures.lines in
     let own = c.in_ok-push_lines.ensures in
     let answer = c.in_ok-push_reply.ensures in
-    let fired = c.in_ok-push_fired_lines.ensures in
+    let fired = c.in_ok-push_lines-2.ensures in
     let names = ap (λ (t : SessionState). t.names) c.self.view_is in
     let own_rows = λ (N : Names) (ls : List Line).
     AreRows (IsLineRow N ls c.args.start.line) (length ls - served.granted - c.args.start.line) own.0 in

@@ -13,6 +13,7 @@ returns-clause-served g c =
     record {
       between = between;
       serves = subst
-          (λ (v : DispatchState). Serves v c.args.request c.answer-reply.result between) c.self.view_is c.answer-reply.ensures.serves;
+          (λ (v : DispatchState). Serves v c.args.request c.answer-reply.result between)
+          c.self.view_is c.answer-reply.ensures.serves;
       settles = c.settle-granted.ensures.settles;
     }
