@@ -97,9 +97,15 @@ pub(crate) const SURE: Faults<'static> = Faults {
     writes: &[],
 };
 
-/// Texts one after the other, in which `/` ends a line.
-pub(crate) fn joined(alloc: Global, parts: &[&str]) -> Result<Vec<u8>, AllocError> {
-    let text = parts.concat(alloc)?;
+/// Four texts one after the other, in which `/` ends a line.
+pub(crate) fn joined<'a>(
+    alloc: Global,
+    first: &'a str,
+    second: &'a str,
+    third: &'a str,
+    fourth: &'a str,
+) -> Result<Vec<u8>, AllocError> {
+    let text = [first, second, third, fourth].concat(alloc)?;
     Ok(text.replace(alloc, "/", "\n")?.into_bytes())
 }
 
@@ -141,7 +147,7 @@ fn wrote(alloc: Global, played: &Played, exit_code: &str, text: &str) -> Result<
         ("ats: ", told, played.written.as_slice())
     };
     let text = document_called(text).unwrap_or(text);
-    let answer = joined(alloc, &[before, text, "/"])?;
+    let answer = joined(alloc, before, text, "/", "")?;
     Ok(said == answer.as_slice() && rest.is_empty())
 }
 
@@ -175,7 +181,7 @@ fn input_called(alloc: Global, input: &str) -> Result<Vec<u8>, AllocError> {
     }
     let document = document_called(name).unwrap_or("");
     let between = if journal.is_empty() { "" } else { "/journal/" };
-    joined(alloc, &[document, between, journal])
+    joined(alloc, document, between, journal, "")
 }
 
 /// Whether a call by devices that never fail ends as its row says.

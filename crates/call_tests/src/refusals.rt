@@ -205,7 +205,7 @@ fn is_refused(
     let (part, answer) = row.split_once(" => ").unwrap_or((row, ""));
     let document = document_called(frame.document).unwrap_or("");
     let members = document.strip_suffix('}').unwrap_or("");
-    let input = joined(alloc, &[members, frame.before, part, frame.after])?;
+    let input = joined(alloc, members, frame.before, part, frame.after)?;
     is_answered(rt, alloc, &NoGate, frame.words, input, answer)
 }
 
