@@ -287,6 +287,10 @@ fn stops(
 #[test]
 fn a_device_that_fails_ends_the_call(rt: HostRuntime) {
     for stop in &STOPS {
-        assert!(rt; matches!(stops(&rt, rt.alloc(), stop), Ok(true)));
+        assert!(rt;
+            matches!(stops(&rt, rt.alloc(), stop), Ok(true)),
+            "{} bytes",
+            stop.written
+        );
     }
 }
