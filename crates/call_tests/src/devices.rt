@@ -1,53 +1,50 @@
 // Devices: those in memory, and the adapters of the system's readers and writers.
-use ats_io::{
-    Gate, MemSink, Moment, NoGate, Reading, SureSink, SureSource, Writing, read_all, write_all,
-};
+use ats_io::{MemSink, Reading, SureSink, SureSource, Writing, read_all, write_all};
 use std::alloc::Global;
 use std::io;
 use std::io::{ErrorKind, Read, Write};
 use std::marker::Brand;
-use std::test::Fail;
 
-// The journal of the first path, 49 bytes.
+/// The journal of the first path, 49 bytes.
 pub(crate) fn first_path_journal() -> &'static [u8] {
     b"1 move T0 A B\n2 move T0 B C\nend moves=2 tables=0\n"
 }
 
-// As many bytes as there is room for.
-fn many(alloc: Global) -> Result<Vec<u8>, Fail> {
-    let mut source = SureSource::new(vec![in alloc; 7; 1_048_576]?);
-    Ok(read_all(alloc, &mut source, 1_048_576)?)
-}
-
-// Whether a sink takes these bytes, and then no more.
-fn is_filled(sink: &mut MemSink<Brand>, bytes: &[u8]) -> bool {
-    write_all(sink, bytes).is_ok() && sink.bytes() == bytes && write_all(sink, b"8").is_err()
-}
-
-#[test]
-fn a_sink_that_fails_has_its_room(rt: HostRuntime) -> Result<(), Fail> {
-    let alloc = rt.alloc();
-    let bytes = many(alloc)?;
-    let mut sink = MemSink::<Brand>::new(alloc, 1_000_000, Vec::new(alloc))?;
-    assert!(rt; is_filled(&mut sink, &bytes));
-    Ok(())
+// Whether a sink that has room for these bytes takes them, and then no more.
+fn is_filled(alloc: Global, bytes: &[u8]) -> bool {
+    let Ok(mut sink) = MemSink::<Brand>::new(alloc, 1_000_000, Vec::new(alloc)) else {
+        return false;
+    };
+    write_all(&mut sink, bytes).is_ok()
+        && sink.bytes() == bytes
+        && write_all(&mut sink, b"8").is_err()
 }
 
 // Whether a sink that never fails keeps these bytes, and nothing once it has taken one more.
-fn is_passed(sink: &mut SureSink, bytes: &[u8]) -> bool {
-    write_all(sink, bytes).is_ok()
+fn is_passed(alloc: Global, bytes: &[u8]) -> bool {
+    let Ok(mut sink) = SureSink::new(alloc) else {
+        return false;
+    };
+    write_all(&mut sink, bytes).is_ok()
         && sink.bytes() == Some(bytes)
-        && write_all(sink, b"8").is_ok()
+        && write_all(&mut sink, b"8").is_ok()
         && sink.bytes().is_none()
 }
 
+// Whether sinks take as many bytes as there is room for.
+fn have_their_room(alloc: Global) -> bool {
+    let Ok(given) = vec![in alloc; 7; 1_048_576] else {
+        return false;
+    };
+    match read_all(alloc, &mut SureSource::new(given), 1_048_576) {
+        Ok(bytes) => is_filled(alloc, &bytes) && is_passed(alloc, &bytes),
+        Err(_) => false,
+    }
+}
+
 #[test]
-fn a_sure_sink_has_its_room(rt: HostRuntime) -> Result<(), Fail> {
-    let alloc = rt.alloc();
-    let bytes = many(alloc)?;
-    let mut sink = SureSink::new(alloc)?;
-    assert!(rt; is_passed(&mut sink, &bytes));
-    Ok(())
+fn sinks_have_their_room(rt: HostRuntime) {
+    assert!(rt; have_their_room(rt.alloc()));
 }
 
 // A device that fails at all, or at the flush, or takes nothing.
@@ -55,14 +52,6 @@ fn a_sure_sink_has_its_room(rt: HostRuntime) -> Result<(), Fail> {
 struct Device {
     taken: Option<usize>,
     is_flushed: bool,
-}
-
-fn done(is_done: bool) -> io::Result<()> {
-    if is_done {
-        Ok(())
-    } else {
-        Err(io::Error::from(ErrorKind::Other))
-    }
 }
 
 impl Read for Device {
@@ -73,12 +62,18 @@ impl Read for Device {
 
 impl Write for Device {
     fn write(&mut self, buf: &[u8]) -> io::Result<usize> {
-        done(self.taken.is_some())?;
-        Ok(self.taken.unwrap_or(0).min(buf.len()))
+        match self.taken {
+            Some(most) => Ok(most.min(buf.len())),
+            None => Err(io::Error::from(ErrorKind::Other)),
+        }
     }
 
     fn flush(&mut self) -> io::Result<()> {
-        done(self.is_flushed)
+        if self.is_flushed {
+            Ok(())
+        } else {
+            Err(io::Error::from(ErrorKind::Other))
+        }
     }
 }
 
@@ -88,19 +83,13 @@ fn takes_all(taken: Option<usize>, is_flushed: bool) -> bool {
     write_all(&mut Writing::new(device), first_path_journal()).is_ok()
 }
 
-// A text that is read and written by the adapters.
-fn handed_on(alloc: Global, text: &[u8]) -> Result<Vec<u8>, Fail> {
-    let bytes = read_all(alloc, &mut Reading::new(text), 49)?;
-    let mut written = Vec::new(alloc);
-    write_all(&mut Writing::new(&mut written), &bytes)?;
-    Ok(written)
-}
-
-#[test]
-fn the_adapters_hand_bytes_on(rt: HostRuntime) -> Result<(), Fail> {
-    let written = handed_on(rt.alloc(), first_path_journal())?;
-    assert!(rt; written.as_slice() == first_path_journal());
-    Ok(())
+// Whether a device that fails at all is read to its end.
+fn is_read(alloc: Global) -> bool {
+    let broken = Device {
+        taken: None,
+        is_flushed: true,
+    };
+    read_all(alloc, &mut Reading::new(broken), 49).is_ok()
 }
 
 #[test]
@@ -109,18 +98,20 @@ fn the_adapters_count_faults(rt: HostRuntime) {
     assert!(rt; !takes_all(Some(9), false));
     assert!(rt; !takes_all(Some(0), true));
     assert!(rt; takes_all(Some(9), true));
-    let broken = Device {
-        taken: None,
-        is_flushed: true,
-    };
-    assert!(rt; read_all(rt.alloc(), &mut Reading::new(broken), 49).is_err());
+    assert!(rt; !is_read(rt.alloc()));
 }
 
-fn pass_by<G: Gate>(gate: &G) {
-    gate.at(0, Moment::Taken);
+// Whether the adapters write a text and read it as it is.
+fn is_handed_on(alloc: Global, text: &[u8]) -> bool {
+    let mut written = Vec::new(alloc);
+    let is_written = write_all(&mut Writing::new(&mut written), text).is_ok();
+    match read_all(alloc, &mut Reading::new(written.as_slice()), 49) {
+        Ok(bytes) => is_written && bytes.as_slice() == text,
+        Err(_) => false,
+    }
 }
 
 #[test]
-fn no_gate_holds_nobody(_rt: HostRuntime) {
-    pass_by(&NoGate);
+fn the_adapters_hand_bytes_on(rt: HostRuntime) {
+    assert!(rt; is_handed_on(rt.alloc(), first_path_journal()));
 }

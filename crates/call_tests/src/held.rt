@@ -1,35 +1,25 @@
 // A run by threads under a gate that holds a pass with its zones until another one has given its own back.
-use crate::examples::{SURE, is_told, line};
+use crate::examples::is_right;
 use ats_io::{Gate, Moment};
-use ats_rows::{Played, play};
-use ats_run::Status;
-use std::alloc::Global;
-use std::sync::Wait;
-use std::sync::atomic::{AtomicBool, Ordering};
-use std::test::Fail;
-use std::thread::{Threads, yield_now};
+use std::sync::atomic::{AtomicBool, AtomicU8, Ordering};
+use std::thread::yield_now;
 
-// Four zones: T0 needs zones 0 and 1, T1 zones 2 and 3, and T2 zone 1.
-const THREE_TRACKS: &str =
-    r#"{"version":1,"points":[["A",0],["B",1],["C",2],["D",3],["E",1],["F",1]],"links":[["A","B"],["C","D"],["E","F"]],"zones":4,"trains":["T0","T1","T2"],"start":[0,0,0],"tables":[{"missions":[["A","B"],["C","D"],["E","F"]],"certificate":[[0,0,0],[4,0],[0,1,0],[4,1],[0,2,0],[4,2],[3]]}]}"#;
+// Pass 1 is served while pass 0 holds its zones, so its move comes first; pass 2, which needs one of them, is served
+// last.
+const ROW: &str =
+    "run --workers 3: three-tracks => 0 1 move T1 C D/2 move T0 A B/3 move T2 E F/end moves=3 tables=0";
 
-// Pass 1 was served while pass 0 held its zones, so its move comes first; pass 2, which needs one of them, was served last.
-const JOURNAL: &str = "\
-1 move T1 C D
-2 move T0 A B
-3 move T2 E F
-end moves=3 tables=0
-";
-
-// How many turns a pass is held at most: far more than it takes, so that the test ends where the other pass never comes.
+// How many turns a pass is held at most: far more than it takes, so that the test ends where the other pass never
+// comes.
 const MOST_TURNS: u32 = 1_000_000_000;
 
-// Holds pass 0, once it has its zones, until pass 1 has given its own back; and passes 1 and 2, which have none yet, until pass 0 has its zones.
+// Holds pass 0, once it has its zones, until pass 1 has given its own back; and passes 1 and 2, which have none yet,
+// until pass 0 has its zones. It has a bit for each pass that went on.
 #[derive(Drop)]
 struct Hold {
     taken: AtomicBool,
     released: AtomicBool,
-    went_on: [AtomicBool; 3],
+    went_on: AtomicU8,
 }
 
 impl Hold {
@@ -37,23 +27,20 @@ impl Hold {
         Hold {
             taken: AtomicBool::new(false),
             released: AtomicBool::new(false),
-            went_on: [
-                AtomicBool::new(false),
-                AtomicBool::new(false),
-                AtomicBool::new(false),
-            ],
+            went_on: AtomicU8::new(0),
         }
     }
-}
 
-// Waits for a flag, and then raises another. Where the flag doesn't come within the turns, the other one stays down.
-fn follow(flag: &AtomicBool, raised: &AtomicBool) {
-    for _turn in 0..MOST_TURNS {
-        if flag.load(Ordering::SeqCst) {
-            raised.store(true, Ordering::SeqCst);
-            return;
+    // Waits for a flag, and then sets the bit of a pass. Where the flag doesn't come within the turns, the bit isn't
+    // set.
+    fn follow(&self, flag: &AtomicBool, pass: u8) {
+        for _turn in 0..MOST_TURNS {
+            if flag.load(Ordering::SeqCst) {
+                self.went_on.fetch_or(pass, Ordering::SeqCst);
+                return;
+            }
+            yield_now();
         }
-        yield_now();
     }
 }
 
@@ -62,36 +49,19 @@ impl Gate for Hold {
         match (who, moment) {
             (0, Moment::Taken) => {
                 self.taken.store(true, Ordering::SeqCst);
-                follow(&self.released, &self.went_on[0]);
+                self.follow(&self.released, 1);
             }
-            (1, Moment::Glanced) => follow(&self.taken, &self.went_on[1]),
-            (2, Moment::Glanced) => follow(&self.taken, &self.went_on[2]),
+            (1, Moment::Glanced) => self.follow(&self.taken, 2),
+            (2, Moment::Glanced) => self.follow(&self.taken, 4),
             (1, Moment::Released) => self.released.store(true, Ordering::SeqCst),
             _ => {}
         }
     }
 }
 
-// A run of the three trains under the gate.
-fn run_under(
-    rt: &(impl Threads + Wait + Sync),
-    alloc: Global,
-    gate: &Hold,
-) -> Result<Played, Fail> {
-    let words = line(alloc, "run --workers 3")?;
-    let input = Vec::from_slice(alloc, THREE_TRACKS.as_bytes())?;
-    Ok(play(rt, alloc, &words, input, SURE, gate)?)
-}
-
 #[test]
-fn zones_are_not_one_lock(rt: HostRuntime) -> Result<(), Fail> {
-    let alloc = rt.alloc();
+fn zones_are_not_one_lock(rt: HostRuntime) {
     let gate = Hold::new();
-    let played = run_under(&rt, alloc, &gate)?;
-    for went_on in &gate.went_on {
-        assert!(rt; went_on.load(Ordering::SeqCst));
-    }
-    assert!(rt; played.status == Status::Done && is_told(&played, b""));
-    assert!(rt; played.written.as_slice() == JOURNAL.as_bytes());
-    Ok(())
+    let is_served = matches!(is_right(&rt, rt.alloc(), &gate, ROW), Ok(true));
+    assert!(rt; is_served && gate.went_on.load(Ordering::SeqCst) == 7);
 }

@@ -1,8 +1,11 @@
-//! Tests of public calls: worked examples through the whole program, and on values from outside what the program doesn't reach.
+//! Tests of public calls: worked examples through the whole program, and on values from outside what the program doesn't
+//! reach.
 #![tactic(auto)]
 
 #[cfg(test)]
 mod alone;
+#[cfg(test)]
+mod certificates;
 #[cfg(test)]
 mod devices;
 #[cfg(test)]
@@ -12,14 +15,10 @@ mod examples;
 #[cfg(test)]
 mod held;
 #[cfg(test)]
-mod large;
-#[cfg(test)]
 mod orders;
 #[cfg(test)]
 mod refusals;
 #[cfg(test)]
 mod steps;
-#[cfg(test)]
-mod trees;
 #[cfg(test)]
 mod yards;

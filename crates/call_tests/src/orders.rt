@@ -1,9 +1,10 @@
 // The words of command lines, one space between two words, and the orders that they ask for.
+use crate::examples::line;
 use command_words::{Order, WordsRefused, words};
 use std::alloc::{AllocError, Global};
-use std::test::Fail;
 
-const TAKEN: &str = "\
+// A command line, and its order with three numbers, or that it is refused. The first that is refused has no word.
+const LINES: &str = "\
 run: Run 0 1000 1
 run --: Run 0 1000 1
 run --rounds 5: Run 0 5 1
@@ -29,76 +30,74 @@ gen --trains 32 --seed 4294967295: Generate 4294967295 32 0
 drill --seed 7 --trains=0 --workers 0: Drill 7 0 0
 drill --workers 16: Drill 0 2 16
 weave: Weave 0 0 0
-weave --steps=1000000 --seed 7: Weave 7 1000000 0";
-
-// The first line is empty: one empty word.
-const REFUSED: &str = "
-help
---help
--h
---version
--V
-run --help
-run -h
-check --version
-help run
-run --rounds +3
-run --rounds 03
-run --rounds -3
-run --rounds=-0
-run --rounds=
-run --rounds 
-run --rounds 3x
-run --rounds 0x3
-run --rounds 1e3
-run --rounds
-run --workers 17
-run --rounds 1000001
-make --budget 0
-make --budget 1000001
-make --budget 4294967297
-resume --workers 17
-run --block 0
-run --block 5
-resume --block 5
-resume --rounds 1000001
-run --rounds 3 --rounds 3
-run --rounds=3 --rounds 4
-run --round 3
-run --Rounds 3
-run -rounds 3
-run -r 3
-run --=3
-run -
-run extra
-run run
-run check
-run -- extra
--- run
---
-run --rounds --
---rounds 3 run
-check --rounds 3
-resume --budget 3
-ru
-RUN
-derive --most 1
-derive --most 9
-derive --budget 0
-derive --rounds 3
-repair --rounds 10001
-repair --most 2
-sim --seed 1
-gen --seed 4294967296
-gen --trains 33
-gen --workers 0
-drill --workers 17
-drill --block 1
-drill --rounds 3
-weave --steps 1000001
-weave --rounds 3
-weave --workers 0
-weaves";
+weave --steps=1000000 --seed 7: Weave 7 1000000 0
+: refused
+help: refused
+--help: refused
+-h: refused
+--version: refused
+-V: refused
+run --help: refused
+run -h: refused
+check --version: refused
+help run: refused
+run --rounds +3: refused
+run --rounds 03: refused
+run --rounds -3: refused
+run --rounds=-0: refused
+run --rounds=: refused
+run --rounds : refused
+run --rounds 3x: refused
+run --rounds 0x3: refused
+run --rounds 1e3: refused
+run --rounds: refused
+run --workers 17: refused
+run --rounds 1000001: refused
+make --budget 0: refused
+make --budget 1000001: refused
+make --budget 4294967297: refused
+resume --workers 17: refused
+run --block 0: refused
+run --block 5: refused
+resume --block 5: refused
+resume --rounds 1000001: refused
+run --rounds 3 --rounds 3: refused
+run --rounds=3 --rounds 4: refused
+run --round 3: refused
+run --Rounds 3: refused
+run -rounds 3: refused
+run -r 3: refused
+run --=3: refused
+run -: refused
+run extra: refused
+run run: refused
+run check: refused
+run -- extra: refused
+-- run: refused
+--: refused
+run --rounds --: refused
+--rounds 3 run: refused
+check --rounds 3: refused
+resume --budget 3: refused
+ru: refused
+RUN: refused
+derive --most 1: refused
+derive --most 9: refused
+derive --budget 0: refused
+derive --rounds 3: refused
+repair --rounds 10001: refused
+repair --most 2: refused
+sim --seed 1: refused
+gen --seed 4294967296: refused
+gen --trains 33: refused
+gen --workers 0: refused
+drill --workers 17: refused
+drill --block 1: refused
+drill --rounds 3: refused
+weave --steps 1000001: refused
+weave --rounds 3: refused
+weave --workers 0: refused
+weaves: refused";
 
 // An order with its numbers in the order of its fields.
 struct Parts {
@@ -136,43 +135,38 @@ fn parts_of(order: Order) -> Parts {
     Parts { name, numbers }
 }
 
-// What a command line asks for, or that it is refused.
-fn asked(alloc: Global, line: &str) -> Result<Result<Order, WordsRefused>, AllocError> {
-    let mut parts = Vec::new(alloc);
-    for word in line.split(' ') {
-        parts.push(String::from_str(alloc, word)?)?;
+// What is asked for, as text: the order's name and three numbers.
+fn text_of(alloc: Global, asked: Result<Order, WordsRefused>) -> Result<String, AllocError> {
+    match asked {
+        Ok(order) => {
+            let Parts {
+                name,
+                numbers: [a, b, c],
+            } = parts_of(order);
+            format!(in alloc; "{name} {a} {b} {c}")
+        }
+        Err(WordsRefused::Words) => String::from_str(alloc, "refused"),
+        Err(WordsRefused::Memory) => Err(AllocError),
     }
-    Ok(words(alloc, &parts))
 }
 
-// The order of a command line as text: its name, and three numbers.
-fn asked_text(alloc: Global, line: &str) -> Result<String, Fail> {
-    let order = asked(alloc, line)?.ok().ok_or("an order")?;
-    let Parts {
-        name,
-        numbers: [a, b, c],
-    } = parts_of(order);
-    Ok(format!(in alloc; "{name} {a} {b} {c}")?)
-}
-
-#[test]
-fn command_lines_ask_for_orders(rt: HostRuntime) -> Result<(), Fail> {
-    let alloc = rt.alloc();
-    for row in TAKEN.split('\n') {
-        let (line, order) = row.split_once(": ").ok_or("an order")?;
-        let answer = asked_text(alloc, line)?;
-        assert!(rt; answer.as_str() == order, "{row}");
+// Whether a command line asks for what its row says.
+fn is_asked(alloc: Global, row: &str) -> bool {
+    let (asked, order) = row.split_once(": ").unwrap_or((row, ""));
+    let Ok(line) = line(alloc, asked) else {
+        return false;
+    };
+    match text_of(alloc, words(alloc, &line)) {
+        Ok(text) => text.as_str() == order,
+        Err(_) => false,
     }
-    Ok(())
 }
 
 #[test]
-fn command_lines_are_refused(rt: HostRuntime) -> Result<(), Fail> {
-    let alloc = rt.alloc();
-    assert!(rt; words(alloc, &[]).is_err());
-    for line in REFUSED.split('\n') {
-        let is_refused = matches!(asked(alloc, line)?, Err(WordsRefused::Words));
-        assert!(rt; is_refused, "{line}");
+fn command_lines_ask_for_orders_or_are_refused(rt: HostRuntime) {
+    for row in LINES.split('\n') {
+        assert!(rt; is_asked(rt.alloc(), row), "{row}");
     }
-    Ok(())
+    let empty_word = [String::new(rt.alloc())];
+    assert!(rt; matches!(words(rt.alloc(), &empty_word), Err(WordsRefused::Words)));
 }

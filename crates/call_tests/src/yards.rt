@@ -2,26 +2,23 @@
 ghost use Rattle.std.specs.Prelude.{◌≡◌};
 ghost use Rattle.layout_json.specs.Doc.{offers_of};
 
-use crate::trees::{accepted, read};
+use crate::certificates::checked;
 use cert_checker::Accepted;
-use layout_json::{Doc, start_of};
+use layout_json::Frame;
 use plain_yard::{PlainYard, begin};
 use rail_model::{Ask, Tried, trains_of};
 use std::alloc::Global;
-use std::test::Fail;
 
 // The yard of a document at its start.
-fn opened<'a>(
-    alloc: Global,
-    doc: &Doc,
-    tables: &'a [Accepted],
-) -> Result<PlainYard<'a, Accepted>, Fail>
+fn opened<'a>(alloc: Global, doc: &Frame, tables: &'a [Accepted]) -> Option<PlainYard<'a, Accepted>>
     requires { tables.now ≡ offers_of doc.now }
 {
-    let begun = begin(alloc, start_of(doc))?;
+    let Ok(begun) = begin(alloc, doc.start()) else {
+        return None;
+    };
     match PlainYard::new(tables, begun) {
-        Ok(yard) => Ok(yard),
-        Err(_) => Err("room for the lines".into()),
+        Ok(yard) => Some(yard),
+        Err(_) => None,
     }
 }
 
@@ -34,42 +31,30 @@ fn told(yard: &mut PlainYard<'_, Accepted>, train: u32) -> Option<Ask> {
     }
 }
 
-// What a yard answers, and how many lines its journal has at its end.
-#[derive(Clone, Copy)]
-struct Said {
-    unknown: Option<Ask>,
-    first: Option<Ask>,
-    tried: Tried,
-    last: Option<Ask>,
-    lines: usize,
+// Whether a yard answers as it should for a train that it doesn't have, and for train 0, before and after all trains
+// arrive; and whether it then has two lines.
+fn answers_well(mut yard: PlainYard<'_, Accepted>) -> bool {
+    let is_unknown = told(&mut yard, 1) == None;
+    let is_first = told(&mut yard, 0) == Some(Ask::Yes);
+    let is_last_table = yard.try_table() == Tried::NoMore;
+    yard.finish();
+    let has_arrived = told(&mut yard, 0) == Some(Ask::Arrived);
+    let are_two = yard.into_state().lines().len() == 2;
+    is_unknown && is_first && is_last_table && has_arrived && are_two
 }
 
-// A yard is asked for a train that it may not have, and for train 0 before and after all trains arrive.
-fn answers_of(mut yard: PlainYard<'_, Accepted>) -> Said {
-    let unknown = told(&mut yard, 1);
-    let first = told(&mut yard, 0);
-    let tried = yard.try_table();
-    yard.finish();
-    let last = told(&mut yard, 0);
-    Said {
-        unknown,
-        first,
-        tried,
-        last,
-        lines: yard.into_state().lines().len(),
+// The same of the yard of the first path.
+fn is_answered(alloc: Global) -> bool {
+    let Some(checked) = checked(alloc, "first-path") else {
+        return false;
+    };
+    match opened(alloc, &checked.doc, &checked.tables) {
+        Some(yard) => answers_well(yard),
+        None => false,
     }
 }
 
 #[test]
-fn a_yard_answers_question_by_question(rt: HostRuntime) -> Result<(), Fail> {
-    let alloc = rt.alloc();
-    let doc = read(alloc, "first-path")?;
-    let tables = accepted(alloc, &doc)?;
-    let said = answers_of(opened(alloc, &doc, &tables)?);
-    assert_eq!(rt; said.unknown, None);
-    assert_eq!(rt; said.first, Some(Ask::Yes));
-    assert_eq!(rt; said.tried, Tried::NoMore);
-    assert_eq!(rt; said.last, Some(Ask::Arrived));
-    assert_eq!(rt; said.lines, 2);
-    Ok(())
+fn a_yard_answers_question_by_question(rt: HostRuntime) {
+    assert!(rt; is_answered(rt.alloc()));
 }

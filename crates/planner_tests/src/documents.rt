@@ -1,9 +1,6 @@
 // Documents that are explained, searched for mistakes, and drawn.
-use crate::rows::play_all;
-use std::test::Fail;
-
 // Words, a document and an answer each.
-const DOCUMENTS: &str = r##"explain|--at|1,1
+pub(crate) const DOCUMENTS: &str = r##"explain|--at|1,1
 {"version":1,"points":[["A",0],["M",0],["N",0],["B",0],["C",0],["D",0]],"links":[["A","M"],["M","N"],["N","B"],["C","N"],["M","D"]],"zones":1,"trains":["T0","T1"],"start":[0,0],"tables":[{"missions":[["A","M","N","B"],["C","N","M","D"]],"sections":[],"certificate":[]}]}
 ----
 T0 is at M, place 1 of 3, and wants N: T1 is there
@@ -98,8 +95,3 @@ layout|--at|1,1
 ----
 section 0 has 2, above its limit 1
 "##;
-
-#[test]
-fn documents_are_answered_as_their_rows_say(rt: HostRuntime) -> Result<(), Fail> {
-    play_all(&rt, rt.alloc(), DOCUMENTS)
-}

@@ -1,9 +1,6 @@
 // Documents with sections that keep their trains in order.
-use crate::rows::play_all;
-use std::test::Fail;
-
 // Words, a document and an answer each: the text, and the notes on it.
-const ORDERED: &str = r##"order
+pub(crate) const ORDERED: &str = r##"order
 {"version":2,"points":[["A",0],["B",0],["C",0]],"links":[["A","B"],["B","C"]],"zones":1,"trains":["T0","T1"],"start":[0,0],"tables":[{"missions":[["B","C"],["A","B","C"]],"exits":[true,false],"sections":[],"certificate":[]}]}
 ----
 {"links":[["A","B"],["B","C"]],"points":[["A",0],["B",0],["C",0]],"start":[0,0],"tables":[{"after":0,"certificate":[[3]],"exits":[true,false],"missions":[["B","C"],["A","B","C"]],"sections":[{"changes":[[4,-1,-1],[0,1,1]],"limit":4}],"times":[[1,1],[1,1]]}],"trains":["T0","T1"],"version":2,"zones":1}
@@ -14,8 +11,3 @@ order
 ----
 {"links":[],"points":[["A",0]],"start":[],"tables":[{"after":0,"certificate":[[3]],"exits":[],"missions":[],"sections":[],"times":[]}],"trains":[],"version":2,"zones":1}
 "##;
-
-#[test]
-fn documents_are_ordered_as_their_rows_say(rt: HostRuntime) -> Result<(), Fail> {
-    play_all(&rt, rt.alloc(), ORDERED)
-}

@@ -1,9 +1,6 @@
 // Timed runs: a document, a line `journal`, and what `ats sim` writes of it.
-use crate::rows::play_all;
-use std::test::Fail;
-
 // Words, a timed run and an answer each.
-const RUNS: &str = r##"timetable
+pub(crate) const RUNS: &str = r##"timetable
 {"version":1,"points":[["W",0],["L1",0],["E",0],["L2",0]],"links":[["W","L1"],["L1","E"],["E","L2"],["L2","W"]],"zones":1,"trains":["T0","T1"],"start":[0,0],"tables":[{"missions":[["W","L1","E"],["E","L2","W"]],"certificate":[[0,0,0],[4,0],[0,1,0],[0,0,1],[4,1],[1,0,1],[0,0,1],[4,0],[0,1,1],[4,1],[3]]}]}
 
 journal
@@ -91,8 +88,3 @@ end moves=6 tables=0 last=4
 ----
 there is no train "T9"
 "##;
-
-#[test]
-fn timed_runs_are_answered_as_their_rows_say(rt: HostRuntime) -> Result<(), Fail> {
-    play_all(&rt, rt.alloc(), RUNS)
-}

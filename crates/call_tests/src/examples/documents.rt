@@ -21,6 +21,9 @@
 // - later-certificate: the same with two certificates, of which the later one counts; this one and the two before have an unknown member
 // - loose: with spaces, members that come twice, and an unknown one
 // - ladder: two trains against one another along a line, with a ring at each of its 66 links
+// - two-tracks: two trains that never meet
+// - to-and-fro: the same on missions of 128 places each
+// - three-tracks: T0 needs zones 0 and 1, T1 zones 2 and 3, and T2 zone 1
 const DOCUMENTS: &str =
     r#"first-path {"version":1,"points":[["A",0],["B",0],["C",0]],"links":[["A","B"],["B","C"]],"zones":1,"trains":["T0"],"start":[0],"tables":[{"missions":[["A","B","C"]],"certificate":[[0,0,1],[4,0],[3]]}]}
 named-twice {"zones":9,"version":7,"start":[2],"version":1,"points":[["A",0],["B",0],["C",0]],"links":[["A","B"],["B","C"]],"zones":1,"trains":["T0"],"start":[0],"tables":[{"missions":[["A","B","C"]],"certificate":[[3]],"certificate":[[0,0,1],[4,0],[3]]}]}
@@ -56,9 +59,16 @@ connections-of-no-meaning-left-out {"links":[],"points":[["A",0]],"start":[0],"t
 later-certificate {"version":3,"points":[["A",0]],"links":[],"zones":1,"trains":["T"],"start":[0],"tables":[{"missions":[["A"]]}],"tables":[{"missions":[["A"]],"certificate":[],"certificate":[[3]]}],"more":[{}]}
 later-certificate-kept {"links":[],"points":[["A",0]],"start":[0],"tables":[{"after":0,"certificate":[[3]],"connections":[],"exits":[false],"missions":[["A"]],"sections":[],"times":[[]]}],"trains":["T"],"version":3,"zones":1}
 loose { "version": 2, "points": [["A", 0], ["B", 0]], "links": [["A", "B"]], "zones": 1, "trains": ["T"], "start": [0], "tables": [{"missions": [], "missions": [["A", "B"]], "exits": [true], "sections": [{"limit": 2, "changes": [[1, -1, 0]]}], "more": 7}] }
-compact {"links":[["A","B"]],"points":[["A",0],["B",0]],"start":[0],"tables":[{"after":0,"certificate":[],"exits":[true],"missions":[["A","B"]],"sections":[{"changes":[[1,-1,0]],"limit":2}],"times":[[1,1]]}],"trains":["T"],"version":2,"zones":1}"#;
+compact {"links":[["A","B"]],"points":[["A",0],["B",0]],"start":[0],"tables":[{"after":0,"certificate":[],"exits":[true],"missions":[["A","B"]],"sections":[{"changes":[[1,-1,0]],"limit":2}],"times":[[1,1]]}],"trains":["T"],"version":2,"zones":1}
+first-path-made {"links":[["A","B"],["B","C"]],"points":[["A",0],["B",0],["C",0]],"start":[0],"tables":[{"after":0,"certificate":[[0,0,1],[4,0],[3]],"missions":[["A","B","C"]],"sections":[],"times":[[1,1]]}],"trains":["T0"],"version":1,"zones":1}
+exits-made {"links":[["A","B"],["B","C"]],"points":[["A",0],["B",0],["C",0]],"start":[0,0],"tables":[{"after":0,"certificate":[[0,0,1],[0,0,0],[0,1,1],[4,1],[4,0],[4,0],[0,1,1],[4,1],[3]],"exits":[true,true],"missions":[["A","B"],["C","B"]],"sections":[],"times":[[1,1],[1,1]]}],"trains":["T0","T1"],"version":2,"zones":1}
+shares-made {"links":[["A","M"],["M","B"],["C","N"],["N","D"]],"points":[["A",0],["M",0],["B",0],["C",0],["N",0],["D",0]],"start":[0,0],"tables":[{"after":0,"certificate":[[0,0,1],[0,0,0],[0,1,1],[4,1],[4,0],[4,0],[0,1,1],[4,1],[3]],"exits":[false,false],"missions":[["A","M","B"],["C","N","D"]],"sections":[{"changes":[[0,3,-3],[0,2,-2]],"limit":4}],"times":[[1,1],[1,1]]}],"trains":["T0","T1"],"version":2,"zones":1}
+connected-made {"links":[["A","B"],["C","D"]],"points":[["A",0],["B",0],["C",0],["D",0]],"start":[0,0],"tables":[{"after":0,"certificate":[[0,0,0],[0,1,0],[4,1],[4,0],[0,1,0],[4,1],[3]],"connections":[[0,0,1,1]],"exits":[false,false],"missions":[["A","B"],["C","D"]],"sections":[],"times":[[1],[1]]}],"trains":["T0","T1"],"version":3,"zones":1}
+two-tracks {"version":1,"points":[["A",0],["B",0],["C",0],["D",0]],"links":[["A","B"],["C","D"]],"zones":1,"trains":["T0","T1"],"start":[0,0],"tables":[{"missions":[["A","B"],["C","D"]]}]}
+to-and-fro {"version":1,"points":[["A",0],["B",0],["C",0],["D",0]],"links":[["A","B"],["C","D"]],"zones":1,"trains":["T0","T1"],"start":[0,0],"tables":[{"missions":[["A","B","A","B","A","B","A","B","A","B","A","B","A","B","A","B","A","B","A","B","A","B","A","B","A","B","A","B","A","B","A","B","A","B","A","B","A","B","A","B","A","B","A","B","A","B","A","B","A","B","A","B","A","B","A","B","A","B","A","B","A","B","A","B","A","B","A","B","A","B","A","B","A","B","A","B","A","B","A","B","A","B","A","B","A","B","A","B","A","B","A","B","A","B","A","B","A","B","A","B","A","B","A","B","A","B","A","B","A","B","A","B","A","B","A","B","A","B","A","B","A","B","A","B","A","B","A","B"],["C","D","C","D","C","D","C","D","C","D","C","D","C","D","C","D","C","D","C","D","C","D","C","D","C","D","C","D","C","D","C","D","C","D","C","D","C","D","C","D","C","D","C","D","C","D","C","D","C","D","C","D","C","D","C","D","C","D","C","D","C","D","C","D","C","D","C","D","C","D","C","D","C","D","C","D","C","D","C","D","C","D","C","D","C","D","C","D","C","D","C","D","C","D","C","D","C","D","C","D","C","D","C","D","C","D","C","D","C","D","C","D","C","D","C","D","C","D","C","D","C","D","C","D","C","D","C","D"]]}]}
+three-tracks {"version":1,"points":[["A",0],["B",1],["C",2],["D",3],["E",1],["F",1]],"links":[["A","B"],["C","D"],["E","F"]],"zones":4,"trains":["T0","T1","T2"],"start":[0,0,0],"tables":[{"missions":[["A","B"],["C","D"],["E","F"]],"certificate":[[0,0,0],[4,0],[0,1,0],[4,1],[0,2,0],[4,2],[3]]}]}"#;
 
-// The document of this name.
+/// The document of this name.
 pub(crate) fn document_called(name: &str) -> Option<&'static str> {
     for row in DOCUMENTS.split('\n') {
         if let Some((called, text)) = row.split_once(' ') {

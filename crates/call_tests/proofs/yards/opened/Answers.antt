@@ -3,5 +3,5 @@ use Rattle.call_tests.proofs.yards.opened.Goals as goal
 
 pub new-requires : goal.new-requires
 new-requires c =
-    begins_well c.args.doc.now c.args.tables.now c.start_of.result.now c.in_ok-begun.begun c.start_of.ensures.formed c.start_of.ensures.start c.requires
-    c.in_ok-begun.ensures
+    begins_well c.args.doc.now c.args.tables.now c.start.result.now c.in-Ok.begun c.start.ensures.formed c.start.ensures.start c.requires
+    c.in-Ok.ensures
