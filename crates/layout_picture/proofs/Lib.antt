@@ -1,7 +1,7 @@
 pub mod Adding
 pub mod Coming
-pub mod Grouping
-pub mod Listing
+pub mod Layering
+pub mod Marked
 pub mod Rows
 pub mod Some
 pub mod TrainShapes

@@ -7,6 +7,9 @@ use Rattle.rail_model.specs.Layout.{Layout, Link}
 use Rattle.rail_model.specs.Table.{Table, trains, point, place}
 use Rattle.rail_model.specs.Checks.{below}
 use Rattle.layout_picture.specs.declared.tracks.Way.{Way}
+use Rattle.layout_picture.specs.declared.frame.View.{View}
+use Rattle.layout_picture.specs.declared.layers.Layer.{Layer}
+use Rattle.layout_picture.specs.declared.layers.Layer.TheVariants.{Ground, Sections, Links, Circle, Points, Numbers, Arrows, Names, Trains, Legend, Heading}
 use Rattle.layout_picture.specs.Marks.{dot_at, stroke_of, ends_of, link_ends}
 use Rattle.layout_picture.specs.Red.{IsInCircle}
 use Rattle.layout_picture.specs.Arrows.{IsArrow}
@@ -54,6 +57,10 @@ pub record IsWait (T : Table) (p : List ℕ) (spots : List Spot) (i : ℕ) (shap
   pub is_red : Decides red (IsInCircle T p i)
   pub line : AreLinkLines spots (if red then next_step T p i else []) shapes
 
+-- for each point of the layout, whether it is in section s
+abbrev pub marks : View → ℕ → List Bool
+marks v s = inside v.scene.now.table.now (length v.layout.now.points) s
+
 -- a ground of this size
 abbrev pub ground_of : ℕ → ℕ → Shape
 ground_of width height = record {
@@ -63,43 +70,62 @@ ground_of width height = record {
   words = [];
 }
 
--- The groups below the trains are added: a ground of this size, areas over the points in the sections, a line for each link,
--- a broad line from each train of a circle, a dot for each spot, and the numbers of sections.
-pub record AddsTracks (L : Layout) (T : Table) (p : List ℕ) (spots : List Spot) (insides : List (List Bool)) (width height : ℕ) (before after : List Group)
-    : Type 0 where
-  pub areas : List Shape
-  pub links : List Shape
-  pub waits : List Shape
-  pub numbers : List Shape
-  pub added : after ≡ before
-      ++ group_with (codes "background") (codes "ground") (ground_of width height ∷ []) ∷ []
-      ++ group_with (codes "sections") (codes "sections") areas ∷ []
-      ++ group_with (codes "links") (codes "links") links ∷ []
-      ++ group_with (codes "circle") (codes "trains that wait for one another") waits ∷ []
-      ++ group_with (codes "points") (codes "points") (map dot_at spots) ∷ []
-      ++ group_with (codes "numbers") (codes "numbers of sections") numbers ∷ []
-  pub are_areas : map first_attribute areas ≡ map (way_of L spots) insides
-  pub are_links : AreLinkLines spots L.links links
-  pub are_waits : AreOfTrains (IsWait T p spots) (trains T) waits
+-- The shapes are areas, one for each of these sections, over the points that are in it.
+abbrev pub AreAreas : View → List ℕ → List Shape → Type 0
+AreAreas v sections shapes =
+    map first_attribute shapes ≡ map (way_of v.layout.now v.frame.now.spots.items) (map (marks v) sections)
 
--- The groups of the trains and of names are added.
-pub record AddsTrains (T : Table) (p : List ℕ) (spots : List Spot) (before after : List Group) : Type 0 where
-  pub arrows : List Shape
-  pub points : List Shape
-  pub names : List Shape
-  pub added : after ≡ before
-      ++ group_with (codes "arrows") (codes "trains") arrows ∷ []
-      ++ group_with (codes "names") (codes "names of points") points ∷ []
-      ++ group_with (codes "trains") (codes "names of trains") names ∷ []
-  pub are_arrows : AreOfTrains (IsArrow T p spots) (trains T) arrows
+-- the class of the group of a layer
+abbrev pub class_name : Layer → List ℕ
+class_name Ground = codes "background"
+class_name Sections = codes "sections"
+class_name Links = codes "links"
+class_name Circle = codes "circle"
+class_name Points = codes "points"
+class_name Numbers = codes "numbers"
+class_name Arrows = codes "arrows"
+class_name Names = codes "names"
+class_name Trains = codes "trains"
+class_name Legend = codes "legend"
+class_name Heading = codes "heading"
 
--- The groups of the legend and of the title are added.
-pub record AddsWords (before after : List Group) : Type 0 where
-  pub legend : List Shape
-  pub heading : List Shape
-  pub added : after ≡ before
-      ++ group_with (codes "legend") (codes "legend") legend ∷ []
-      ++ group_with (codes "heading") (codes "title") heading ∷ []
+-- The shapes are those of a layer: a ground as large as the picture, an area for each section, a line for each link, a
+-- broad line from each train of a circle, a dot for each spot, an arrow for each train. Of words nothing is said.
+abbrev pub IsLayer : View → Layer → List Shape → Type 0
+IsLayer v Ground shapes = shapes ≡ ground_of v.frame.now.grid.width v.frame.now.height ∷ []
+IsLayer v Sections shapes = AreAreas v (below (length v.scene.now.table.now.sections)) shapes
+IsLayer v Links shapes = AreLinkLines v.frame.now.spots.items v.layout.now.links shapes
+IsLayer v Circle shapes =
+    AreOfTrains (IsWait v.scene.now.table.now v.scene.now.state.now v.frame.now.spots.items)
+    (trains v.scene.now.table.now) shapes
+IsLayer v Points shapes = shapes ≡ map dot_at v.frame.now.spots.items
+IsLayer v Numbers shapes = Unit {0}
+IsLayer v Arrows shapes =
+    AreOfTrains (IsArrow v.scene.now.table.now v.scene.now.state.now v.frame.now.spots.items)
+    (trains v.scene.now.table.now) shapes
+IsLayer v Names shapes = Unit {0}
+IsLayer v Trains shapes = Unit {0}
+IsLayer v Legend shapes = Unit {0}
+IsLayer v Heading shapes = Unit {0}
+
+-- A layer is added to others: a group of its class, with its shapes.
+pub record AddsLayer (v : View) (layer : Layer) (before after : List Group) : Type 0 where
+  pub title : List ℕ
+  pub shapes : List Shape
+  pub added : after ≡ before ++ group_with (class_name layer) title shapes ∷ []
+  pub is_layer : IsLayer v layer shapes
+
+-- The groups begin with that of a layer, and the rest follow.
+pub record BeginsWith (v : View) (layer : Layer) (groups rest : List Group) : Type 0 where
+  pub title : List ℕ
+  pub shapes : List Shape
+  pub begins : groups ≡ group_with (class_name layer) title shapes ∷ rest
+  pub is_layer : IsLayer v layer shapes
+
+-- The groups are those of these layers, in order.
+abbrev pub AreLayers : View → List Layer → List Group → Type 0
+AreLayers v [] groups = groups ≡ []
+AreLayers v (layer ∷ later) groups = (rest : List Group) × BeginsWith v layer groups rest × AreLayers v later rest
 
 -- The groups have a ground of this size, a dot for each point, a line for each link, an area over the points of each
 -- section, an arrow at its point for each train that is in the layout, and a broad line from each train of a circle.

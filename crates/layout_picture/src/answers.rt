@@ -1,7 +1,11 @@
 // The picture of a document, or why there is none.
-ghost use Rattle.std.specs.Prelude.{◌≡◌, IfOk};
+ghost use Rattle.std.specs.Prelude.{ℕ, ◌<◌, ◌≤◌, List, IfOk, length};
+ghost use Rattle.rail_model.specs.State.{Legal};
+ghost use Rattle.layout_json.specs.Doc.{table_at};
+ghost use Rattle.legal_state.specs.Illegal.{IsIllegal};
 ghost use Rattle.layout_picture.specs.Answer.{IsPictureOrWords};
 
+use crate::frame::point_name;
 use crate::picture::drawing;
 use layout_json::{Doc, layout_of, names_of, start_of, table_of, tables_of};
 use legal_state::{Illegal, judge};
@@ -22,14 +26,6 @@ fn train_name(names: &Names, train: u32) -> &str {
         names.train(train)
     } else {
         ""
-    }
-}
-
-// The name of a point.
-fn point_name(doc: &Doc, point: u32) -> &str {
-    match layout_of(doc).points().get(point as usize) {
-        Some(point) => point.name(),
-        None => "",
     }
 }
 
@@ -69,7 +65,7 @@ fn write_cause(
         } => {
             let first = train_name(names, first);
             let second = train_name(names, second);
-            let point = point_name(doc, point);
+            let point = point_name(layout_of(doc), point);
             write!(words, "{first} and {second} are both at {point}")
         }
         Illegal::Over {
@@ -88,9 +84,10 @@ fn write_places(title: &mut String, state: &State, start: &State) -> Result<(), 
     if state.as_slice() == start.as_slice() {
         return title.push_str("their start");
     }
-    for (train, place) in state.as_slice().iter().enumerate() {
-        title.push_str(if train == 0 { "places " } else { "," })?;
-        write!(title, "{place}")?;
+    let mut before = "places ";
+    for place in state.as_slice() {
+        write!(title, "{before}{place}")?;
+        before = ",";
     }
     Ok(())
 }
@@ -100,6 +97,49 @@ fn title_of(alloc: Global, table: u32, state: &State, start: &State) -> Result<S
     let mut title = format!(in alloc; "Layout, table {table}: trains at ")?;
     write_places(&mut title, state, start)?;
     Ok(title)
+}
+
+// That there is no such table.
+fn no_table(alloc: Global, doc: &Doc, table: u32) -> Result<Drawn, AllocError>
+    requires { length doc.now.tables ≤ table }
+    ensures { (p : List ℕ) → IfOk result (IsPictureOrWords doc.now table p) }
+{
+    let tables = tables_of(doc);
+    let words = format!(in alloc; "there is no table {table}: the document has {tables}")?;
+    Ok(Drawn::Refused { words })
+}
+
+// Why a state isn't legal.
+fn refused(
+    alloc: Global,
+    doc: &Doc,
+    table: u32,
+    state: &State,
+    illegal: Illegal,
+) -> Result<Drawn, AllocError>
+    requires table { table < length doc.now.tables }
+    requires illegal { IsIllegal (table_at doc.now table) state.now illegal }
+    ensures { IfOk result (λ drawn. IsPictureOrWords doc.now table state.now drawn) }
+{
+    let mut words = String::new(alloc);
+    write_cause(&mut words, doc, table_of(doc, table), state, illegal)?;
+    Ok(Drawn::Refused { words })
+}
+
+// The picture of a legal state.
+fn pictured(alloc: Global, doc: &Doc, table: u32, state: &State) -> Result<Drawn, AllocError>
+    requires table { table < length doc.now.tables }
+    requires legal { Legal (table_at doc.now table) state.now }
+    ensures { IfOk result (λ drawn. IsPictureOrWords doc.now table state.now drawn) }
+{
+    let title = title_of(alloc, table, state, start_of(doc))?;
+    let scene = Scene {
+        names: names_of(doc),
+        table: table_of(doc, table),
+        state,
+    };
+    let picture = drawing(alloc, layout_of(doc), &scene, title.as_str())?;
+    Ok(Drawn::Picture { picture })
 }
 
 /// The layout of a document with the sections of a table, and the trains at their places in a state; or why there is no
@@ -112,28 +152,11 @@ pub fn layout_picture(
 ) -> Result<Drawn, AllocError>
     ensures { IfOk result (λ drawn. IsPictureOrWords doc.now table state.now drawn) }
 {
-    let tables = tables_of(doc);
-    if tables <= table {
-        let words = format!(in alloc; "there is no table {table}: the document has {tables}")?;
-        return Ok(Drawn::Refused { words });
+    if tables_of(doc) <= table {
+        return no_table(alloc, doc, table);
     }
-    let title = title_of(alloc, table, state, start_of(doc))?;
-    let names = names_of(doc);
-    let table = table_of(doc, table);
-    match judge(table, state) {
-        Ok(()) => {
-            let scene = Scene {
-                names,
-                table,
-                state,
-            };
-            let picture = drawing(alloc, layout_of(doc), &scene, title.as_str())?;
-            Ok(Drawn::Picture { picture })
-        }
-        Err(illegal) => {
-            let mut words = String::new(alloc);
-            write_cause(&mut words, doc, table, state, illegal)?;
-            Ok(Drawn::Refused { words })
-        }
+    match judge(table_of(doc, table), state) {
+        Ok(()) => pictured(alloc, doc, table, state),
+        Err(illegal) => refused(alloc, doc, table, state, illegal),
     }
 }

@@ -3,9 +3,10 @@ ghost use Rattle.std.specs.Prelude.{◌<◌};
 ghost use Rattle.rail_model.specs.Table.{trains};
 
 use crate::circles::colour_of;
-use crate::frame::{View, shifted};
-use crate::tracks::painted;
+use crate::frame::{View, point_name, shifted};
+use crate::shapes::{push_painted, push_shape};
 use crate::trains::spot_at;
+use rail_model::points_of;
 use std::alloc::{AllocError, Global};
 use svg_text::{Shape, Spot, label};
 
@@ -43,8 +44,16 @@ const BELOW: Side = Side {
     angle: None,
 };
 
+// Turns words round their spot, or has them in its middle.
+fn turn(shape: &mut Shape, alloc: Global, at: Spot, angle: Option<i32>) -> Result<(), AllocError> {
+    match angle {
+        Some(angle) => turn_by(shape, alloc, at, angle),
+        None => shape.set(alloc, "text-anchor", "middle"),
+    }
+}
+
 // Turns a shape round a spot.
-fn turn(alloc: Global, shape: &mut Shape, at: Spot, angle: i32) -> Result<(), AllocError> {
+fn turn_by(shape: &mut Shape, alloc: Global, at: Spot, angle: i32) -> Result<(), AllocError> {
     let Spot { x, y } = at;
     let turn = format!(in alloc; "rotate({angle} {x} {y})")?;
     shape.set(alloc, "transform", turn.as_str())
@@ -54,40 +63,57 @@ fn turn(alloc: Global, shape: &mut Shape, at: Spot, angle: i32) -> Result<(), Al
 fn caption(alloc: Global, at: Spot, words: &str, side: Side) -> Result<Shape, AllocError> {
     let foot = shifted(at, side.right, side.down);
     let mut shape = label(alloc, foot, words)?;
-    match side.angle {
-        Some(angle) => turn(alloc, &mut shape, foot, angle)?,
-        None => shape.set(alloc, "text-anchor", "middle")?,
-    }
+    turn(&mut shape, alloc, foot, side.angle)?;
     Ok(shape)
 }
 
-/// The name of each point.
-pub(crate) fn point_names(view: &View) -> Result<Vec<Shape>, AllocError> {
+// Adds the name of a point.
+fn push_point_name(shapes: &mut Vec<Shape>, view: &View, point: u32) -> Result<(), AllocError> {
     let side = if view.frame.grid.rise { RISING } else { ABOVE };
-    let mut shapes = Vec::new(view.alloc);
-    for (number, point) in view.layout.points().iter().enumerate() {
-        let at = view.frame.spot(number.min(511) as u32);
-        shapes.push(caption(view.alloc, at, point.name(), side)?)?;
-    }
-    Ok(shapes)
+    let name = point_name(view.layout, point);
+    push_shape(
+        shapes,
+        caption(view.alloc, view.frame.spot(point), name, side)?,
+    )
 }
 
-// The name of a train.
-fn train_name(view: &View, train: u32, at: Spot) -> Result<Shape, AllocError>
+/// Adds the name of each point.
+pub(crate) fn push_point_names(shapes: &mut Vec<Shape>, view: &View) -> Result<(), AllocError> {
+    for point in 0..points_of(view.layout) {
+        push_point_name(shapes, view, point)?;
+    }
+    Ok(())
+}
+
+// Adds the name of a train beside a spot.
+fn push_name(shapes: &mut Vec<Shape>, view: &View, train: u32, at: Spot) -> Result<(), AllocError>
     requires { train < trains view.now.scene.now.table.now }
 {
     let side = if view.frame.grid.fall { FALLING } else { BELOW };
-    let shape = caption(view.alloc, at, view.scene.train(train), side)?;
-    painted(view.alloc, shape, "fill", colour_of(view.scene, train))
+    let name = caption(view.alloc, at, view.scene.train(train), side)?;
+    push_painted(
+        shapes,
+        view.alloc,
+        name,
+        "fill",
+        colour_of(view.scene, train),
+    )
 }
 
-/// The name of each train that is in the layout.
-pub(crate) fn train_names(view: &View) -> Result<Vec<Shape>, AllocError> {
-    let mut shapes = Vec::new(view.alloc);
-    for train in 0..view.scene.trains() {
-        if let Some(at) = spot_at(view, train, view.scene.place(train)) {
-            shapes.push(train_name(view, train, at)?)?;
-        }
+// Adds the name of a train, if it is in the layout.
+fn push_train_name(shapes: &mut Vec<Shape>, view: &View, train: u32) -> Result<(), AllocError>
+    requires { train < trains view.now.scene.now.table.now }
+{
+    match spot_at(view, train, view.scene.place(train)) {
+        Some(at) => push_name(shapes, view, train, at),
+        None => Ok(()),
     }
-    Ok(shapes)
+}
+
+/// Adds the name of each train that is in the layout.
+pub(crate) fn push_train_names(shapes: &mut Vec<Shape>, view: &View) -> Result<(), AllocError> {
+    for train in 0..view.scene.trains() {
+        push_train_name(shapes, view, train)?;
+    }
+    Ok(())
 }

@@ -74,9 +74,9 @@ impl Cells {
 
     /// The point at a cell.
     pub(crate) fn point_at(&self, cell: Cell) -> Option<u32> {
-        for (point, placed) in self.items.iter().enumerate() {
-            if cell.is(*placed) {
-                return u32::try_from(point).ok();
+        for point in 0..self.items.len().min(512) as u32 {
+            if cell.is(self.at(point)) {
+                return Some(point);
             }
         }
         None

@@ -2,7 +2,7 @@
 // points, then those that links alone lead to, and the others last.
 
 use crate::cells::{Cell, Cells};
-use crate::placing::{MIDDLE, free_cell, is_begun, place_route};
+use crate::placing::{cell_below, cell_of, free_cell, is_begun, place_route};
 use crate::spine::place_spine;
 use rail_model::{Layout, Link, Mission, Table, points_of};
 use std::alloc::{AllocError, Global};
@@ -47,13 +47,11 @@ fn other_end(link: &Link, point: u32) -> Option<u32> {
 fn is_left_end(cells: &Cells, layout: &Layout, point: u32, column: u32) -> bool {
     let mut right = false;
     for link in layout.links() {
-        if let Some(other) = other_end(link, point) {
-            if let Some(cell) = cells.at(other) {
-                if cell.column < column {
-                    return false;
-                }
-                right = right || column < cell.column;
+        if let Some(cell) = cell_of(cells, other_end(link, point)) {
+            if cell.column < column {
+                return false;
             }
+            right = right || column < cell.column;
         }
     }
     right
@@ -97,14 +95,6 @@ fn place_reached(cells: &mut Cells, layout: &Layout) {
         if !place_linked(cells, layout) {
             return;
         }
-    }
-}
-
-// The first cell of a row below all others.
-fn cell_below(cells: &Cells) -> Cell {
-    match cells.edges() {
-        Some(edges) => Cell::new(edges.first.column, edges.last.row.saturating_add(1)),
-        None => Cell::new(MIDDLE, MIDDLE),
     }
 }
 

@@ -1,14 +1,12 @@
 // Where the cells of the grid are in the picture.
-ghost use Rattle.std.specs.Prelude.{◌≡◌, IfOk, length, map};
-ghost use Rattle.rail_model.specs.Checks.{below};
-ghost use Rattle.layout_picture.specs.Areas.{inside};
+ghost use Rattle.std.specs.Prelude.{◌≡◌, IfOk, length};
 ghost use Rattle.layout_picture.specs.Arrows.{shifted as shifted_spot};
 
 use crate::cells::{Cell, Cells, Edges};
 use crate::filling::place_all;
-use crate::insides::{Inside, insides_of};
+use crate::legend::legend_end;
 use crate::straightening::straighten;
-use rail_model::{Layout, Names, points_of};
+use rail_model::{Layout, Names, Table, points_of};
 use state_sentences::Scene;
 use std::alloc::{AllocError, Global};
 use svg_text::Spot;
@@ -19,13 +17,12 @@ const WIDTH: u64 = 800;
 /// How far the first column is from the left.
 const MARGIN: u64 = 44;
 
-/// Where each point is, in which sections, and how much room there is.
+/// Where each point is, how much room there is, and how far down the picture goes.
 #[derive(Drop)]
 pub(crate) struct Frame {
     pub(crate) spots: Vec<Spot>,
-    /// For each section the points that are in it.
-    pub(crate) insides: Vec<Inside>,
     pub(crate) grid: Grid,
+    pub(crate) height: u64,
 }
 
 /// How far columns and rows are apart, and how names are written.
@@ -44,13 +41,22 @@ pub(crate) struct Grid {
     pub(crate) foot: u64,
 }
 
-/// What is drawn: a layout and the trains of a scene, in a frame.
+/// What is drawn: a layout and the trains of a scene, in a frame, under a title.
 #[derive(Clone, Copy)]
 pub(crate) struct View<'a> {
     pub(crate) alloc: Global,
     pub(crate) layout: &'a Layout,
     pub(crate) scene: &'a Scene<'a>,
     pub(crate) frame: &'a Frame,
+    pub(crate) title: &'a str,
+}
+
+/// The name of a point, or no letters for a number that no point has.
+pub(crate) fn point_name(layout: &Layout, point: u32) -> &str {
+    match layout.points().get(point as usize) {
+        Some(point) => point.name(),
+        None => "",
+    }
 }
 
 // How many letters the longest name of a point has.
@@ -171,22 +177,24 @@ fn spots_of(
     Ok(spots)
 }
 
+// Points in cells: in straight rows, if that can be.
+fn cells_of(alloc: Global, layout: &Layout, table: &Table) -> Result<Cells, AllocError> {
+    let mut cells = place_all(alloc, layout, table)?;
+    straighten(&mut cells, layout, table);
+    Ok(cells)
+}
+
 /// A frame for a layout with the trains and the sections of a scene.
 pub(crate) fn frame_of(alloc: Global, layout: &Layout, scene: &Scene) -> Result<Frame, AllocError>
-    ensures spots { IfOk result (λ frame. length frame.spots.items ≡ length layout.now.points) }
-    ensures insides { IfOk result (λ frame. frame.insides.items
-        ≡ map (inside scene.now.table.now (length layout.now.points)) (below (length scene.now.table.now.sections))) }
+    ensures { IfOk result (λ frame. length frame.spots.items ≡ length layout.now.points) }
 {
-    let insides = insides_of(alloc, scene.table, points_of(layout))?;
-    let mut cells = place_all(alloc, layout, scene.table)?;
-    straighten(&mut cells, layout, scene.table);
+    let cells = cells_of(alloc, layout, scene.table)?;
     let edges = cells.edges().unwrap_or(Edges::NONE);
     let grid = grid_for(layout, scene.names, edges);
-    let spots = spots_of(alloc, layout, &cells, edges, &grid)?;
     Ok(Frame {
-        spots,
-        insides,
+        spots: spots_of(alloc, layout, &cells, edges, &grid)?,
         grid,
+        height: legend_end(scene, grid.foot),
     })
 }
 

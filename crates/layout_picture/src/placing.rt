@@ -3,19 +3,27 @@
 
 use crate::cells::{Cell, Cells};
 
-/// The column and the row where the first point goes.
-pub(crate) const MIDDLE: u32 = 10_000;
+// The column and the row where the first point goes.
+const MIDDLE: u32 = 10_000;
 
 /// How far from a row another one is looked for.
 const ROWS: u32 = 600;
 
-// The points of a stretch of a route, the cells of the points before and after it, and whether the route leads to the
-// right.
+// Where a stretch of a route goes: between the cells of the points before and after it, behind or before the only one
+// of them that is placed, or anywhere.
+#[derive(Clone, Copy)]
+enum Gap {
+    Between { before: Cell, after: Cell },
+    Behind { cell: Cell },
+    Before { cell: Cell },
+    Anywhere,
+}
+
+// The points of a stretch of a route, where it goes, and whether the route leads to the right.
 #[derive(Clone, Copy)]
 struct Stretch<'a> {
     points: &'a [u32],
-    before: Option<Cell>,
-    after: Option<Cell>,
+    gap: Gap,
     rightward: bool,
 }
 
@@ -40,14 +48,32 @@ fn gaps_of(points: &[u32]) -> u32 {
     points.len().min(512) as u32 + 1
 }
 
+// The gap between two points that are given and placed, or beside one of them.
+fn gap_between(cells: &Cells, before: Option<u32>, after: Option<u32>) -> Gap {
+    match (cell_of(cells, before), cell_of(cells, after)) {
+        (Some(before), Some(after)) => Gap::Between { before, after },
+        (Some(cell), None) => Gap::Behind { cell },
+        (None, Some(cell)) => Gap::Before { cell },
+        (None, None) => Gap::Anywhere,
+    }
+}
+
 // Moves the columns from the right one of two cells on, until there are this many gaps between the two. Nothing moves
 // where they are in one column.
-fn make_room(cells: &mut Cells, before: Option<Cell>, after: Option<Cell>, gaps: u32) {
-    if let (Some(before), Some(after)) = (before, after) {
+fn make_room(cells: &mut Cells, gap: Gap, gaps: u32) {
+    if let Gap::Between { before, after } = gap {
         let wide = before.column.abs_diff(after.column);
         if 0 < wide {
             cells.widen(before.column.max(after.column), gaps.saturating_sub(wide));
         }
+    }
+}
+
+/// The first cell of a row below all others.
+pub(crate) fn cell_below(cells: &Cells) -> Cell {
+    match cells.edges() {
+        Some(edges) => Cell::new(edges.first.column, edges.last.row.saturating_add(1)),
+        None => Cell::new(MIDDLE, MIDDLE),
     }
 }
 
@@ -56,28 +82,25 @@ impl Stretch<'_> {
     fn column(&self, number: u32) -> u32 {
         let gaps = gaps_of(self.points);
         let left = gaps.saturating_sub(number);
-        match (self.before, self.after) {
-            (Some(before), Some(after)) => if before.column == after.column {
+        match self.gap {
+            Gap::Between { before, after } => if before.column == after.column {
                 moved(before.column, number.min(left), self.rightward)
             } else {
                 between(before.column, after.column, number, gaps)
             },
-            (Some(before), None) => moved(before.column, number, self.rightward),
-            (None, Some(after)) => moved(after.column, left, !self.rightward),
-            (None, None) => moved(MIDDLE, number, true),
+            Gap::Behind { cell } => moved(cell.column, number, self.rightward),
+            Gap::Before { cell } => moved(cell.column, left, !self.rightward),
+            Gap::Anywhere => moved(MIDDLE, number, true),
         }
     }
 
     // The row that it would best have.
     fn wish(&self, cells: &Cells) -> u32 {
-        match (self.before, self.after) {
-            (Some(before), Some(after)) => before.row.saturating_add(after.row) / 2,
-            (Some(cell), None) => cell.row,
-            (None, Some(cell)) => cell.row,
-            (None, None) => match cells.edges() {
-                Some(edges) => edges.last.row.saturating_add(1),
-                None => MIDDLE,
-            },
+        match self.gap {
+            Gap::Between { before, after } => before.row.saturating_add(after.row) / 2,
+            Gap::Behind { cell } => cell.row,
+            Gap::Before { cell } => cell.row,
+            Gap::Anywhere => cell_below(cells).row,
         }
     }
 
@@ -136,8 +159,8 @@ pub(crate) fn free_cell(cells: &Cells, cell: Cell) -> Cell {
     cell
 }
 
-// The cell of a point that is given and placed.
-fn cell_of(cells: &Cells, point: Option<u32>) -> Option<Cell> {
+/// The cell of a point that is given and placed.
+pub(crate) fn cell_of(cells: &Cells, point: Option<u32>) -> Option<Cell> {
     cells.at(point?)
 }
 
@@ -152,12 +175,10 @@ fn place_stretch(
     if points.is_empty() {
         return;
     }
-    let gaps = gaps_of(points);
-    make_room(cells, cell_of(cells, before), cell_of(cells, after), gaps);
+    make_room(cells, gap_between(cells, before, after), gaps_of(points));
     let stretch = Stretch {
         points,
-        before: cell_of(cells, before),
-        after: cell_of(cells, after),
+        gap: gap_between(cells, before, after),
         rightward,
     };
     stretch.place(cells);

@@ -1,14 +1,18 @@
 // Sections as pale areas behind their points.
-ghost use Rattle.std.specs.Prelude.{◌≡◌, ◌++◌, IfOk, OnOk, length, map, flat_map, string_bytes};
+ghost use Rattle.std.specs.Prelude.{◌≡◌, ◌<◌, ◌++◌, IfOk, OnOk, codes, decimal, length, flat_map, string_bytes};
 ghost use Rattle.state_sentences.specs.Explanation.{joined_below};
-ghost use Rattle.layout_picture.specs.Areas.{dot_words, line_words, way_over as words_over, way_of, path_along, first_attribute};
+ghost use Rattle.rail_model.specs.Checks.{below};
+ghost use Rattle.layout_picture.specs.Marks.{painted};
+ghost use Rattle.layout_picture.specs.Areas.{dot_words, line_words, way_over as words_over, way_of};
+ghost use Rattle.layout_picture.specs.Areas.{first_attribute, is_marked};
+ghost use Rattle.layout_picture.specs.Drawn.{AddsShapes, AreAreas, marks};
 
-use crate::frame::{Frame, View, shifted};
-use crate::insides::Inside;
-use crate::tracks::painted;
-use rail_model::{Link, points_of};
+use crate::frame::{View, shifted};
+use crate::insides::has_point;
+use crate::shapes::{path, push_label, push_shape, write_spot};
+use rail_model::{Link, points_of, sections_of};
 use std::alloc::{AllocError, Global};
-use svg_text::{Shape, Spot, label};
+use svg_text::Shape;
 
 const COLOURS: [&str; 8] = [
     "#e8b923", "#5aa9e6", "#63b76c", "#d66ba0", "#8f7be0", "#b08a5b", "#35b0ab", "#8d99a6",
@@ -19,44 +23,55 @@ pub(crate) fn area_colour(section: u32) -> &'static str {
     COLOURS[section as usize % 8]
 }
 
-// Adds a dot at a point to the way of a broad pen, if the point is in a section.
-fn write_dot(way: &mut String, frame: &Frame, inside: &Inside, point: u32) -> Result<(), AllocError>
-    ensures { OnOk result (string_bytes way.new ≡ string_bytes way.old ++ dot_words frame.now.spots.items inside.now point) }
+// How wide the area of a section is. Sections that share points have areas of different width.
+fn area_width(across: u64, section: u32) -> u64 {
+    across.max(26).min(60) * u64::from(5 - section % 4) / 5
+}
+
+// Whether a point of the layout is in a section.
+fn is_in(view: &View, section: u32, point: u32) -> bool
+    requires { section < length view.now.scene.now.table.now.sections }
+    ensures { result ≡ is_marked (marks view.now section) point }
 {
-    if !inside.has(point) {
+    has_point(view.scene.table, points_of(view.layout), section, point)
+}
+
+// Adds a dot at a point to the way of a broad pen, if the point is in a section.
+fn write_dot(way: &mut String, view: &View, section: u32, point: u32) -> Result<(), AllocError>
+    requires { section < length view.now.scene.now.table.now.sections }
+    ensures { OnOk result (string_bytes way.new ≡ string_bytes way.old
+        ++ dot_words view.now.frame.now.spots.items (marks view.now section) point) }
+{
+    if !is_in(view, section, point) {
         return Ok(());
     }
-    let Spot { x, y } = frame.spot(point);
-    write!(way, "M{x},{y} h0 ")
+    write_spot(way, "M", view.frame.spot(point))?;
+    way.push_str(" h0 ")
 }
 
 // Adds a line along a link to the way, if both of its points are in a section.
-fn write_line(
-    way: &mut String,
-    frame: &Frame,
-    inside: &Inside,
-    link: &Link,
-) -> Result<(), AllocError>
-    ensures { OnOk result (string_bytes way.new ≡ string_bytes way.old ++ line_words frame.now.spots.items inside.now link.now) }
+fn write_line(way: &mut String, view: &View, section: u32, link: &Link) -> Result<(), AllocError>
+    requires { section < length view.now.scene.now.table.now.sections }
+    ensures { OnOk result (string_bytes way.new ≡ string_bytes way.old
+        ++ line_words view.now.frame.now.spots.items (marks view.now section) link.now) }
 {
-    if !inside.has(link.first()) || !inside.has(link.second()) {
+    if !is_in(view, section, link.first()) || !is_in(view, section, link.second()) {
         return Ok(());
     }
-    let Spot {
-        x: from_x,
-        y: from_y,
-    } = frame.spot(link.first());
-    let Spot { x: to_x, y: to_y } = frame.spot(link.second());
-    write!(way, "M{from_x},{from_y} L{to_x},{to_y} ")
+    write_spot(way, "M", view.frame.spot(link.first()))?;
+    write_spot(way, " L", view.frame.spot(link.second()))?;
+    way.push_str(" ")
 }
 
 // Adds the points of a section.
-fn write_points(way: &mut String, view: &View, inside: &Inside) -> Result<(), AllocError>
+fn write_points(way: &mut String, view: &View, section: u32) -> Result<(), AllocError>
+    requires { section < length view.now.scene.now.table.now.sections }
     ensures { OnOk result (string_bytes way.new ≡ string_bytes way.old
-        ++ joined_below (dot_words view.now.frame.now.spots.items inside.now) (length view.now.layout.now.points)) }
+        ++ joined_below (dot_words view.now.frame.now.spots.items (marks view.now section))
+        (length view.now.layout.now.points)) }
 {
     for point in 0..points_of(view.layout) {
-        write_dot(way, view.frame, inside, point)?;
+        write_dot(way, view, section, point)?;
     }
     Ok(())
 }
@@ -64,87 +79,99 @@ fn write_points(way: &mut String, view: &View, inside: &Inside) -> Result<(), Al
 // Adds the links between points of a section.
 fn write_links(
     way: &mut String,
-    frame: &Frame,
+    view: &View,
+    section: u32,
     links: &[Link],
-    inside: &Inside,
 ) -> Result<(), AllocError>
-    ensures { OnOk result (string_bytes way.new ≡ string_bytes way.old ++ flat_map (line_words frame.now.spots.items inside.now) links.now) }
+    requires { section < length view.now.scene.now.table.now.sections }
+    ensures { OnOk result (string_bytes way.new ≡ string_bytes way.old
+        ++ flat_map (line_words view.now.frame.now.spots.items (marks view.now section)) links.now) }
 {
     for link in links {
-        write_line(way, frame, inside, link)?;
+        write_line(way, view, section, link)?;
     }
     Ok(())
 }
 
 // The way over the points of a section, and the links between them.
-fn way_over(view: &View, inside: &Inside) -> Result<String, AllocError>
-    ensures { IfOk result (λ way. string_bytes way ≡ words_over view.now.layout.now view.now.frame.now.spots.items inside.now) }
+fn way_over(view: &View, section: u32) -> Result<String, AllocError>
+    requires { section < length view.now.scene.now.table.now.sections }
+    ensures { IfOk result (λ way. string_bytes way ≡ words_over view.now.layout.now view.now.frame.now.spots.items
+        (marks view.now section)) }
 {
     let mut way = String::new(view.alloc);
-    write_points(&mut way, view, inside)?;
-    write_links(&mut way, view.frame, view.layout.links(), inside)?;
+    write_points(&mut way, view, section)?;
+    write_links(&mut way, view, section, view.layout.links())?;
     Ok(way)
 }
 
-// A path along a way.
-fn path(alloc: Global, way: &str) -> Result<Shape, AllocError>
-    ensures { IfOk result (λ shape. shape ≡ path_along way.now) }
+// Colours an area.
+fn dye(shape: &mut Shape, alloc: Global, colour: &str, width: u64) -> Result<(), AllocError>
+    ensures { OnOk result (shape.new
+        ≡ painted (painted shape.old (codes "stroke") colour.now) (codes "stroke-width") (decimal width)) }
 {
-    let mut shape = Shape::new(alloc, "path", "")?;
-    shape.set(alloc, "d", way)?;
+    shape.set(alloc, "stroke", colour)?;
+    shape.set_number(alloc, "stroke-width", width)
+}
+
+// The area of a section.
+fn area(view: &View, section: u32) -> Result<Shape, AllocError>
+    requires { section < length view.now.scene.now.table.now.sections }
+    ensures { IfOk result (λ shape. first_attribute shape
+        ≡ way_of view.now.layout.now view.now.frame.now.spots.items (marks view.now section)) }
+{
+    let way = way_over(view, section)?;
+    let mut shape = path(view.alloc, way.as_str())?;
+    let width = area_width(view.frame.grid.across, section);
+    dye(&mut shape, view.alloc, area_colour(section), width)?;
     Ok(shape)
 }
 
-// The area of a section. Sections that share points have areas of different width.
-fn area(view: &View, inside: &Inside, section: u32) -> Result<Shape, AllocError>
-    ensures { IfOk result (λ shape. first_attribute shape ≡ way_of view.now.layout.now view.now.frame.now.spots.items inside.now) }
+/// Adds an area for each section.
+pub(crate) fn push_areas(shapes: &mut Vec<Shape>, view: &View) -> Result<(), AllocError>
+    ensures { OnOk result (AddsShapes (AreAreas view.now (below (length view.now.scene.now.table.now.sections)))
+        shapes.old.items shapes.new.items) }
 {
-    let widest = view.frame.grid.across.max(26).min(60);
-    let way = way_over(view, inside)?;
-    let shape = path(view.alloc, way.as_str())?;
-    let mut shape = painted(view.alloc, shape, "stroke", area_colour(section))?;
-    shape.set_number(
-        view.alloc,
-        "stroke-width",
-        widest * u64::from(5 - section % 4) / 5,
-    )?;
-    Ok(shape)
-}
-
-/// An area for each section.
-pub(crate) fn areas(view: &View) -> Result<Vec<Shape>, AllocError>
-    ensures { IfOk result (λ shapes. map first_attribute shapes.items
-        ≡ map (way_of view.now.layout.now view.now.frame.now.spots.items) view.now.frame.now.insides.items) }
-{
-    let mut shapes = Vec::new(view.alloc);
-    for inside in &view.frame.insides {
-        let section = shapes.len().min(63) as u32;
-        shapes.push(area(view, inside, section)?)?;
-    }
-    Ok(shapes)
-}
-
-// Adds the numbers of the sections that a point is in.
-fn write_numbers(words: &mut String, frame: &Frame, point: u32) -> Result<(), AllocError> {
-    for (section, inside) in frame.insides.iter().enumerate() {
-        if inside.has(point) {
-            write!(words, "{section} ")?;
-        }
+    for section in 0..sections_of(view.scene.table) {
+        push_shape(shapes, area(view, section)?)?;
     }
     Ok(())
 }
 
-/// The numbers of the sections of each point, below it on the right.
-pub(crate) fn numbers(view: &View) -> Result<Vec<Shape>, AllocError> {
-    let mut shapes = Vec::new(view.alloc);
-    let mut words = String::new(view.alloc);
-    for point in 0..view.frame.spots.len().min(512) as u32 {
-        words.clear();
-        write_numbers(&mut words, view.frame, point)?;
-        if !words.is_empty() {
-            let foot = shifted(view.frame.spot(point), 6, 17);
-            shapes.push(label(view.alloc, foot, words.as_str())?)?;
-        }
+// Adds the number of a section, if a point is in it.
+fn write_number(words: &mut String, view: &View, section: u32, point: u32) -> Result<(), AllocError>
+    requires { section < length view.now.scene.now.table.now.sections }
+{
+    if is_in(view, section, point) {
+        write!(words, "{section} ")
+    } else {
+        Ok(())
     }
-    Ok(shapes)
+}
+
+// Adds the numbers of the sections that a point is in.
+fn write_numbers(words: &mut String, view: &View, point: u32) -> Result<(), AllocError> {
+    for section in 0..sections_of(view.scene.table) {
+        write_number(words, view, section, point)?;
+    }
+    Ok(())
+}
+
+// Adds the numbers of the sections of a point, below it on the right.
+fn push_number(shapes: &mut Vec<Shape>, view: &View, point: u32) -> Result<(), AllocError> {
+    let mut words = String::new(view.alloc);
+    write_numbers(&mut words, view, point)?;
+    if words.is_empty() {
+        return Ok(());
+    }
+    let foot = shifted(view.frame.spot(point), 6, 17);
+    push_label(shapes, view.alloc, foot, words.as_str())
+}
+
+/// Adds the numbers of the sections of each point.
+pub(crate) fn push_numbers(shapes: &mut Vec<Shape>, view: &View) -> Result<(), AllocError> {
+    for point in 0..points_of(view.layout) {
+        push_number(shapes, view, point)?;
+    }
+    Ok(())
 }

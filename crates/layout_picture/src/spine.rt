@@ -2,11 +2,14 @@
 
 use crate::cells::Cells;
 use crate::placing::place_route;
-use rail_model::{Layout, Mission, are_linked, points_of};
+use rail_model::{Layout, Link, Mission, are_linked, points_of};
 use std::alloc::{AllocError, Global};
 
 /// Farther than any point.
 const FAR: u32 = 100_000;
+
+// How many links each point is away from one of them.
+type Distances = [u32; 512];
 
 // The number of different points of a route.
 fn size_of(route: &[u32]) -> u32 {
@@ -19,61 +22,57 @@ fn size_of(route: &[u32]) -> u32 {
     size
 }
 
-// The route with the most points.
+// The route with the most points, the first of several.
 fn longest(missions: &[Mission]) -> &[u32] {
-    let mut best: usize = 0;
-    let mut most: u32 = 0;
-    for (number, mission) in missions.iter().enumerate() {
-        let size = size_of(mission.as_slice());
-        if most < size {
-            most = size;
-            best = number;
+    let mut best: &[u32] = &[];
+    for mission in missions {
+        if size_of(best) < size_of(mission.as_slice()) {
+            best = mission.as_slice();
         }
     }
-    match missions.get(best) {
-        Some(mission) => mission.as_slice(),
-        None => &[],
-    }
+    best
 }
 
-fn distance_of(distances: &[u32], point: u32) -> u32 {
+fn distance_of(distances: &Distances, point: u32) -> u32 {
     distances.get(point as usize).copied().unwrap_or(FAR)
 }
 
 // Brings a point's distance down to that of a neighbour and one more; says whether it was farther.
-fn bring_down(distances: &mut Vec<u32>, near: u32, far: u32) -> bool {
+fn bring_down(distances: &mut Distances, near: u32, far: u32) -> bool {
     let through = distance_of(distances, near).saturating_add(1);
-    let farther = through < distance_of(distances, far);
-    if farther {
-        if let Some(distance) = distances.get_mut(far as usize) {
+    match distances.get_mut(far as usize) {
+        Some(distance) if through < *distance => {
             *distance = through;
+            true
         }
+        _ => false,
     }
-    farther
+}
+
+// Brings down the distances of both ends of a link, if they are points of a route; says whether one was farther.
+fn bring_ends_down(distances: &mut Distances, route: &[u32], link: &Link) -> bool {
+    let first = link.first();
+    let second = link.second();
+    if !route.contains(&first) || !route.contains(&second) {
+        return false;
+    }
+    let forth = bring_down(distances, first, second);
+    let back = bring_down(distances, second, first);
+    forth || back
 }
 
 // Brings down the distances of the points of a route; says whether one was farther.
-fn bring_all_down(distances: &mut Vec<u32>, layout: &Layout, route: &[u32]) -> bool {
+fn bring_all_down(distances: &mut Distances, layout: &Layout, route: &[u32]) -> bool {
     let mut farther = false;
     for link in layout.links() {
-        let first = link.first();
-        let second = link.second();
-        if route.contains(&first) && route.contains(&second) {
-            farther = bring_down(distances, first, second) || farther;
-            farther = bring_down(distances, second, first) || farther;
-        }
+        farther = bring_ends_down(distances, route, link) || farther;
     }
     farther
 }
 
 // How many links each point of a route is away from one of them.
-fn distances_from(
-    alloc: Global,
-    layout: &Layout,
-    route: &[u32],
-    from: u32,
-) -> Result<Vec<u32>, AllocError> {
-    let mut distances = vec![in alloc; FAR; points_of(layout) as usize]?;
+fn distances_from(layout: &Layout, route: &[u32], from: u32) -> Distances {
+    let mut distances = [FAR; 512];
     if let Some(distance) = distances.get_mut(from as usize) {
         *distance = 0;
     }
@@ -82,12 +81,12 @@ fn distances_from(
             break;
         }
     }
-    Ok(distances)
+    distances
 }
 
 // The point of a route that is farthest from one of its points.
-fn farthest(alloc: Global, layout: &Layout, route: &[u32], from: u32) -> Result<u32, AllocError> {
-    let distances = distances_from(alloc, layout, route, from)?;
+fn farthest(layout: &Layout, route: &[u32], from: u32) -> u32 {
+    let distances = distances_from(layout, route, from);
     let mut best = from;
     for point in route {
         let distance = distance_of(&distances, *point);
@@ -95,35 +94,38 @@ fn farthest(alloc: Global, layout: &Layout, route: &[u32], from: u32) -> Result<
             best = *point;
         }
     }
-    Ok(best)
+    best
+}
+
+// Whether a route's last point is its first or leads on to it.
+fn is_round(layout: &Layout, route: &[u32]) -> bool {
+    let first = route.first().copied().unwrap_or(0);
+    let last = route.last().copied().unwrap_or(0);
+    first == last || are_linked(layout, first, last)
 }
 
 // A route, twice if its last point leads on to its first.
 fn rounds(alloc: Global, layout: &Layout, route: &[u32]) -> Result<Vec<u32>, AllocError> {
+    let again = if is_round(layout, route) { route } else { &[] };
     let mut rounds = Vec::from_slice(alloc, route)?;
-    if let (Some(first), Some(last)) = (route.first(), route.last()) {
-        if first == last || are_linked(layout, *first, *last) {
-            rounds.extend_from_slice(route)?;
-        }
-    }
+    rounds.extend_from_slice(again)?;
     Ok(rounds)
 }
 
 // The first stretch of a route from one of two points to the other.
 fn stretch_of(route: &[u32], ends: [u32; 2]) -> &[u32] {
-    let mut begin: Option<usize> = None;
-    let mut end = route.len();
+    let mut begin = route.len();
     for (number, point) in route.iter().enumerate() {
         if ends.contains(point) {
-            let first = begin.unwrap_or(number);
-            if route.get(first) != Some(point) {
-                end = number.saturating_add(1);
-                break;
+            match route.get(begin) {
+                Some(first) if first != point => {
+                    return route.get(begin..=number).unwrap_or(&[]);
+                }
+                _ => begin = number,
             }
-            begin = Some(number);
         }
     }
-    route.get(begin.unwrap_or(end)..end).unwrap_or(&[])
+    route.get(begin..).unwrap_or(&[])
 }
 
 /// Places the base line, and then all other points of the route that it is a stretch of.
@@ -134,12 +136,10 @@ pub(crate) fn place_spine(
     missions: &[Mission],
 ) -> Result<(), AllocError> {
     let route = longest(missions);
-    if let Some(begin) = route.first() {
-        let first = farthest(alloc, layout, route, *begin)?;
-        let second = farthest(alloc, layout, route, first)?;
-        let rounds = rounds(alloc, layout, route)?;
-        place_route(cells, stretch_of(&rounds, [first, second]));
-        place_route(cells, &rounds);
-    }
+    let first = farthest(layout, route, route.first().copied().unwrap_or(0));
+    let second = farthest(layout, route, first);
+    let rounds = rounds(alloc, layout, route)?;
+    place_route(cells, stretch_of(&rounds, [first, second]));
+    place_route(cells, &rounds);
     Ok(())
 }

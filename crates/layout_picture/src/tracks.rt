@@ -1,22 +1,26 @@
 // Points as dots, and links as lines.
-ghost use Rattle.std.specs.Prelude.{◌≡◌, IfOk, map};
-ghost use Rattle.layout_picture.specs.Drawn.{AreLinkLines};
-ghost use Rattle.layout_picture.specs.Marks.{dot_at, painted as painted_in, bow_of, stroke_of, ends_of, ends_at, link_ends};
+ghost use Rattle.std.specs.Prelude.{◌≡◌, ◌++◌, Some, IfOk, OnOk, codes, map, string_bytes};
+ghost use Rattle.layout_picture.specs.Drawn.{AddsShapes, AreLinkLines, step_between};
+ghost use Rattle.layout_picture.specs.Marks.{dot_at, pair_of, bow_of, stroke_of, ends_of, ends_at};
 
 use crate::frame::{Frame, Grid, View};
+use crate::shapes::{path, push_shape, write_spot};
 use rail_model::Link;
 use std::alloc::{AllocError, Global};
 use svg_text::{Shape, Spot, circle, line};
 
-/// A dot for each point.
-pub(crate) fn dots(alloc: Global, spots: &[Spot]) -> Result<Vec<Shape>, AllocError>
-    ensures { IfOk result (λ shapes. shapes.items ≡ map dot_at spots.now) }
+/// Adds a dot for each point.
+pub(crate) fn push_dots(
+    shapes: &mut Vec<Shape>,
+    alloc: Global,
+    spots: &[Spot],
+) -> Result<(), AllocError>
+    ensures { OnOk result (shapes.new.items ≡ shapes.old.items ++ map dot_at spots.now) }
 {
-    let mut shapes = Vec::new(alloc);
     for at in spots {
-        shapes.push(circle(alloc, *at, 5)?)?;
+        push_shape(shapes, circle(alloc, *at, 5)?)?;
     }
-    Ok(shapes)
+    Ok(())
 }
 
 // Whether a number is one of two others, or between them.
@@ -78,22 +82,8 @@ fn spot_beside(grid: &Grid, from: Spot, to: Spot) -> Spot {
     }
 }
 
-/// A shape with a colour as its fill or its stroke.
-pub(crate) fn painted(
-    alloc: Global,
-    shape: Shape,
-    name: &str,
-    colour: &str,
-) -> Result<Shape, AllocError>
-    ensures { IfOk result (λ done. done ≡ painted_in shape name.now colour.now) }
-{
-    let mut shape = shape;
-    shape.set(alloc, name, colour)?;
-    Ok(shape)
-}
-
-/// The way between two points that goes over no third one.
-pub(crate) fn way_between(frame: &Frame, first: u32, second: u32) -> Way
+// The way between two points that goes over no third one.
+fn way_between(frame: &Frame, first: u32, second: u32) -> Way
     ensures { ends_of result ≡ ends_at frame.now.spots.items first second }
 {
     let from = frame.spot(first);
@@ -106,35 +96,27 @@ pub(crate) fn way_between(frame: &Frame, first: u32, second: u32) -> Way
     Way { from, toward, to }
 }
 
-// The way of each link.
-fn ways_of(alloc: Global, links: &[Link], frame: &Frame) -> Result<Vec<Way>, AllocError>
-    ensures { IfOk result (λ ways. map ends_of ways.items ≡ map (link_ends frame.now.spots.items) links.now) }
+// Adds the words of a bow.
+fn write_bow(words: &mut String, from: Spot, toward: Spot, to: Spot) -> Result<(), AllocError>
+    ensures { OnOk result (string_bytes words.new ≡ string_bytes words.old
+        ++ codes "M" ++ pair_of from ++ codes " Q" ++ pair_of toward ++ codes " " ++ pair_of to) }
 {
-    let mut ways = Vec::new(alloc);
-    for link in links {
-        ways.push(way_between(frame, link.first(), link.second()))?;
-    }
-    Ok(ways)
+    write_spot(words, "M", from)?;
+    write_spot(words, " Q", toward)?;
+    write_spot(words, " ", to)
 }
 
 // A bow.
 fn bow(alloc: Global, from: Spot, toward: Spot, to: Spot) -> Result<Shape, AllocError>
     ensures { IfOk result (λ shape. shape ≡ bow_of from toward to) }
 {
-    let Spot {
-        x: from_x,
-        y: from_y,
-    } = from;
-    let Spot { x, y } = toward;
-    let Spot { x: to_x, y: to_y } = to;
-    let words = format!(in alloc; "M{from_x},{from_y} Q{x},{y} {to_x},{to_y}")?;
-    let mut shape = Shape::new(alloc, "path", "")?;
-    shape.set(alloc, "d", words.as_str())?;
-    Ok(shape)
+    let mut words = String::new(alloc);
+    write_bow(&mut words, from, toward, to)?;
+    path(alloc, words.as_str())
 }
 
-/// The line of a way.
-pub(crate) fn stroke(alloc: Global, way: Way) -> Result<Shape, AllocError>
+// The line of a way.
+fn stroke(alloc: Global, way: Way) -> Result<Shape, AllocError>
     ensures { IfOk result (λ shape. shape ≡ stroke_of way) }
 {
     match way.toward {
@@ -143,21 +125,32 @@ pub(crate) fn stroke(alloc: Global, way: Way) -> Result<Shape, AllocError>
     }
 }
 
-// A line for each way.
-fn strokes(alloc: Global, ways: &[Way]) -> Result<Vec<Shape>, AllocError>
-    ensures { IfOk result (λ shapes. shapes.items ≡ map stroke_of ways.now) }
+/// Adds a line between two points.
+pub(crate) fn push_line(
+    shapes: &mut Vec<Shape>,
+    view: &View,
+    first: u32,
+    second: u32,
+) -> Result<(), AllocError>
+    ensures { OnOk result (AddsShapes
+        (AreLinkLines view.now.frame.now.spots.items (step_between (Some first) (Some second)))
+        shapes.old.items shapes.new.items) }
 {
-    let mut shapes = Vec::new(alloc);
-    for way in ways {
-        shapes.push(stroke(alloc, *way)?)?;
-    }
-    Ok(shapes)
+    let way = way_between(view.frame, first, second);
+    push_shape(shapes, stroke(view.alloc, way)?)
 }
 
-/// A line for each link.
-pub(crate) fn links(view: &View) -> Result<Vec<Shape>, AllocError>
-    ensures { IfOk result (λ shapes. AreLinkLines view.now.frame.now.spots.items view.now.layout.now.links shapes.items) }
+/// Adds a line for each link.
+pub(crate) fn push_links(
+    shapes: &mut Vec<Shape>,
+    view: &View,
+    links: &[Link],
+) -> Result<(), AllocError>
+    ensures { OnOk result (AddsShapes (AreLinkLines view.now.frame.now.spots.items links.now)
+        shapes.old.items shapes.new.items) }
 {
-    let ways = ways_of(view.alloc, view.layout.links(), view.frame)?;
-    strokes(view.alloc, &ways)
+    for link in links {
+        push_line(shapes, view, link.first(), link.second())?;
+    }
+    Ok(())
 }

@@ -1,5 +1,5 @@
 // Trains as arrows toward their next points.
-ghost use Rattle.std.specs.Prelude.{◌≡◌, ◌+◌, ◌<◌, ◌∷◌, [], Some, IfOk, OnOk};
+ghost use Rattle.std.specs.Prelude.{◌≡◌, ◌+◌, ◌<◌, OnOk};
 ghost use Rattle.rail_model.specs.Table.{trains, point, place};
 ghost use Rattle.layout_picture.specs.Marks.{spot_at as spot_of};
 ghost use Rattle.layout_picture.specs.Arrows.{IsMark, IsArrow, outline_of as train_outline};
@@ -8,7 +8,8 @@ ghost use Rattle.layout_picture.specs.Drawn.{AddsShapes, AreLinkLines, AreOfTrai
 use crate::arrows::{ARROW, Heading, Outline, SQUARE};
 use crate::circles::{colour_of, is_in_circle};
 use crate::frame::View;
-use crate::tracks::{painted, stroke, way_between};
+use crate::shapes::push_painted;
+use crate::tracks::push_line;
 use rail_model::{last_of, point_of};
 use std::alloc::AllocError;
 use svg_text::{Shape, Spot};
@@ -39,16 +40,18 @@ fn next_point(view: &View, train: u32) -> Option<u32>
 fn heading_of(view: &View, train: u32, at: Spot) -> Heading
     requires { train < trains view.now.scene.now.table.now }
 {
-    if let Some(next) = next_point(view, train) {
-        return Heading::between(at, view.frame.spot(next));
+    match next_point(view, train) {
+        Some(next) => Heading::between(at, view.frame.spot(next)),
+        None => Heading::between(spot_before(view, train, at), at),
     }
-    let place = view.scene.place(train);
-    if 0 < place {
-        if let Some(before) = spot_at(view, train, place - 1) {
-            return Heading::between(before, at);
-        }
-    }
-    Heading::east()
+}
+
+// The spot of the point before the one where a train is; where there is none, the spot that is given.
+fn spot_before(view: &View, train: u32, at: Spot) -> Spot
+    requires { train < trains view.now.scene.now.table.now }
+{
+    let before = view.scene.place(train).saturating_sub(1);
+    spot_at(view, train, before).unwrap_or(at)
 }
 
 // The outline of an arrow, or of a square for a train that has arrived.
@@ -63,18 +66,25 @@ fn outline_of(view: &View, train: u32) -> Outline
     }
 }
 
-// The arrow of a train at a point, or a square where it has arrived.
-fn arrow(view: &View, train: u32, point: u32) -> Result<Shape, AllocError>
+// Adds the arrow of a train at a point, or a square where it has arrived.
+fn push_mark(shapes: &mut Vec<Shape>, view: &View, train: u32, point: u32) -> Result<(), AllocError>
     requires { train < trains view.now.scene.now.table.now }
-    ensures { IfOk result (λ shape. IsMark view.now.scene.now.table.now view.now.scene.now.state.now train
-        (spot_of view.now.frame.now.spots.items point) (shape ∷ [])) }
+    ensures { OnOk result (AddsShapes
+        (IsMark view.now.scene.now.table.now view.now.scene.now.state.now train
+        (spot_of view.now.frame.now.spots.items point))
+        shapes.old.items shapes.new.items) }
 {
     let at = view.frame.spot(point);
     let size = view.frame.grid.across.max(26).min(40) as i64;
     let heading = heading_of(view, train, at);
     let mark = heading.mark(view.alloc, at, size, outline_of(view, train))?;
-    let arrow = painted(view.alloc, mark, "fill", colour_of(view.scene, train))?;
-    Ok(arrow)
+    push_painted(
+        shapes,
+        view.alloc,
+        mark,
+        "fill",
+        colour_of(view.scene, train),
+    )
 }
 
 // Adds the arrow of a train, if it is in the layout.
@@ -85,30 +95,21 @@ fn push_arrow(shapes: &mut Vec<Shape>, view: &View, train: u32) -> Result<(), Al
         shapes.old.items shapes.new.items) }
 {
     match point_of(view.scene.table, train, view.scene.place(train)) {
-        Some(point) => Ok(shapes.push(arrow(view, train, point)?)?),
+        Some(point) => push_mark(shapes, view, train, point),
         None => Ok(()),
     }
 }
 
-/// An arrow for each train that is in the layout.
-pub(crate) fn arrows(view: &View) -> Result<Vec<Shape>, AllocError>
-    ensures { IfOk result (λ shapes. AreOfTrains
+/// Adds an arrow for each train that is in the layout.
+pub(crate) fn push_arrows(shapes: &mut Vec<Shape>, view: &View) -> Result<(), AllocError>
+    ensures { OnOk result (AddsShapes (AreOfTrains
         (IsArrow view.now.scene.now.table.now view.now.scene.now.state.now view.now.frame.now.spots.items)
-        (trains view.now.scene.now.table.now) shapes.items) }
+        (trains view.now.scene.now.table.now)) shapes.old.items shapes.new.items) }
 {
-    let mut shapes = Vec::new(view.alloc);
     for train in 0..view.scene.trains() {
-        push_arrow(&mut shapes, view, train)?;
+        push_arrow(shapes, view, train)?;
     }
-    Ok(shapes)
-}
-
-// The line of a step between two points.
-fn step(view: &View, here: u32, next: u32) -> Result<Shape, AllocError>
-    ensures { IfOk result (λ shape. AreLinkLines view.now.frame.now.spots.items (step_between (Some here) (Some next)) (shape ∷ [])) }
-{
-    let shape = stroke(view.alloc, way_between(view.frame, here, next))?;
-    Ok(shape)
+    Ok(())
 }
 
 // Adds the line of a step between two points, if there are both.
@@ -118,13 +119,14 @@ fn push_step(
     here: Option<u32>,
     next: Option<u32>,
 ) -> Result<(), AllocError>
-    ensures { OnOk result (AddsShapes (AreLinkLines view.now.frame.now.spots.items (step_between here next)) shapes.old.items shapes.new.items) }
+    ensures { OnOk result (AddsShapes (AreLinkLines view.now.frame.now.spots.items (step_between here next))
+        shapes.old.items shapes.new.items) }
 {
     match here {
         None => Ok(()),
         Some(here) => match next {
             None => Ok(()),
-            Some(next) => Ok(shapes.push(step(view, here, next)?)?),
+            Some(next) => push_line(shapes, view, here, next),
         },
     }
 }
@@ -143,15 +145,14 @@ fn push_wait(shapes: &mut Vec<Shape>, view: &View, train: u32) -> Result<(), All
     push_step(shapes, view, here, next_point(view, train))
 }
 
-/// A line from each train of a circle to the one that it waits for.
-pub(crate) fn waits(view: &View) -> Result<Vec<Shape>, AllocError>
-    ensures { IfOk result (λ shapes. AreOfTrains
+/// Adds a line from each train of a circle to the one that it waits for.
+pub(crate) fn push_waits(shapes: &mut Vec<Shape>, view: &View) -> Result<(), AllocError>
+    ensures { OnOk result (AddsShapes (AreOfTrains
         (IsWait view.now.scene.now.table.now view.now.scene.now.state.now view.now.frame.now.spots.items)
-        (trains view.now.scene.now.table.now) shapes.items) }
+        (trains view.now.scene.now.table.now)) shapes.old.items shapes.new.items) }
 {
-    let mut shapes = Vec::new(view.alloc);
     for train in 0..view.scene.trains() {
-        push_wait(&mut shapes, view, train)?;
+        push_wait(shapes, view, train)?;
     }
-    Ok(shapes)
+    Ok(())
 }

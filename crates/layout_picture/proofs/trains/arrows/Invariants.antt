@@ -1,6 +1,0 @@
-use Rattle.layout_picture.specs.Arrows.{IsArrow}
-use Rattle.layout_picture.specs.Drawn.{AreOfTrains}
-use Rattle.layout_picture.proofs.trains.arrows.Given as goal
-
-abbrev pub invariant-loop-train : goal.invariant-loop-train
-invariant-loop-train l = AreOfTrains (IsArrow l.view.scene.now.table.now l.view.scene.now.state.now l.view.frame.now.spots.items) l.train l.shapes.items

@@ -1,0 +1,7 @@
+use Rattle.layout_picture.specs.Drawn.{AddsShapes, AreOfTrains, IsWait}
+use Rattle.layout_picture.proofs.trains.push_waits.Given as goal
+
+abbrev pub invariant-loop-train : goal.invariant-loop-train
+invariant-loop-train l =
+    AddsShapes (AreOfTrains (IsWait l.view.scene.now.table.now l.view.scene.now.state.now l.view.frame.now.spots.items) l.train)
+    l.initial.shapes.items l.shapes.items
