@@ -1,3 +1,4 @@
 pub mod Nothing
 pub mod Shares
+pub mod Tracks
 pub mod Written

@@ -5,9 +5,11 @@ mod laws;
 mod members;
 mod plan;
 mod shares;
+mod tracks;
 mod writing;
 
 pub use laws::changes_add_up_to_shares;
 pub use plan::{Holding, Plan, SectionPlan, TablePlan, Wait};
 pub use shares::{is_among, share_at};
+pub use tracks::{before, behind, goes, is_linked, keeps, point_at};
 pub use writing::written;

@@ -6,6 +6,10 @@ use rail_model::TrainTimes;
 /// A plan: its points with their zones, its links by the names of their points, its trains, and where they start.
 #[derive(Drop)]
 pub struct Plan {
+    /// The lines to which its routes keep; none, if its routes say themselves which tracks there are.
+    pub lines: Vec<Vec<String>>,
+    /// The points that its trains pass only as lines do.
+    pub switches: Vec<String>,
     pub points: Vec<(String, u32)>,
     pub links: Vec<(String, String)>,
     pub zones: u32,

@@ -6,8 +6,8 @@ use crate::Holding;
 use rail_model::Changes;
 use std::alloc::{AllocError, Global};
 
-// Whether a name is this one.
-fn is_called(known: &String, name: &str) -> bool
+/// Whether a name is this one.
+pub(crate) fn is_called(known: &String, name: &str) -> bool
     ensures { result ≡ bytes_eq name.now (string_bytes known.now) }
 {
     name == known.as_str()

@@ -127,7 +127,16 @@ fn check_value(faults: &mut Faults, at: &Entry, takes: Takes, value: &Value) {
 // The keys of an entry, in the order in which they are looked at.
 fn known_keys(kind: Kind, is_further: bool) -> &'static [&'static str] {
     match kind {
-        Kind::Top | Kind::Zones => &["lines", "zones", "train", "section", "connection", "table"],
+        Kind::Top | Kind::Zones => &[
+            "lines",
+            "open",
+            "switches",
+            "zones",
+            "train",
+            "section",
+            "connection",
+            "table",
+        ],
         Kind::Train if is_further => &["name", "route", "exit", "times"],
         Kind::Train => &["name", "route", "start", "exit", "times"],
         Kind::Section => &["name", "limit", "points", "weight", "only", "from", "to"],
@@ -143,7 +152,7 @@ fn taken_by(kind: Kind, key: &str) -> Takes {
         _ => match key {
             "name" | "start" => Takes::Name,
             "limit" | "after" => Takes::Number,
-            "exit" => Takes::Flag,
+            "exit" | "open" => Takes::Flag,
             "times" | "weight" => Takes::Numbers,
             "from" | "to" => Takes::Places,
             _ => Takes::Names,
@@ -290,6 +299,8 @@ pub fn check_types(faults: &mut Faults, top: &Entry) {
         check_keys(faults, top, keys, known_keys(Kind::Top, false));
     }
     check_lines(faults, top);
+    check_key(faults, top, "open");
+    check_key(faults, top, "switches");
     check_zones(faults, top);
     check_lists(faults, top);
     check_tables(faults, top);

@@ -1,4 +1,5 @@
 // The trains and points of a plan and what links the points, in the order in which they are first named, and zones.
+use crate::laying::lines_of;
 use crate::names::{find, is_known, is_name, text_of};
 use crate::routes::count_of;
 use plan_entries::{Entries, Entry, Faults, Kind, Part, names_of};
@@ -21,6 +22,19 @@ const MOST_ZONES: u32 = 16;
 pub(crate) struct Link<'t> {
     pub one: &'t str,
     pub other: &'t str,
+}
+
+impl<'t> Link<'t> {
+    /// The point that a point is linked with, if it is one of the two.
+    pub fn beyond(&self, point: &str) -> Option<&'t str> {
+        if self.one == point {
+            Some(self.other)
+        } else if self.other == point {
+            Some(self.one)
+        } else {
+            None
+        }
+    }
 }
 
 /// What has been named so far, and for each point its zone, if it has one.
@@ -240,9 +254,12 @@ impl<'t> Ground<'t> {
         Ok(())
     }
 
-    /// Adds the points and links of a plan: those of its lines, and then those of its routes.
+    /// Adds the points and links of a plan: those of its lines, and then those of its routes, unless these have to keep to the lines.
     pub fn add_points(&mut self, faults: &mut Faults, top: &Entry<'t>) -> Result<(), AllocError> {
         self.add_lines(faults, top)?;
+        if !lines_of(top).is_empty() {
+            return Ok(());
+        }
         self.add_routes(faults, &top.list(Kind::Train))?;
         let tables = top.list(Kind::Table);
         for index in 0..tables.values.len() {

@@ -4,6 +4,7 @@
 
 mod connections;
 mod ground;
+mod laying;
 mod names;
 mod ranges;
 mod routes;

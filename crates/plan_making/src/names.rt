@@ -36,7 +36,7 @@ pub(crate) fn number_of(known: &[&str], name: &str) -> Option<usize> {
 
 /// Whether a name is one of these.
 pub(crate) fn is_known(known: &[&str], name: &str) -> bool {
-    number_of(known, name).is_some()
+    known.contains(&name)
 }
 
 // By how many letters two names differ; far if hardly any are the same.
@@ -47,7 +47,7 @@ fn distance(alloc: Global, name: &str, known: &str) -> Result<usize, AllocError>
     if 24 < name.len() {
         return Ok(FAR);
     }
-    let edits = strsim::levenshtein(alloc, name, known)?;
+    let edits = strsim::osa_distance(alloc, name, known)?;
     Ok(if edits < name.len().max(known.len()) {
         edits
     } else {

@@ -328,6 +328,24 @@ fn tell_taken(faults: &mut Faults, at: &Entry, taken: u32, limit: u32, shares: &
     faults.tell(at, "at the start {} of {} are taken{}", &parts);
 }
 
+// Tells that a section is over its limit where the trains start, if it is.
+fn check_limit(
+    alloc: Global,
+    faults: &mut Faults,
+    at: &Entry,
+    section: &SectionPlan,
+    scope: &Scope,
+    starts: &[Option<usize>],
+) -> Result<(), AllocError> {
+    let taken = taken_at(section, scope, starts);
+    if section.limit < taken {
+        let mut shares = String::new(alloc);
+        push_taken(&mut shares, section, scope, starts)?;
+        tell_taken(faults, at, taken, section.limit, shares.as_str());
+    }
+    Ok(())
+}
+
 /// Tells each section that is over its limit where the trains start.
 pub(crate) fn check_taken(
     alloc: Global,
@@ -338,13 +356,8 @@ pub(crate) fn check_taken(
     starts: &[Option<usize>],
 ) -> Result<(), AllocError> {
     for (index, section) in sections.iter().enumerate() {
-        let taken = taken_at(section, scope, starts);
-        if section.limit < taken {
-            let mut shares = String::new(alloc);
-            push_taken(&mut shares, section, scope, starts)?;
-            let at = entries.entry(index).at("limit");
-            tell_taken(faults, &at, taken, section.limit, shares.as_str());
-        }
+        let at = entries.entry(index).at("limit");
+        check_limit(alloc, faults, &at, section, scope, starts)?;
     }
     Ok(())
 }

@@ -1,6 +1,7 @@
 // The tables of a plan, and the plan as a whole.
 use crate::connections::add_waits;
 use crate::ground::{Ground, Link, greatest};
+use crate::laying::{add_lines, check_laid};
 use crate::ranges::Range;
 use crate::routes::Scope;
 use crate::sections::{add_sections, check_taken};
@@ -18,9 +19,9 @@ const AFTER: Range = Range {
     form: "a table is due after 0 to 1000000 moves, and this is {}",
 };
 
-// A table: the plan as a whole, and what the table says itself. The first says nothing itself.
+/// A table: the plan as a whole, and what the table says itself. The first says nothing itself.
 #[derive(Clone, Copy)]
-struct Layer<'t> {
+pub(crate) struct Layer<'t> {
     top: Entry<'t>,
     own: Entry<'t>,
     // Counted from 0.
@@ -28,6 +29,19 @@ struct Layer<'t> {
 }
 
 impl<'t> Layer<'t> {
+    /// The table of this number.
+    pub fn of(top: &Entry<'t>, number: usize) -> Layer<'t> {
+        let own = match number {
+            0 => Entry::part(Kind::Top, None),
+            _ => top.list(Kind::Table).entry(number.saturating_sub(1)),
+        };
+        Layer {
+            top: *top,
+            own,
+            number,
+        }
+    }
+
     // The entries of a kind that hold in the table: its own, or those of the first.
     fn entries(&self, kind: Kind) -> Entries<'t> {
         match self.own.value(kind.word()) {
@@ -36,8 +50,8 @@ impl<'t> Layer<'t> {
         }
     }
 
-    // The trains of the table.
-    fn roster(&self) -> Roster<'t> {
+    /// The trains of the table.
+    pub fn roster(&self) -> Roster<'t> {
         Roster {
             firsts: self.top.list(Kind::Train),
             changes: self.own.list(Kind::Train),
@@ -101,17 +115,21 @@ fn add_tables(
     let tables = top.list(Kind::Table);
     let count = tables.values.len();
     for index in 0..count.min(MOST_TABLES - 1) {
-        let layer = Layer {
-            top: *top,
-            own: tables.entry(index),
-            number: index.saturating_add(1),
-        };
+        let layer = Layer::of(top, index.saturating_add(1));
         plan.tables
             .push(table_plan(alloc, faults, &layer, ground)?)?;
     }
     if MOST_TABLES <= count {
         let form = "this is one table too many: 16 are the most, with the first";
         faults.tell(&tables.entry(MOST_TABLES - 1), form, &[]);
+    }
+    Ok(())
+}
+
+// Adds places as a document has them: the first, in place of one that isn't right.
+fn push_starts(places: &mut Vec<u32>, starts: &[Option<usize>]) -> Result<(), AllocError> {
+    for start in starts {
+        places.push(u32::try_from(start.unwrap_or(0)).unwrap_or(0))?;
     }
     Ok(())
 }
@@ -139,11 +157,7 @@ fn add_starts(
     check_starts(faults, &trains, &scope, &starts);
     let sections = top.list(Kind::Section);
     check_taken(alloc, faults, &sections, &first.sections, &scope, &starts)?;
-    for start in &starts {
-        plan.start
-            .push(u32::try_from(start.unwrap_or(0)).unwrap_or(0))?;
-    }
-    Ok(())
+    push_starts(&mut plan.start, &starts)
 }
 
 // Adds what is named.
@@ -181,36 +195,39 @@ fn fill(
     ground: &Ground,
     plan: &mut Plan,
 ) -> Result<(), AllocError> {
-    let layer = Layer {
-        top: *top,
-        own: Entry::part(Kind::Top, None),
-        number: 0,
-    };
+    let layer = Layer::of(top, 0);
     plan.tables
         .push(table_plan(alloc, faults, &layer, ground)?)?;
     add_starts(alloc, faults, top, ground, plan)?;
     add_tables(alloc, faults, top, ground, plan)?;
     add_names(alloc, ground, plan)?;
-    add_links(alloc, ground, plan)
+    add_links(alloc, ground, plan)?;
+    add_lines(alloc, top, plan)?;
+    check_laid(faults, top, ground, plan);
+    Ok(())
 }
 
-// What a plan names: its trains, points and links, and the zones of its points.
-fn ground_of<'t>(
-    alloc: Global,
+// Adds what a plan names: its trains, points and links, and the zones of its points.
+fn fill_ground<'t>(
     faults: &mut Faults,
     top: &Entry<'t>,
-) -> Result<Ground<'t>, AllocError> {
-    let mut ground = Ground::new(alloc);
+    ground: &mut Ground<'t>,
+) -> Result<(), AllocError> {
     ground.add_trains(faults, &top.list(Kind::Train))?;
     ground.add_points(faults, top)?;
-    ground.add_zones(faults, top)?;
-    Ok(ground)
+    ground.add_zones(faults, top)
 }
 
-/// The plan that a table of keys makes; what is wrong with it is reported.
-pub fn plan_of(alloc: Global, faults: &mut Faults, top: &Entry) -> Result<Plan, AllocError> {
-    let ground = ground_of(alloc, faults, top)?;
+// The plan that a table of keys makes, where this is what it names; what is wrong with it is reported.
+fn plan_on(
+    alloc: Global,
+    faults: &mut Faults,
+    top: &Entry,
+    ground: &Ground,
+) -> Result<Plan, AllocError> {
     let mut plan = Plan {
+        lines: Vec::new(alloc),
+        switches: Vec::new(alloc),
         points: Vec::new(alloc),
         links: Vec::new(alloc),
         zones: greatest(&ground.zones).saturating_add(1),
@@ -218,6 +235,13 @@ pub fn plan_of(alloc: Global, faults: &mut Faults, top: &Entry) -> Result<Plan, 
         start: Vec::new(alloc),
         tables: Vec::new(alloc),
     };
-    fill(alloc, faults, top, &ground, &mut plan)?;
+    fill(alloc, faults, top, ground, &mut plan)?;
     Ok(plan)
+}
+
+/// The plan that a table of keys makes; what is wrong with it is reported.
+pub fn plan_of(alloc: Global, faults: &mut Faults, top: &Entry) -> Result<Plan, AllocError> {
+    let mut ground = Ground::new(alloc);
+    fill_ground(faults, top, &mut ground)?;
+    plan_on(alloc, faults, top, &ground)
 }

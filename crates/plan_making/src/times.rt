@@ -78,6 +78,11 @@ pub(crate) fn check_times(faults: &mut Faults, entry: &Entry, points: &[&str], r
     }
 }
 
+// A time, if it is in range; else the least that there is.
+fn time_within(time: &i64) -> u32 {
+    TIMES.number(*time).unwrap_or(TIMES.least)
+}
+
 /// The times of the steps of a route; in place of one that is out of range, which is reported, the least that there is.
 pub(crate) fn times_of(
     alloc: Global,
@@ -86,9 +91,6 @@ pub(crate) fn times_of(
     exits: bool,
 ) -> Result<TrainTimes, AllocError> {
     let said = times_said(alloc, said, route, exits)?;
-    let times: Vec<u32> = said
-        .iter()
-        .map(|time| TIMES.number(*time).unwrap_or(TIMES.least))
-        .collect(alloc)?;
+    let times: Vec<u32> = said.iter().map(time_within).collect(alloc)?;
     Ok(TrainTimes::from(times))
 }

@@ -83,6 +83,11 @@ impl<'t> Roster<'t> {
         }
     }
 
+    /// The entry that faults of a train under this table are about.
+    pub fn entry(&self, train: usize) -> Entry<'t> {
+        self.service(train).entry()
+    }
+
     /// Tells changes of trains that aren't there, or that are changed already.
     pub fn check_changes(&self, faults: &mut Faults, trains: &[&str]) {
         for index in 0..self.changes.values.len() {
@@ -138,8 +143,8 @@ pub(crate) fn push_names(
     Ok(())
 }
 
-// Names again.
-fn copied(alloc: Global, values: &[Value]) -> Result<Vec<String>, AllocError> {
+/// Names again.
+pub(crate) fn copied(alloc: Global, values: &[Value]) -> Result<Vec<String>, AllocError> {
     let mut names = Vec::new(alloc);
     push_names(&mut names, alloc, values)?;
     Ok(names)
@@ -154,14 +159,14 @@ fn add_train(
     plan: &mut TablePlan,
 ) -> Result<(), AllocError> {
     check_route(faults, service);
+    let train = plan.routes.len();
     let route = service.route();
     let exits = service.exits();
     check_times(faults, &service.entry(), points, route);
-    let names = copied(alloc, route)?;
-    plan.times
-        .push(times_of(alloc, service.times(), &names, exits)?)?;
-    plan.routes.push(names)?;
+    plan.routes.push(copied(alloc, route)?)?;
     plan.exits.push(exits)?;
+    let times = times_of(alloc, service.times(), plan.route(train), exits)?;
+    plan.times.push(times)?;
     Ok(())
 }
 

@@ -9,4 +9,5 @@ mod Rows
 mod Steps
 mod Texts
 mod TimeRows
+mod TrackRows
 mod ZoneRows

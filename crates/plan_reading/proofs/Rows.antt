@@ -1,7 +1,7 @@
 -- Worked rows: what is said of a train in a table, and which entries are what stands at their places.
 use Rattle.std.proofs.Common.{◌≡◌, ℕ, List, [], ◌∷◌, pos, negsuc, Bool, true, false, String, Global, Some, None, codes, lit<, refl}
 use Rattle.toml.specs.Data.{Data, Items, no_items, item, Members, no_members, member, string, integer, boolean, array, table, as_integer}
-use Rattle.plan_reading.specs.Agreeing.{agree_all, exits, is_due, is_exit, is_number, starts_at, text_at, value_at}
+use Rattle.plan_reading.specs.Agreeing.{agree_all, is_due, is_exit, is_number, says_yes, starts_at, text_at, value_at}
 use Rattle.plan_reading.specs.Said.{change_of, entries_in, first_named, has_zones, own_of, said_at}
 use Rattle.plan_reading.proofs.Texts.{text_of}
 
@@ -22,7 +22,7 @@ re = table (member (codes "name") (string (codes "RE")) no_members)
 pub its_name : text_at (codes "name") ic ≡ Some (codes "IC")
 its_name = refl
 
-pub leaves : exits (value_at (codes "exit") (Some ic)) ≡ true
+pub leaves : says_yes (value_at (codes "exit") (Some ic)) ≡ true
 leaves = refl
 
 pub stays : is_exit (value_at (codes "exit") (Some re)) false ≡ true

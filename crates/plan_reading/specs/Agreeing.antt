@@ -78,13 +78,13 @@ is_named entry name = is_text (text_at (codes "name") entry) name
 abbrev pub is_route : Option Data → List (String Global) → Bool
 is_route said route = are_names (option_and_then as_array said) route
 
--- whether a train of which this is said exits: not, if nothing is said
-abbrev pub exits : Option Data → Bool
-exits said = unwrap_or (option_and_then as_bool said) false
+-- whether what is said is true: not, if nothing is said
+abbrev pub says_yes : Option Data → Bool
+says_yes said = unwrap_or (option_and_then as_bool said) false
 
 -- whether it exits exactly if this says so
 abbrev pub is_exit : Option Data → Bool → Bool
-is_exit said exit = if exit then exits said else not (exits said)
+is_exit said exit = if exit then says_yes said else not (says_yes said)
 
 -- whether there is a text, and it names this place of a route
 abbrev pub names_place : Option (List ℕ) → List (String Global) → ℕ → Bool

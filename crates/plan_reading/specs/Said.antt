@@ -6,10 +6,11 @@ use Rattle.std.specs.declared.alloc.Global.{Global}
 use Rattle.toml.specs.Data.{Data, Items, no_items, item, Members, get_member, get_item, as_array}
 use Rattle.toml.specs.Parse.{parse_document}
 use Rattle.plan_document.specs.Nothing.{points_of}
+use Rattle.plan_document.specs.Tracks.{keeps}
 use Rattle.plan_document.specs.declared.plan.Plan.{Plan}
 use Rattle.plan_document.specs.declared.plan.TablePlan.{TablePlan}
 use Rattle.plan_document.specs.declared.plan.Wait.{Wait}
-use Rattle.plan_reading.specs.Agreeing.{agree_all, value_at, text_at, list_at, is_named, is_route, is_exit, names_place, names_train, starts_at, is_due}
+use Rattle.plan_reading.specs.Agreeing.{agree_all, is_name, value_at, text_at, list_at, is_named, is_route, says_yes, is_exit, names_place, names_train, starts_at, is_due}
 use Rattle.plan_reading.specs.Held.{is_section}
 use Rattle.plan_reading.specs.Timed.{are_times}
 use Rattle.plan_reading.specs.Zoned.{are_zoned}
@@ -83,13 +84,23 @@ is_wait trains routes entry w =
     && names_train (text_at (codes "after") entry) (slice_get trains w.after)
     && names_place (text_at (codes "reached") entry) (points_of (slice_get routes w.after)) w.reached
 
--- a table of a plan agrees with a text and with what the table says itself: in its trains, its sections and its connections, and in when it is due
+-- whether all routes keep to lines: each of their points and links is one of a line, and they pass switches as lines do
+abbrev pub all_keep : List (Vec (String Global) Global) → List (String Global) → List (Vec (String Global) Global) → Bool
+all_keep lines switches routes = list_all (λ route. keeps lines switches route.items) routes
+
+-- whether all routes keep to lines, if there are any
+unfoldable pub keep_to : List (Vec (String Global) Global) → List (String Global) → List (Vec (String Global) Global) → Bool
+keep_to lines switches routes = (length lines == 0) || all_keep lines switches routes
+
+-- a table of a plan agrees with a text and with what the table says itself: in its trains, its sections and its
+-- connections, and in when it is due; and its routes keep to the plan's lines
 pub record AgreesIn (text : Members) (own : Option Data) (plan : Plan) (t : TablePlan) : Type 0 where
   pub complete : is_complete plan t ≡ true
   pub trains : EachTrain plan (goes_right (entries_at (codes "train") text) own plan t)
   pub sections : agree_all (is_section plan.points.items plan.trains.items t.routes.items) (entries_in (codes "section") text own) t.sections.items ≡ true
   pub connections : agree_all (is_wait plan.trains.items t.routes.items) (entries_in (codes "connection") text own) t.waits.items ≡ true
   pub due : is_due own t.after ≡ true
+  pub laid : keep_to plan.lines.items plan.switches.items t.routes.items ≡ true
 
 -- how many entries there are
 abbrev pub count_of : Items → ℕ
@@ -123,9 +134,28 @@ is_used points zone = list_any (λ p. p.1 == zone) points
 abbrev pub has_zones : List (String Global × ℕ) → ℕ → Bool
 has_zones points zones = nat_lt 0 zones && are_within points zones && (zones == 1 || is_used points (zones - 1))
 
--- a plan is what a text says: it has the text's trains, in order, by their names, and starts them where it says; its points are in the zones that it
--- says; and its tables are as it says. This leaves out the links, and which points there are and in which order
+-- whether a text says that routes need not keep to its lines
+abbrev pub is_open : Members → Bool
+is_open text = says_yes (get_member (codes "open") text)
+
+-- the lines to which routes have to keep: those of a text, unless it is open
+abbrev pub lines_of : Members → Items
+lines_of text = if is_open text then no_items else entries_at (codes "lines") text
+
+-- whether an item names the points of this line
+abbrev pub is_line : Data → Vec (String Global) Global → Bool
+is_line d line = is_route (Some d) line.items
+
+-- a plan has the lines of a text to which routes have to keep, and its switches
+pub record AreTracks (text : Members) (plan : Plan) : Type 0 where
+  pub lines : agree_all is_line (lines_of text) plan.lines.items ≡ true
+  pub switches : agree_all is_name (entries_at (codes "switches") text) plan.switches.items ≡ true
+
+-- a plan is what a text says: it has the text's trains, in order, by their names, and starts them where it says; its
+-- points are in the zones that it says; its tables are as it says; and its routes keep to the text's lines, if it has any
+-- and isn't open. This leaves out which points and links there are, and in which order
 pub record IsPlanOf (text : Members) (plan : Plan) : Type 0 where
+  pub tracks : AreTracks text plan
   pub trains : agree_all is_named (entries_at (codes "train") text) plan.trains.items ≡ true
   pub starts : ForSome (slice_get plan.tables.items 0) (StartAsSaid (entries_at (codes "train") text) plan)
   pub zoned : are_zoned (get_member (codes "zones") text) plan.points.items ≡ true

@@ -2,20 +2,21 @@
 ghost use Rattle.std.specs.Prelude.{◌≡◌, ◌↔◌, codes, IfOk, IsTrue, option_and_then, option_copied, slice_get};
 ghost use Rattle.std.specs.Option.{ForSome};
 ghost use Rattle.toml.specs.Data.{get_item, get_member};
-ghost use Rattle.toml.specs.View.{items_view, table_view};
+ghost use Rattle.toml.specs.View.{items_view, table_view, view};
 ghost use Rattle.plan_reading.specs.Agreeing.{agree_values, is_named as is_named_of, seen, text_at as text_of};
 ghost use Rattle.plan_reading.specs.Held.{is_section as is_section_of};
 ghost use Rattle.plan_reading.specs.Said as spec;
 ghost use Rattle.plan_reading.specs.Zoned.{are_zoned as are_zoned_of};
-ghost use Rattle.plan_reading.specs.Said.{AgreesIn, EachTrain, IsPlanOf, StartAsSaid, TablesAsSaid};
+ghost use Rattle.plan_reading.specs.Said.{AgreesIn, AreTracks, EachTrain, IsPlanOf, StartAsSaid, TablesAsSaid};
 
 use crate::held::is_section;
 use crate::matching::{
-    agree, is_due, is_exit, is_named, is_route, is_wait, list_at, starts_at, text_at, value_at,
+    agree, are_names, is_due, is_exit, is_named, is_route, is_wait, list_at, says_yes, starts_at,
+    text_at, value_at,
 };
 use crate::timed::are_times;
 use crate::zoned::are_zoned;
-use plan_document::{Plan, SectionPlan, TablePlan, Wait};
+use plan_document::{Plan, SectionPlan, TablePlan, Wait, keeps};
 use std::alloc::{AllocError, Global};
 use toml::{Table, Value};
 
@@ -186,6 +187,21 @@ fn is_complete(plan: &Plan, table: &TablePlan) -> bool
     table.routes.len() == trains && table.exits.len() == trains && table.times.len() == trains
 }
 
+// Whether all routes keep to lines.
+fn all_keep(lines: &[Vec<String>], switches: &[String], routes: &[Vec<String>]) -> bool
+    ensures { result ≡ spec.all_keep lines.now switches.now routes.now }
+{
+    routes.iter().all(|route| keeps(lines, switches, route))
+}
+
+// Whether all routes keep to lines, if there are any.
+#[tactic(auto, unfolding(crate::specs::Said::keep_to))]
+fn keep_to(lines: &[Vec<String>], switches: &[String], routes: &[Vec<String>]) -> bool
+    ensures { result ≡ spec.keep_to lines.now switches.now routes.now }
+{
+    lines.is_empty() || all_keep(lines, switches, routes)
+}
+
 // Whether a table of a plan agrees with a text and with what the table says itself.
 #[tactic(auto, using(crate::proofs::Compared::agreed))]
 fn agrees_in(
@@ -201,6 +217,7 @@ fn agrees_in(
         && are_sections(entries_in(text, own, "section"), plan, table)
         && are_waits(entries_in(text, own, "connection"), plan, table)
         && is_due(own, table.after)
+        && keep_to(&plan.lines, &plan.switches, &table.routes)
     {
         return all_go_right(alloc, entries_at(text, "train"), own, plan, table);
     }
@@ -292,6 +309,54 @@ fn has_zones(points: &[(String, u32)], zones: u32) -> bool
     0 < zones && are_within(points, zones) && (zones == 1 || is_used(points, zones - 1))
 }
 
+// What a text says at a key.
+fn member<'t>(text: &'t Table, key: &str) -> Option<&'t Value>
+    ensures { seen result ≡ get_member key.now (table_view text.now) }
+{
+    text.get(key)
+}
+
+// Whether a text says that routes need not keep to its lines.
+fn is_open(text: &Table) -> bool
+    ensures { result ≡ spec.is_open (table_view text.now) }
+{
+    says_yes(member(text, "open"))
+}
+
+// The lines to which routes have to keep.
+fn lines_of(text: &Table) -> &[Value]
+    ensures { items_view result.now ≡ spec.lines_of (table_view text.now) }
+{
+    if is_open(text) {
+        &[]
+    } else {
+        entries_at(text, "lines")
+    }
+}
+
+// Whether a value names the points of this line.
+fn is_line(value: &Value, line: &Vec<String>) -> bool
+    ensures { result ≡ spec.is_line (view value.now) line.now }
+{
+    is_route(Some(value), line)
+}
+
+// Whether these are the lines that values name, in order.
+fn are_lines(values: &[Value], lines: &[Vec<String>]) -> bool
+    ensures { result ≡ agree_values spec.is_line values.now lines.now }
+{
+    agree(values, lines, is_line)
+}
+
+// Whether the routes of a plan have to keep to the lines of its text, and pass the switches of the text.
+#[tactic(auto, using(crate::proofs::Compared::agreed))]
+fn are_tracks(text: &Table, plan: &Plan) -> bool
+    ensures { IsTrue result → AreTracks (table_view text.now) plan.now }
+{
+    are_lines(lines_of(text), &plan.lines)
+        && are_names(entries_at(text, "switches"), &plan.switches)
+}
+
 /// Whether a plan is what its text says.
 #[tactic(auto, using(crate::proofs::Compared::agreed))]
 pub(crate) fn agrees(alloc: Global, text: &Table, plan: &Plan) -> Result<bool, AllocError>
@@ -302,6 +367,7 @@ pub(crate) fn agrees(alloc: Global, text: &Table, plan: &Plan) -> Result<bool, A
         && start_as_said(trains, plan)
         && are_in_zones(text, &plan.points)
         && has_zones(&plan.points, plan.zones)
+        && are_tracks(text, plan)
     {
         return tables_as_said(alloc, text, entries_at(text, "table"), plan);
     }

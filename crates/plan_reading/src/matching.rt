@@ -86,12 +86,12 @@ pub(crate) fn is_due(own: Option<&Value>, after: u32) -> bool
     }
 }
 
-// Whether a train of which this is said exits: not, if nothing is said.
-fn exits(said: Option<&Value>) -> bool
-    ensures { result ≡ spec.exits (seen said.entry) }
+/// Whether what is said is true: not, if nothing is said.
+pub(crate) fn says_yes(said: Option<&Value>) -> bool
+    ensures { result ≡ spec.says_yes (seen said.entry) }
 {
     match said {
-        Some(exit) => exit.as_bool().unwrap_or(false),
+        Some(said) => said.as_bool().unwrap_or(false),
         None => false,
     }
 }
@@ -100,7 +100,11 @@ fn exits(said: Option<&Value>) -> bool
 pub(crate) fn is_exit(said: Option<&Value>, exit: bool) -> bool
     ensures { result ≡ spec.is_exit (seen said.entry) exit }
 {
-    if exit { exits(said) } else { !exits(said) }
+    if exit {
+        says_yes(said)
+    } else {
+        !says_yes(said)
+    }
 }
 
 /// Whether there are as many of these as values, and each is what this says of its value.

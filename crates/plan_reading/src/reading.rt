@@ -99,10 +99,12 @@ fn read_table(alloc: Global, text: &str, table: &Table) -> Result<PlanRead, Allo
 
 /// Reads a plan in TOML. All that is wrong with it is reported, with lines and names.
 ///
-/// The keys at the top are `lines` (lists of points, each linked to the next), `zones` (a table: the number of a zone, and
-/// its points; those in none are in zone 0), and the lists of tables `train`, `section`, `connection` and `table`. Points and
-/// links are those of `lines` and then those of the routes, in the order in which they are first named. The second time that
-/// a point comes on a route is called `"M#2"` where a place is meant.
+/// The keys at the top are `lines` (lists of points, each linked to the next), `switches` (points), `open`, `zones` (a
+/// table: the number of a zone, and its points; those in none are in zone 0), and the lists of tables `train`, `section`,
+/// `connection` and `table`. Points and links are those of `lines`, and routes keep to them: they pass a switch as a line
+/// does, or from the end of a line to the end of another. If there are no lines, or `open` is true, those of the routes
+/// follow, in the order in which they are first named. The second time that a point comes on a route is called `"M#2"`
+/// where a place is meant.
 ///
 /// - A train has a `name`, a `route`, and may have a `start` (else its first place), `exit` (else false) and `times`: a number
 ///   for each step, or a table of them by steps, as `"A B" = 3`, with a `default` for the others (else 1).

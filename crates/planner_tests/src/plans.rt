@@ -153,7 +153,7 @@ const CHANGES: &str =
 13: weights = 2 => line 13: section "corridor": no key "weights"; the keys are name, limit, points, weight, only, from, to
 13: / [[table]] / after = 4 / zones = 2 => line 16: table 1: no key "zones"; the keys are after, train, section, connection
 13: / [[table]] / after = 4 / [[table.train]] / name = "T1" / start = "C" => line 18: table 1, train "T1": no key "start"; the keys are name, route, exit, times
-9: [[sections]] => line 9: no key "sections"; the keys are lines, zones, train, section, connection, table
+9: [[sections]] => line 9: no key "sections"; the keys are lines, open, switches, zones, train, section, connection, table
 11: limit = 129 => line 11: section "corridor": a limit is 0 to 128, and this is 129
 13: / [[table]] / [[table.train]] / name = "T1" / exit = true => line 14: table 1: "after" is missing
 13: / [[table]] / after = 4 / [[table.section]] / limit = 1 / points = ["M"] / from = { T0 = "M#02", T1 = "M#2" } => line 19: table 1, section 0: "M#02" is not on the route of train "T0" in table 1
@@ -181,7 +181,12 @@ const CHANGES: &str =
 13: weight = { T0 = 5, T1 = -1 } => line 13: section "corridor": a weight is 0 to 4, and this is 5 / line 13: section "corridor": a weight is 0 to 4, and this is -1
 13: / [zones] / "2" = ["A"] => line 14: zone 1 has no point, and zone 2 has
 13: / [zones] / "16" = ["A"] / "west" = ["B"] / "01" = ["C"] / "+1" = ["D"] => line 15: "16" is no zone: they are numbered from 0 to 15 / line 16: "west" is no zone: they are numbered from 0 to 15 / line 17: "01" is no zone: they are numbered from 0 to 15 / line 18: "+1" is no zone: they are numbered from 0 to 15
-13: / [zones] / "0" = ["A", "B", "M"] / "1" = ["C", "D", "M"] => line 16: "M" is in a zone already"##;
+13: / [zones] / "0" = ["A", "B", "M"] / "1" = ["C", "D", "M"] => line 16: "M" is in a zone already
+1: lines = [["A", "M", "N", "B"], ["C", "N", "M", "D"]] / [[train]]; 7: route = ["C", "Nn", "M", "D"] => line 8: train "T1": no point "Nn"; did you mean "N"?
+1: lines = [["A", "M", "N", "B"], ["C", "N", "M", "D"]] / [[train]]; 7: route = ["C", "M", "N", "D"] => line 8: train "T1": no line goes from "C" to "M", but to N / line 8: train "T1": no line goes from "N" to "D", but to M, B, C
+1: lines = [["A", "M", "N", "B"], ["C", "N", "M", "D"]] / switches = ["M"] / [[train]]; 7: route = ["D", "M", "A"] => line 9: train "T1": no line goes from "D" over "M", a switch, to "A"
+1: lines = [["A", "M", "N", "B"], ["C", "N", "M", "D"]] / switches = ["m"] / [[train]] => line 2: no point "m"; did you mean "M"?
+1: lines = [["A", "M"]] / open = true / [[train]] => {"links":[["A","M"],["M","N"],["N","B"],["C","N"],["M","D"]],"points":[["A",0],["M",0],["N",0],["B",0],["C",0],["D",0]],"start":[0,0],"tables":[{"after":0,"certificate":[],"connections":[],"exits":[false,false],"missions":[["A","M","N","B"],["C","N","M","D"]],"sections":[{"changes":[[0,1,0,-1],[0,1,0,-1]],"limit":1}],"times":[[1,1,1],[1,1,1]]}],"trains":["T0","T1"],"version":3,"zones":1}"##;
 
 // What the line of this number becomes, if it is changed.
 fn change_at(changes: &str, number: usize) -> Option<&str> {
