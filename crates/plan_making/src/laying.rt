@@ -66,7 +66,8 @@ impl<'x> Tracks<'x> {
         }
     }
 
-    // Tells that no line goes from one point to another, or goes on from there over a switch as a route does.
+    // Tells that no line goes from one point to another, or goes on from there over a switch as a route does. A point that
+    // no line has is told at its own place.
     fn check_step(
         &self,
         faults: &mut Faults,
@@ -78,6 +79,7 @@ impl<'x> Tracks<'x> {
             self.tell_no_link(faults, at, one);
         } else if is_among(self.switches, at.name)
             && let Some(other) = other
+            && is_known(self.points, other.as_str())
             && !goes(self.lines, one, at.name, other.as_str())
         {
             tell_no_way(faults, at, one, other.as_str());

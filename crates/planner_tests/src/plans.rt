@@ -185,6 +185,7 @@ const CHANGES: &str =
 1: lines = [["A", "M", "N", "B"], ["C", "N", "M", "D"]] / [[train]]; 7: route = ["C", "Nn", "M", "D"] => line 8: train "T1": no point "Nn"; did you mean "N"?
 1: lines = [["A", "M", "N", "B"], ["C", "N", "M", "D"]] / [[train]]; 7: route = ["C", "M", "N", "D"] => line 8: train "T1": no line goes from "C" to "M", but to N / line 8: train "T1": no line goes from "N" to "D", but to M, B, C
 1: lines = [["A", "M", "N", "B"], ["C", "N", "M", "D"]] / switches = ["M"] / [[train]]; 7: route = ["D", "M", "A"] => line 9: train "T1": no line goes from "D" over "M", a switch, to "A"
+1: lines = [["A", "M", "N", "B"], ["C", "N", "M", "D"]] / switches = ["N"] / [[train]]; 7: route = ["C", "N", "Mm", "D"] => line 9: train "T1": no point "Mm"; did you mean "M"?
 1: lines = [["A", "M", "N", "B"], ["C", "N", "M", "D"]] / switches = ["m"] / [[train]] => line 2: no point "m"; did you mean "M"?
 1: lines = [["A", "M"]] / open = true / [[train]] => {"links":[["A","M"],["M","N"],["N","B"],["C","N"],["M","D"]],"points":[["A",0],["M",0],["N",0],["B",0],["C",0],["D",0]],"start":[0,0],"tables":[{"after":0,"certificate":[],"connections":[],"exits":[false,false],"missions":[["A","M","N","B"],["C","N","M","D"]],"sections":[{"changes":[[0,1,0,-1],[0,1,0,-1]],"limit":1}],"times":[[1,1,1],[1,1,1]]}],"trains":["T0","T1"],"version":3,"zones":1}"##;
 
