@@ -10,4 +10,20 @@ order
 {"version":1,"points":[["A",0]],"links":[],"zones":1,"trains":[],"start":[],"tables":[{"missions":[],"sections":[],"certificate":[]}]}
 ----
 {"links":[],"points":[["A",0]],"start":[],"tables":[{"after":0,"certificate":[[3]],"exits":[],"missions":[],"sections":[],"times":[]}],"trains":[],"version":2,"zones":1}
+====
+order|--of-run|1
+{"version":2,"points":[["A",0],["B",0],["C",0],["D",0],["M",0]],"links":[["A","M"],["M","B"],["C","M"],["M","D"]],"zones":1,"trains":["T0","T1"],"start":[0,0],"tables":[{"missions":[["A","M","B"],["C","M","D"]],"exits":[false,false],"sections":[],"certificate":[]}]}
+journal
+1 move T1 C M
+----
+{"links":[["A","M"],["M","B"],["C","M"],["M","D"]],"points":[["A",0],["B",0],["C",0],["D",0],["M",0]],"start":[0,0],"tables":[{"after":0,"certificate":[[3]],"exits":[false,false],"missions":[["A","M","B"],["C","M","D"]],"sections":[{"changes":[[0,1,0],[4,0,-1]],"limit":4}],"times":[[1,1],[1,1]]}],"trains":["T0","T1"],"version":2,"zones":1}
+tables[0].sections[0]: T0 goes behind T1, in this run: to M (place 1) after D (place 2)
+====
+order|--of-run|1
+{"version":2,"points":[["A",0],["B",0],["C",0],["D",0],["M",0]],"links":[["A","M"],["M","B"],["C","M"],["M","D"]],"zones":1,"trains":["T0","T1"],"start":[0,0],"tables":[{"missions":[["A","M","B"],["C","M","D"]],"exits":[false,false],"sections":[],"certificate":[]}]}
+journal
+1 move T1 C M
+2 move T0 A M
+----
+ats refuses the journal: 75 Move line=2 Occupied by=1
 "##;
