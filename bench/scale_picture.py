@@ -6,14 +6,18 @@ WIDTH, HEIGHT, ACROSS = 250, 190, 3
 LEFT, TOP, HEAD = 62, 24, 58
 INNER = (WIDTH - LEFT - 14, HEIGHT - TOP - 30)
 LEAST, MOST, TRAINS = 10, 1_000_000, 32
-WAYS = [("make", "ats make", "circle"), ("certify", "planner certify", "square"), ("order", "planner order, then certify", "triangle")]
+WAYS = [
+    ("make", "ats make", "circle"), ("certify", "certify", "square"), ("order", "order, certify", "triangle"),
+    ("of-run", "order --of-run 1, certify", "diamond"),
+]
 STYLE = """
-svg{--paper:#fff;--ink:#222;--faint:#ddd;--make:#a03d00;--certify:#0b57c0;--order:#067a46}
-@media (prefers-color-scheme:dark){svg{--paper:#0d1117;--ink:#e6e6e6;--faint:#333a44;--make:#ff9d5c;--certify:#79b0ff;--order:#56d39a}}
+svg{--paper:#fff;--ink:#222;--faint:#ddd;--make:#a03d00;--certify:#0b57c0;--order:#067a46;--of-run:#8a2da5}
+@media (prefers-color-scheme:dark){svg{--paper:#0d1117;--ink:#e6e6e6;--faint:#333a44;--make:#ff9d5c;--certify:#79b0ff;--order:#56d39a;--of-run:#dd9bf0}}
 .paper{fill:var(--paper)}text{font:11px sans-serif;fill:var(--ink)}.head{font-weight:bold}.end{text-anchor:end}.mid{text-anchor:middle}
 .grid{stroke:var(--faint)}.axis{stroke:var(--ink)}polyline{fill:none;stroke-width:1.5}.hollow{fill:var(--paper)}
-.make{stroke:var(--make)}.certify{stroke:var(--certify)}.order{stroke:var(--order)}
+.make{stroke:var(--make)}.certify{stroke:var(--certify)}.order{stroke:var(--order)}.of-run{stroke:var(--of-run)}
 .make.full{fill:var(--make)}.certify.full{fill:var(--certify)}.order.full{fill:var(--order)}
+.of-run.full{fill:var(--of-run)}
 """
 
 
@@ -22,6 +26,8 @@ def mark(shape, x, y, names):
         return f'<circle class="{names}" cx="{x:.1f}" cy="{y:.1f}" r="3.5"/>'
     if shape == "square":
         return f'<rect class="{names}" x="{x - 3.2:.1f}" y="{y - 3.2:.1f}" width="6.4" height="6.4"/>'
+    if shape == "diamond":
+        return f'<path class="{names}" d="M{x:.1f} {y - 4.4:.1f}l4.4 4.4l-4.4 4.4l-4.4 -4.4z"/>'
     return f'<path class="{names}" d="M{x:.1f} {y - 4.2:.1f}l4 7.4h-8z"/>'
 
 
@@ -68,7 +74,7 @@ class Panel:
         drawn, line, marks = [], [], []
         for row in sorted(rows, key=lambda row: row["trains"]):
             answer = row.get(way) or {}
-            x, above = self.across(row["trains"]), self.y + {"make": 0, "certify": 4, "order": 8}[way]
+            x, above = self.across(row["trains"]), self.y + {"make": 0, "certify": 4, "order": 8, "of-run": 12}[way]
             if "nodes" in answer:
                 y = self.down(max(LEAST, answer["nodes"]))
                 line.append(f"{x:.1f},{y:.1f}")
@@ -86,10 +92,10 @@ def legend():
     left = 16
     drawn = [text(left, 18, "Nodes of a certificate (log scale) by trains", "head")]
     for number, (way, words, shape) in enumerate(WAYS):
-        x = left + (0, 90, 205)[number]
+        x = left + (0, 72, 130, 222)[number]
         drawn += [mark(shape, x + 4, 34, f"{way} full"), text(x + 12, 38, words)]
-    drawn += [mark("circle", left + 394, 34, "axis hollow"), text(left + 402, 38, "hollow: none found"), cross(left + 522, 34, "axis")]
-    return drawn + [text(left + 530, 38, "cross: a stuck state is named")]
+    drawn += [mark("circle", left + 386, 34, "axis hollow"), text(left + 394, 38, "hollow: none found"), cross(left + 510, 34, "axis")]
+    return drawn + [text(left + 518, 38, "cross: a stuck state is named")]
 
 
 def picture(rows):
