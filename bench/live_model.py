@@ -101,7 +101,7 @@ class Live:
             _, _, other, reached = self.yard.table.connections[number]
             return "waits", f"connection={number} by={self.name(other)} reached={reached}", [other]
         section = int(rest.split(" ")[0].removeprefix("section="))
-        by = [other for other in range(self.number_of_trains()) if other != train and self.share(section, other, at[other]) > 0]
+        by = [other for other in range(self.number_of_trains()) if self.share(section, other, at[other]) > 0]
         text, by = self.room(section, train, self.yard.table.count(section, at), by)
         return "full", f"full {text}", by
 
