@@ -5,20 +5,20 @@ ghost use Rattle.document_orders.specs.Ordered.{IsOrdered};
 use crate::NotOrdered;
 use crate::keeping::with_certs;
 use layout_json::{Doc, migrate, tables_apart, version, write_replaced};
-use order_sections::{Order, Ordered, Reason, Two, order};
+use order_sections::{Chain, Order, Ordered, Two, order};
 use rail_model::{Table, sections_of};
 use std::alloc::Global;
 
 // The most sections of a table.
 const MOST_SECTIONS: u32 = 64;
 
-/// The text of a document with orders. For each table, and each section that was added to it, in their order, `reasons` says why;
-/// `left_out` has the trains of the orders for which there was no room, as the one that leads and the one that follows.
+/// The text of a document with orders. For each table, and each section that was added to it, in their order, `chains` has the trains that
+/// it keeps one behind the other, and says why; `left_out` has the trains of the orders for which there was no room, as the one that leads and the one that follows.
 #[derive(Drop)]
 pub struct OrderedDoc {
     pub text: Vec<u8>,
     pub orders: Vec<Order>,
-    pub reasons: Vec<Vec<Reason>>,
+    pub chains: Vec<Vec<Chain>>,
     pub left_out: Vec<Two>,
 }
 
@@ -53,14 +53,14 @@ pub fn ordered(alloc: Global, doc: &Doc) -> Result<OrderedDoc, NotOrdered>
     let text = write_replaced(alloc, &frame, &parts)?;
     let Ordered {
         orders,
-        reasons,
+        chains,
         left_out,
         ..
     } = found;
     Ok(OrderedDoc {
         text,
         orders,
-        reasons,
+        chains,
         left_out,
     })
 }

@@ -1,7 +1,7 @@
 // What is told of the orders of a document: a line for each section, and for each order that was left out.
 use crate::OrderedDoc;
 use layout_json::{Doc, layout_of, names_of, table_of, tables_of};
-use order_sections::{Order, Reason, Step, Two};
+use order_sections::{Chain, Order, Step, Two};
 use rail_model::{Layout, Names, Table, point_of, sections_of, trains_of};
 use std::alloc::{AllocError, Global};
 
@@ -55,15 +55,13 @@ fn push_step(line: &mut String, told: Told<'_>, trains: Two, step: Step) -> Resu
     Ok(())
 }
 
-// The line of a section.
-fn push_section(
-    lines: &mut String,
+// Which of two trains goes behind the other, and where it must wait.
+fn push_order(
+    line: &mut String,
     told: Told<'_>,
     order: &Order,
-    section: u32,
     steps: &[Step],
 ) -> Result<(), AllocError> {
-    let number = told.number;
     let trains = Two {
         first: order.first(),
         second: order.second(),
@@ -75,15 +73,33 @@ fn push_section(
     } else {
         ""
     };
-    write!(
-        lines,
-        "tables[{number}].sections[{section}]: {follower} goes behind {leader}{whose}:"
-    )?;
+    write!(line, " {follower} goes behind {leader}{whose}:")?;
     for (count, step) in steps.iter().enumerate() {
         if count > 0 {
-            lines.push_str(",")?;
+            line.push_str(",")?;
         }
-        push_step(lines, told, trains, *step)?;
+        push_step(line, told, trains, *step)?;
+    }
+    Ok(())
+}
+
+// The line of a section: the orders of its chain, one after the other.
+fn push_section(
+    lines: &mut String,
+    told: Told<'_>,
+    orders: &[Order],
+    section: u32,
+    chain: &Chain,
+) -> Result<(), AllocError> {
+    let number = told.number;
+    write!(lines, "tables[{number}].sections[{section}]:")?;
+    for (count, link) in chain.links.iter().enumerate() {
+        if count > 0 {
+            lines.push_str(";")?;
+        }
+        if let Some(order) = orders.get(link.order) {
+            push_order(lines, told, order, &link.steps)?;
+        }
     }
     lines.push_str("\n")
 }
@@ -93,13 +109,11 @@ fn push_table(
     lines: &mut String,
     told: Told<'_>,
     made: &OrderedDoc,
-    reasons: &[Reason],
+    chains: &[Chain],
 ) -> Result<(), AllocError> {
     let mut section = sections_of(told.table);
-    for reason in reasons {
-        if let Some(order) = made.orders.get(reason.order) {
-            push_section(lines, told, order, section, &reason.steps)?;
-        }
+    for chain in chains {
+        push_section(lines, told, &made.orders, section, chain)?;
         section = section.saturating_add(1);
     }
     Ok(())
@@ -121,7 +135,7 @@ fn push_left_out(lines: &mut String, names: &Names, left_out: &[Two]) -> Result<
     Ok(())
 }
 
-/// A line for each section that was added, with the places to which the train that follows comes only after the one that leads; and one
+/// A line for each section that was added, with the places to which each train that follows comes only after the one that leads; and one
 /// for each order that was left out. The only error is that there is no memory.
 pub fn lines_of(alloc: Global, doc: &Doc, made: &OrderedDoc) -> Result<String, AllocError> {
     let mut lines = String::new(alloc);
@@ -132,8 +146,8 @@ pub fn lines_of(alloc: Global, doc: &Doc, made: &OrderedDoc) -> Result<String, A
             table: table_of(doc, number),
             number,
         };
-        if let Some(reasons) = made.reasons.get(number as usize) {
-            push_table(&mut lines, told, made, reasons.as_slice())?;
+        if let Some(chains) = made.chains.get(number as usize) {
+            push_table(&mut lines, told, made, chains.as_slice())?;
         }
     }
     push_left_out(&mut lines, names_of(doc), &made.left_out)?;

@@ -3,6 +3,7 @@ pub mod Asked
 pub mod Completing
 pub mod Extending
 pub mod Journals
+pub mod Neighbours
 pub mod Reaching
 pub mod Rows
 pub mod Sums

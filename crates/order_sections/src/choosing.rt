@@ -1,5 +1,6 @@
 // Which orders get sections: those that don't follow from two others, as long as there is room.
-use crate::making::STEPS;
+use crate::chains::{Chain, STEPS, chains_of_two};
+use crate::packing::packed;
 use crate::search::{Two, grids_of, last_in};
 use crate::stairs::{Leader, Stairs};
 use crate::visits::Visits;
@@ -9,6 +10,9 @@ use std::alloc::{AllocError, Global};
 
 // The most sections of a table.
 const MOST_SECTIONS: usize = 64;
+
+// Of more sections of a table than these it isn't tried to pack them.
+const MOST_UNPACKED: usize = 256;
 
 // A train that leads, one that follows, and their stairs under each table; and whether a run has them in this order, or the tracks force it.
 #[derive(Drop)]
@@ -27,11 +31,20 @@ struct Sought<'a> {
     run: Option<&'a Visits>,
 }
 
-/// The trains of the orders that are needed, each two as the one that leads and the one that follows, and the orders that get sections.
+/// The orders that get sections, the chains of their trains table by table, and the orders of those two trains of a chain that aren't
+/// neighbours.
+#[derive(Drop)]
+pub(crate) struct Choice {
+    pub(crate) orders: Vec<Order>,
+    pub(crate) beside: Vec<Order>,
+    pub(crate) chains: Vec<Vec<Chain>>,
+}
+
+/// The trains of the orders that are needed, each two as the one that leads and the one that follows, and what is chosen of them.
 #[derive(Drop)]
 pub(crate) struct Chosen {
     pub(crate) needed: Vec<Two>,
-    pub(crate) orders: Vec<Order>,
+    pub(crate) choice: Choice,
 }
 
 // How many sections keep an order, table by table.
@@ -200,27 +213,153 @@ fn has_room(tables: &[Table], orders: &[Order], counts: &[usize]) -> bool {
     true
 }
 
+// The order of two trains, table by table.
+fn order_of(alloc: Global, sought: Sought<'_>, lead: &Lead) -> Result<Order, AllocError> {
+    let Sought { tables, start, run } = sought;
+    let run = if lead.of_run { run } else { None };
+    let grids = grids_of(alloc, tables, start, lead.trains, run)?;
+    let counts = counts_of(alloc, tables, lead.trains.second, &lead.stairs)?;
+    Ok(Order::new(lead.trains, grids, counts, lead.of_run))
+}
+
 // Takes an order whole, or leaves it out.
 fn choose(
     alloc: Global,
     sought: Sought<'_>,
     lead: &Lead,
-    chosen: &mut Chosen,
+    orders: &mut Vec<Order>,
 ) -> Result<(), AllocError> {
-    let Sought { tables, start, run } = sought;
-    chosen.needed.push(lead.trains)?;
+    let tables = sought.tables;
     let counts = counts_of(alloc, tables, lead.trains.second, &lead.stairs)?;
-    if has_room(tables, &chosen.orders, &counts) {
-        let run = if lead.of_run { run } else { None };
-        let grids = grids_of(alloc, tables, start, lead.trains, run)?;
-        chosen
-            .orders
-            .push(Order::new(lead.trains, grids, counts, lead.of_run))?;
+    if has_room(tables, orders, &counts) {
+        orders.push(order_of(alloc, sought, lead)?)?;
     }
     Ok(())
 }
 
-/// The orders that are sought, but for those that follow from two others, as long as there is room.
+// The strongest orders for which there is room if each section keeps two trains.
+fn in_twos(alloc: Global, sought: Sought<'_>, leads: &[Lead]) -> Result<Choice, AllocError> {
+    let mut orders = Vec::new(alloc);
+    for lead in leads {
+        if is_needed(lead, leads) {
+            choose(alloc, sought, lead, &mut orders)?;
+        }
+    }
+    let mut chains = Vec::new(alloc);
+    for (number, table) in sought.tables.iter().enumerate() {
+        chains.push(chains_of_two(alloc, table, number, &orders)?)?;
+    }
+    Ok(Choice {
+        orders,
+        beside: Vec::new(alloc),
+        chains,
+    })
+}
+
+// Packs the sections of orders in each table, or as long as there is room.
+fn packed_chains(
+    alloc: Global,
+    tables: &[Table],
+    orders: &[Order],
+    others: &[Order],
+) -> Result<Option<Vec<Vec<Chain>>>, AllocError> {
+    let mut chains = Vec::new(alloc);
+    for (number, table) in tables.iter().enumerate() {
+        let own = sections_of(table) as usize;
+        if sections_in(orders, number) > MOST_UNPACKED {
+            return Ok(None);
+        }
+        let joined = packed(alloc, table, number, orders, others)?;
+        if !joined.is_empty() && own.saturating_add(joined.len()) > MOST_SECTIONS {
+            return Ok(None);
+        }
+        chains.push(joined)?;
+    }
+    Ok(Some(chains))
+}
+
+// Whether a chain of a table has two trains.
+fn has_both(chains: &[Vec<Chain>], order: &Order) -> bool {
+    chains
+        .iter()
+        .any(|chains| chains.iter().any(|chain| chain.has_both(order)))
+}
+
+// The orders of two trains that a chain has.
+fn orders_in(
+    alloc: Global,
+    others: Vec<Order>,
+    chains: &[Vec<Chain>],
+) -> Result<Vec<Order>, AllocError> {
+    let mut beside = Vec::new(alloc);
+    for order in others {
+        if has_both(chains, &order) {
+            beside.push(order)?;
+        }
+    }
+    Ok(beside)
+}
+
+// The orders that don't follow from two others, and those that do.
+#[derive(Drop)]
+struct Sorted {
+    needed: Vec<Order>,
+    others: Vec<Order>,
+}
+
+fn sorted(alloc: Global, sought: Sought<'_>, leads: &[Lead]) -> Result<Sorted, AllocError> {
+    let mut needed = Vec::new(alloc);
+    let mut others = Vec::new(alloc);
+    for lead in leads {
+        let order = order_of(alloc, sought, lead)?;
+        if is_needed(lead, leads) {
+            needed.push(order)?;
+        } else {
+            others.push(order)?;
+        }
+    }
+    Ok(Sorted { needed, others })
+}
+
+// The strongest orders for which there is room if sections are packed, if they are more than so many.
+fn packed_choice(
+    alloc: Global,
+    sought: Sought<'_>,
+    leads: &[Lead],
+    more_than: usize,
+) -> Result<Option<Choice>, AllocError> {
+    let Sorted { needed, others } = sorted(alloc, sought, leads)?;
+    let mut orders = needed;
+    for _ in 0..orders.len() {
+        if orders.len() <= more_than {
+            return Ok(None);
+        }
+        if let Some(chains) = packed_chains(alloc, sought.tables, &orders, &others)? {
+            let beside = orders_in(alloc, others, &chains)?;
+            return Ok(Some(Choice {
+                orders,
+                beside,
+                chains,
+            }));
+        }
+        orders.truncate(orders.len().saturating_sub(1));
+    }
+    Ok(None)
+}
+
+// The trains of the orders that don't follow from two others, the strongest first.
+fn needed_of(alloc: Global, leads: &[Lead]) -> Result<Vec<Two>, AllocError> {
+    let mut needed = Vec::new(alloc);
+    for lead in leads {
+        if is_needed(lead, leads) {
+            needed.push(lead.trains)?;
+        }
+    }
+    Ok(needed)
+}
+
+/// The orders that are sought, but for those that follow from two others, as long as there is room. Sections are packed only if there is no
+/// room for all of them as they are.
 pub(crate) fn choose_orders<'a>(
     alloc: Global,
     tables: &'a [Table],
@@ -229,14 +368,12 @@ pub(crate) fn choose_orders<'a>(
 ) -> Result<Chosen, AllocError> {
     let sought = Sought { tables, start, run };
     let leads = all_leads(alloc, sought)?;
-    let mut chosen = Chosen {
-        needed: Vec::new(alloc),
-        orders: Vec::new(alloc),
-    };
-    for lead in &leads {
-        if is_needed(lead, &leads) {
-            choose(alloc, sought, lead, &mut chosen)?;
+    let needed = needed_of(alloc, &leads)?;
+    let mut choice = in_twos(alloc, sought, &leads)?;
+    if choice.orders.len() < needed.len() {
+        if let Some(more) = packed_choice(alloc, sought, &leads, choice.orders.len())? {
+            choice = more;
         }
     }
-    Ok(chosen)
+    Ok(Chosen { needed, choice })
 }

@@ -1,8 +1,8 @@
-// Whether a section keeps an order: it has room at each pair of a set.
-ghost use Rattle.std.specs.Prelude.{◌≡◌, ◌≢◌, ◌<◌, ◌≤◌, ℕ, pos, ◌+ℤ◌, ◌≤ℤ◌, true, IsTrue, length};
+// Whether a section keeps a chain of trains: it has room for each two of them at each pair of a set.
+ghost use Rattle.std.specs.Prelude.{◌≡◌, ◌<◌, ◌≤◌, ℕ, pos, ◌+ℤ◌, ◌≤ℤ◌, ◌<ℤ◌, true, IsTrue, length};
 ghost use Rattle.rail_model.specs.Table.{trains, last, limit, share};
 ghost use Rattle.order_sections.specs.Grids.{HasTrains, has_pair};
-ghost use Rattle.order_sections.specs.Orders.{IsOrderSection};
+ghost use Rattle.order_sections.specs.Orders.{FitTwo, OthersHaveNone, member};
 
 use crate::Grid;
 use crate::pairs::has_room;
@@ -22,14 +22,33 @@ fn has_no_share(table: &Table, train: u32, section: u32) -> bool
     true
 }
 
-// Whether no train but two has a share of a section.
-fn others_have_none(table: &Table, first: u32, second: u32, section: u32) -> bool
+/// The train at a place of a chain.
+pub(crate) fn member(chain: &[u32], m: usize) -> u32
+    requires { m < length chain.now }
+    ensures { result ≡ member chain.now m }
+{
+    chain[m]
+}
+
+// Whether a train is in a chain.
+fn is_member(chain: &[u32], train: u32) -> bool
+    ensures { IsTrue result → (m : ℕ) × (m < length chain.now) × (member chain.now m ≡ train) }
+{
+    for m in 0..chain.len() {
+        if member(chain, m) == train {
+            return true;
+        }
+    }
+    false
+}
+
+/// Whether no train but those of a chain has a share of a section.
+pub(crate) fn others_have_none(table: &Table, chain: &[u32], section: u32) -> bool
     requires section { section < length table.now.sections }
-    ensures { IsTrue result → (k a : ℕ) → k < trains table.now → k ≢ first → k ≢ second → a ≤ last table.now k
-        → share table.now k section a ≡ pos 0 }
+    ensures { IsTrue result → OthersHaveNone table.now chain.now section }
 {
     for train in 0..trains_of(table) {
-        if train != first && train != second && !has_no_share(table, train, section) {
+        if !is_member(chain, train) && !has_no_share(table, train, section) {
             return false;
         }
     }
@@ -66,18 +85,54 @@ fn pairs_have_room(table: &Table, first: u32, second: u32, section: u32, grid: &
     true
 }
 
-/// Whether a section has room for two trains at each pair of a set, and no other train has a share of it.
-pub(crate) fn is_order_section(
+// Whether a train has no share of a section in any pair of a set with a place of another.
+fn row_has_none(table: &Table, second: u32, section: u32, grid: &Grid, a: u32) -> bool
+    requires second { second < trains table.now }
+    requires section { section < length table.now.sections }
+    ensures { IsTrue result → (b : ℕ) → b ≤ last table.now second → has_pair grid.now a b ≡ true
+        → pos 0 <ℤ share table.now second section b → ⊥ }
+{
+    for b in 0..=last_of(table, second) {
+        if grid.has(a, b) && share_at(table, second, section, b) > 0 {
+            return false;
+        }
+    }
+    true
+}
+
+// Whether at each pair of a set one of two trains has no share of a section.
+fn pairs_have_one(table: &Table, first: u32, second: u32, section: u32, grid: &Grid) -> bool
+    requires trains { HasTrains table.now first second }
+    requires section { section < length table.now.sections }
+    ensures { IsTrue result → (a b : ℕ) → a ≤ last table.now first → b ≤ last table.now second → has_pair grid.now a b ≡ true
+        → pos 0 <ℤ share table.now first section a → pos 0 <ℤ share table.now second section b → ⊥ }
+{
+    for a in 0..=last_of(table, first) {
+        if share_at(table, first, section, a) > 0
+            && !row_has_none(table, second, section, grid, a)
+        {
+            return false;
+        }
+    }
+    true
+}
+
+/// Whether two trains of a chain fit into a section at each pair of a set.
+pub(crate) fn two_fit(
     table: &Table,
-    first: u32,
-    second: u32,
+    chain: &[u32],
+    m: usize,
+    n: usize,
     section: u32,
     grid: &Grid,
 ) -> bool
-    requires trains { HasTrains table.now first second }
+    requires chain { (m < n) × (n < length chain.now) }
     requires section { section < length table.now.sections }
-    ensures { IsTrue result → IsOrderSection table.now first second section (has_pair grid.now) }
+    ensures { IsTrue result → FitTwo table.now chain.now section m n (has_pair grid.now) }
 {
-    others_have_none(table, first, second, section)
+    let (first, second) = (member(chain, m), member(chain, n));
+    first < trains_of(table)
+        && second < trains_of(table)
         && pairs_have_room(table, first, second, section, grid)
+        && (n - m == 1 || pairs_have_one(table, first, second, section, grid))
 }

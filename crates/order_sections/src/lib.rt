@@ -1,6 +1,7 @@
 //! Sections that forbid only what no run from the start reaches: the order in which the tracks keep two trains.
 #![tactic(auto)]
 
+mod chains;
 mod choosing;
 mod closed;
 mod grid;
@@ -9,6 +10,7 @@ mod laws;
 mod making;
 mod ordering;
 mod orders;
+mod packing;
 mod pairs;
 mod refused;
 mod search;
@@ -16,12 +18,12 @@ mod stairs;
 mod visits;
 mod whole;
 
+pub use chains::{Chain, Link};
 pub use grid::Grid;
 pub use laws::{
     live_orders_complete_runs, orders_keep_runs, reached_pairs_are_in_closed_sets,
     whole_orders_are_kept,
 };
-pub use making::Reason;
 pub use ordering::{Ordered, order, order_by_run};
 pub use orders::Order;
 pub use refused::OrderRefused;

@@ -1,13 +1,14 @@
 // Tables with sections for the orders that the tracks force.
-ghost use Rattle.std.specs.Prelude.{◌≡◌, ◌<◌, ℕ, List, IfOk, length};
+ghost use Rattle.std.specs.Prelude.{◌≡◌, ◌<◌, ◌++◌, ℕ, List, IfOk, length};
 ghost use Rattle.rail_model.specs.Table.{IsTable, Section};
 ghost use Rattle.order_sections.specs.Found.{AllKeep, HaveSameTrains};
 ghost use Rattle.order_sections.specs.Grids.{table_at};
 ghost use Rattle.order_sections.specs.Orders.{AddsOrders, with_more};
 ghost use Rattle.order_sections.specs.Whole.{AreWhole, has_order, without_order};
 
-use crate::choosing::{Chosen, choose_orders};
-use crate::making::{Enlarged, Reason, all_extended};
+use crate::chains::Chain;
+use crate::choosing::{Choice, Chosen, choose_orders};
+use crate::making::all_extended;
 use crate::orders::{all_keep, are_orders};
 use crate::search::Two;
 use crate::visits::Visits;
@@ -16,30 +17,36 @@ use crate::{Order, OrderRefused};
 use rail_model::{Line, State, Table};
 use std::alloc::{AllocError, Global};
 
-/// Tables with their orders. For each table and each section that was added to it, in their order, `reasons` says why. `needed` has the
-/// trains of the orders that were found and don't follow from two others, the strongest first, and `left_out` those of them for which there
-/// was no room, each two as the one that leads and the one that follows.
+/// Tables with their orders. For each table and each section that was added to it, in their order, `chains` has the trains that it keeps one
+/// behind the other, and says why. `needed` has the trains of the orders that were found and don't follow from two others, the strongest
+/// first, and `left_out` those of them for which there was no room, each two as the one that leads and the one that follows.
 #[derive(Drop)]
 pub struct Ordered {
     pub tables: Vec<Table>,
     pub orders: Vec<Order>,
-    pub reasons: Vec<Vec<Reason>>,
+    pub chains: Vec<Vec<Chain>>,
     pub needed: Vec<Two>,
     pub left_out: Vec<Two>,
 }
 
-// The tables with the sections of orders, if the sections pass their test: each is of one order, and the orders are whole.
-fn made_of(alloc: Global, tables: &[Table], orders: &[Order]) -> Result<Enlarged, OrderRefused>
-    ensures count { IfOk result (λ made. length made.tables.items ≡ length tables.now) }
-    ensures formed { IfOk result (λ made. (t : ℕ) → t < length tables.now → IsTable (table_at made.tables.items t)) }
+// The tables with the sections of chains, if the sections pass their test: each is of one chain, and the orders are whole.
+fn made_of(
+    alloc: Global,
+    tables: &[Table],
+    orders: &[Order],
+    beside: &[Order],
+    chains: &[Vec<Chain>],
+) -> Result<Vec<Table>, OrderRefused>
+    ensures count { IfOk result (λ made. length made.items ≡ length tables.now) }
+    ensures formed { IfOk result (λ made. (t : ℕ) → t < length tables.now → IsTable (table_at made.items t)) }
     ensures adds { IfOk result (λ made. (t : ℕ) → t < length tables.now
-        → (more : List Section) × (table_at made.tables.items t ≡ with_more (table_at tables.now t) more)) }
-    ensures keep { IfOk result (λ made. AllKeep tables.now made.tables.items orders.now) }
-    ensures whole { IfOk result (λ made. AreWhole (length tables.now) made.tables.items orders.now) }
+        → (more : List Section) × (table_at made.items t ≡ with_more (table_at tables.now t) more)) }
+    ensures keep { IfOk result (λ made. AllKeep tables.now made.items (orders.now ++ beside.now)) }
+    ensures whole { IfOk result (λ made. AreWhole (length tables.now) made.items orders.now) }
 {
-    let made = all_extended(alloc, tables, orders)?;
-    if !all_keep(tables, &made.tables, orders, &made.reasons)
-        || !all_are_whole(tables, &made.tables, orders)
+    let made = all_extended(alloc, tables, chains)?;
+    if !all_keep(tables, &made, orders, beside, chains)
+        || !all_are_whole(tables, &made, orders, chains)
     {
         return Err(OrderRefused::Untrue);
     }
@@ -52,17 +59,19 @@ fn tested(
     tables: &[Table],
     start: &State,
     orders: &[Order],
-) -> Result<Enlarged, OrderRefused>
+    beside: &[Order],
+    chains: &[Vec<Chain>],
+) -> Result<Vec<Table>, OrderRefused>
     requires { HaveSameTrains tables.now start.now }
-    ensures count { IfOk result (λ made. length made.tables.items ≡ length tables.now) }
-    ensures formed { IfOk result (λ made. (t : ℕ) → t < length tables.now → IsTable (table_at made.tables.items t)) }
-    ensures orders { IfOk result (λ made. AddsOrders (length tables.now) (table_at tables.now) (table_at made.tables.items) start.now) }
-    ensures whole { IfOk result (λ made. AreWhole (length tables.now) made.tables.items orders.now) }
+    ensures count { IfOk result (λ made. length made.items ≡ length tables.now) }
+    ensures formed { IfOk result (λ made. (t : ℕ) → t < length tables.now → IsTable (table_at made.items t)) }
+    ensures orders { IfOk result (λ made. AddsOrders (length tables.now) (table_at tables.now) (table_at made.items) start.now) }
+    ensures whole { IfOk result (λ made. AreWhole (length tables.now) made.items orders.now) }
 {
-    if !are_orders(tables, start, orders) {
+    if !are_orders(tables, start, orders) || !are_orders(tables, start, beside) {
         return Err(OrderRefused::Untrue);
     }
-    let made = made_of(alloc, tables, orders)?;
+    let made = made_of(alloc, tables, orders, beside, chains)?;
     Ok(made)
 }
 
@@ -100,13 +109,18 @@ pub fn order(alloc: Global, tables: &[Table], start: &State) -> Result<Ordered, 
     ensures whole { IfOk result (λ made. AreWhole (length tables.now) made.tables.items made.orders.items) }
     ensures left_out { IfOk result (λ made. made.left_out.items ≡ without_order made.orders.items made.needed.items) }
 {
-    let Chosen { needed, orders } = choose_orders(alloc, tables, start, None)?;
+    let Chosen { needed, choice } = choose_orders(alloc, tables, start, None)?;
+    let Choice {
+        orders,
+        beside,
+        chains,
+    } = choice;
     let left_out = left_of(alloc, &needed, &orders)?;
-    let Enlarged { tables, reasons } = tested(alloc, tables, start, &orders)?;
+    let tables = tested(alloc, tables, start, &orders, &beside, &chains)?;
     Ok(Ordered {
         tables,
         orders,
-        reasons,
+        chains,
         needed,
         left_out,
     })
@@ -134,13 +148,18 @@ pub fn order_by_run(
     ensures left_out { IfOk result (λ made. made.left_out.items ≡ without_order made.orders.items made.needed.items) }
 {
     let visits = Visits::new(alloc, start, run)?;
-    let Chosen { needed, orders } = choose_orders(alloc, tables, start, Some(&visits))?;
+    let Chosen { needed, choice } = choose_orders(alloc, tables, start, Some(&visits))?;
+    let Choice {
+        orders,
+        beside,
+        chains,
+    } = choice;
     let left_out = left_of(alloc, &needed, &orders)?;
-    let Enlarged { tables, reasons } = made_of(alloc, tables, &orders)?;
+    let tables = made_of(alloc, tables, &orders, &beside, &chains)?;
     Ok(Ordered {
         tables,
         orders,
-        reasons,
+        chains,
         needed,
         left_out,
     })

@@ -5,6 +5,8 @@ ghost use Rattle.order_sections.specs.Found.{order_at};
 ghost use Rattle.order_sections.specs.Grids.{HasTrains, has_pair, pairs_of};
 ghost use Rattle.order_sections.specs.Whole.{AreWhole, KeepsWhole, NeverComes, Overfills};
 
+use crate::chains::Chain;
+use crate::making::chains_in;
 use crate::pairs::{has_room, table_in};
 use crate::{Grid, Order};
 use rail_model::{Table, last_of, sections_of, trains_of};
@@ -34,14 +36,32 @@ fn first_place(grid: &Grid, last: u32, second_last: u32) -> u32
     u32::MAX
 }
 
-// Whether two trains at these places alone pass the limit of one of some sections.
-fn overfills(new: &Table, first: u32, second: u32, from: u32, to: u32, a: u32, b: u32) -> bool
+// The sections of a table behind its own, with their chains, and the number of an order.
+#[derive(Clone, Copy)]
+struct Added<'a> {
+    own: u32,
+    chains: &'a [Chain],
+    order: usize,
+}
+
+impl<'a> Added<'a> {
+    // Whether a section keeps the order.
+    fn keeps(self, section: u32) -> bool {
+        match self.chains.get(section.saturating_sub(self.own) as usize) {
+            Some(chain) => chain.keeps(self.order),
+            None => false,
+        }
+    }
+}
+
+// Whether two trains at these places alone pass the limit of a section that keeps their order.
+fn overfills(new: &Table, first: u32, second: u32, added: Added<'_>, a: u32, b: u32) -> bool
     requires first { (first < trains new.now) × (a ≤ last new.now first) }
     requires second { (second < trains new.now) × (b ≤ last new.now second) }
     ensures { IsTrue result → Overfills new.now first second a b }
 {
-    for section in from..to.min(sections_of(new)) {
-        if !has_room(new, first, second, a, b, section) {
+    for section in added.own..sections_of(new) {
+        if added.keeps(section) && !has_room(new, first, second, a, b, section) {
             return true;
         }
     }
@@ -54,8 +74,7 @@ fn column_is_whole(
     first: u32,
     second: u32,
     grid: &Grid,
-    from: u32,
-    to: u32,
+    added: Added<'_>,
     least: u32,
     b: u32,
 ) -> bool
@@ -68,7 +87,7 @@ fn column_is_whole(
         if has_from(grid, a, b, last_of(new, second)) {
             return true;
         }
-        if !overfills(new, first, second, from, to, a, b) {
+        if !overfills(new, first, second, added, a, b) {
             return false;
         }
     }
@@ -76,13 +95,13 @@ fn column_is_whole(
 }
 
 // Whether some sections keep the staircase of a set whole.
-fn is_whole(new: &Table, first: u32, second: u32, grid: &Grid, from: u32, to: u32) -> bool
+fn is_whole(new: &Table, first: u32, second: u32, grid: &Grid, added: Added<'_>) -> bool
     requires { HasTrains new.now first second }
     ensures { IsTrue result → KeepsWhole new.now first second (has_pair grid.now) }
 {
     let least = first_place(grid, last_of(new, first), last_of(new, second));
     for b in 0..=last_of(new, second) {
-        if !column_is_whole(new, first, second, grid, from, to, least, b) {
+        if !column_is_whole(new, first, second, grid, added, least, b) {
             return false;
         }
     }
@@ -90,7 +109,7 @@ fn is_whole(new: &Table, first: u32, second: u32, grid: &Grid, from: u32, to: u3
 }
 
 // Whether some sections keep an order whole in a table.
-fn order_is_whole(new: &Table, order: &Order, table: usize, from: u32, to: u32) -> bool
+fn order_is_whole(new: &Table, order: &Order, table: usize, added: Added<'_>) -> bool
     ensures { IsTrue result → KeepsWhole new.now order.now.first order.now.second (pairs_of order.now.grids table) }
 {
     let trains = trains_of(new);
@@ -102,36 +121,41 @@ fn order_is_whole(new: &Table, order: &Order, table: usize, from: u32, to: u32) 
             order.first(),
             order.second(),
             &order.grids()[table],
-            from,
-            to,
+            added,
         )
 }
 
-// Whether a table keeps all orders whole, each by its sections, which are one behind the other, behind the table's own.
-fn orders_are_whole(new: &Table, own: u32, orders: &[Order], table: usize) -> bool
+// Whether a table keeps all orders whole, each by those sections behind its own whose chains have it.
+fn orders_are_whole(new: &Table, own: u32, chains: &[Chain], orders: &[Order], table: usize) -> bool
     ensures { IsTrue result → (k : ℕ) → k < length orders.now
         → KeepsWhole new.now (order_at orders.now k).first (order_at orders.now k).second (pairs_of (order_at orders.now k).grids table) }
 {
-    let mut from = own;
     for k in 0..orders.len() {
-        let count = u32::try_from(orders[k].count(table)).unwrap_or(u32::MAX);
-        let to = from.saturating_add(count);
-        if !order_is_whole(new, &orders[k], table, from, to) {
+        let added = Added {
+            own,
+            chains,
+            order: k,
+        };
+        if !order_is_whole(new, &orders[k], table, added) {
             return false;
         }
-        from = to;
     }
     true
 }
 
 /// Whether each table keeps all orders whole.
-pub(crate) fn all_are_whole(tables: &[Table], new: &[Table], orders: &[Order]) -> bool
+pub(crate) fn all_are_whole(
+    tables: &[Table],
+    new: &[Table],
+    orders: &[Order],
+    chains: &[Vec<Chain>],
+) -> bool
     requires { length new.now ≡ length tables.now }
     ensures { IsTrue result → AreWhole (length tables.now) new.now orders.now }
 {
     for t in 0..tables.len() {
         let own = sections_of(table_in(tables, t));
-        if !orders_are_whole(table_in(new, t), own, orders, t) {
+        if !orders_are_whole(table_in(new, t), own, chains_in(chains, t), orders, t) {
             return false;
         }
     }

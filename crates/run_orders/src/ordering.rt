@@ -86,14 +86,14 @@ pub fn ordered_by_run(alloc: Global, doc: &Doc, run: &Journal) -> Result<Ordered
     let text = text_with(alloc, doc, &frame, &found.tables, run)?;
     let Ordered {
         orders,
-        reasons,
+        chains,
         left_out,
         ..
     } = found;
     Ok(OrderedDoc {
         text,
         orders,
-        reasons,
+        chains,
         left_out,
     })
 }

@@ -6,8 +6,8 @@ use Rattle.order_sections.proofs.making.all_extended.Goals as goal
 
 pub loop-number-preserved : goal.loop-number-preserved
 loop-number-preserved c =
-    let before = c.loop-number.made.tables.items in
-    let after = c.add_extended.new.made.tables.items in
+    let before = c.loop-number.made.items in
+    let after = c.add_extended.new.made.items in
     let n = c.loop-number.number in
     let e = c.in_ok-add_extended.ensures in
     let T = e.0 in

@@ -6,7 +6,7 @@ use Rattle.order_sections.proofs.making.all_extended.Given as goal
 
 abbrev pub invariant-loop-number : goal.invariant-loop-number
 invariant-loop-number l = record {
-  count : length l.made.tables.items ≡ l.number;
-  formed : (t : ℕ) → t < l.number → IsTable (table_at l.made.tables.items t);
-  adds : (t : ℕ) → t < l.number → (more : List Section) × (table_at l.made.tables.items t ≡ with_more (table_at l.tables t) more);
+  count : length l.made.items ≡ l.number;
+  formed : (t : ℕ) → t < l.number → IsTable (table_at l.made.items t);
+  adds : (t : ℕ) → t < l.number → (more : List Section) × (table_at l.made.items t ≡ with_more (table_at l.tables t) more);
 }

@@ -1,4 +1,4 @@
-use Rattle.std.proofs.Common.{rules, List, length, subst}
+use Rattle.std.proofs.Common.{rules, List, ◌++◌, length, subst}
 use Rattle.rail_model.specs.Table.{Table}
 use Rattle.order_sections.specs.Found.{AllKeep}
 use Rattle.order_sections.specs.Whole.{AreWhole}
@@ -6,7 +6,8 @@ use Rattle.order_sections.proofs.ordering.made_of.Goals as goal
 
 pub returns-clause-keep : goal.returns-clause-keep
 returns-clause-keep c =
-    subst (λ (ts : List Table). AllKeep c.args.tables.now ts c.args.orders.now) c.deref.ensures.value (c.all_keep.ensures (search rules))
+    subst (λ (ts : List Table). AllKeep c.args.tables.now ts (c.args.orders.now ++ c.args.beside.now)) c.deref.ensures.value
+    (c.all_keep.ensures (search rules))
 
 pub returns-clause-whole : goal.returns-clause-whole
 returns-clause-whole c =

@@ -1,0 +1,404 @@
+// Chains that are joined, so that fewer sections keep the same orders. A join is taken only if trains that aren't neighbours in the chain
+// never have shares at one time, neighbours never more than the limit, and all that the orders forbid stays forbidden.
+use crate::chains::{Chain, LIMIT, chains_of_two};
+use crate::search::{Two, last_in};
+use crate::stairs::{Leader, Stairs};
+use crate::{Grid, Order};
+use rail_model::Table;
+use std::alloc::{AllocError, Global};
+
+// A table with its number, the orders that are kept in it, and those of other trains.
+#[derive(Clone, Copy)]
+struct Kept<'a> {
+    table: &'a Table,
+    number: usize,
+    orders: &'a [Order],
+    others: &'a [Order],
+}
+
+// How two trains of a chain stand to one another.
+#[derive(Clone, Copy)]
+enum Standing {
+    Neighbours,
+    Apart,
+}
+
+impl Standing {
+    // Whether both may have these shares at one time.
+    fn permits(self, first: u32, second: u32) -> bool {
+        match self {
+            Standing::Neighbours => first.saturating_add(second) <= LIMIT,
+            Standing::Apart => first == 0 || second == 0,
+        }
+    }
+}
+
+// The order of two trains.
+fn order_of(orders: &[Order], trains: Two) -> Option<&Order> {
+    for order in orders {
+        if order.first() == trains.first && order.second() == trains.second {
+            return Some(order);
+        }
+    }
+    None
+}
+
+// Whether a train's share at a place and those of another are permitted at each pair of a set.
+fn row_fits(standing: Standing, a: u32, share: u32, second: &[u32], grid: &Grid) -> bool {
+    let mut b: u32 = 0;
+    for other in second {
+        if !standing.permits(share, *other) && grid.has(a, b) {
+            return false;
+        }
+        b = b.saturating_add(1);
+    }
+    true
+}
+
+// Whether the shares of two trains are permitted at each pair of a set.
+fn shares_fit(standing: Standing, first: &[u32], second: &[u32], grid: &Grid) -> bool {
+    let mut a: u32 = 0;
+    for share in first {
+        if *share > 0 && !row_fits(standing, a, *share, second, grid) {
+            return false;
+        }
+        a = a.saturating_add(1);
+    }
+    true
+}
+
+// Whether the shares of two trains of a chain, the second one behind the first, are permitted at each pair that was found.
+fn two_fit(kept: Kept<'_>, chain: &Chain, m: usize, n: usize) -> bool {
+    let (Some(first), Some(second)) = (chain.trains.get(m), chain.trains.get(n)) else {
+        return false;
+    };
+    let (Some(leader), Some(follower)) = (chain.shares.get(m), chain.shares.get(n)) else {
+        return false;
+    };
+    let trains = Two {
+        first: *first,
+        second: *second,
+    };
+    let standing = if n - m == 1 {
+        Standing::Neighbours
+    } else {
+        Standing::Apart
+    };
+    let order = order_of(kept.orders, trains).or_else(|| order_of(kept.others, trains));
+    match order.and_then(|order| order.grids().get(kept.number)) {
+        Some(grid) => shares_fit(standing, leader, follower, grid),
+        None => false,
+    }
+}
+
+// Whether the shares of a train of a chain fit those of the trains behind it.
+fn train_fits(kept: Kept<'_>, chain: &Chain, m: usize) -> bool {
+    for n in m + 1..chain.trains.len() {
+        if !two_fit(kept, chain, m, n) {
+            return false;
+        }
+    }
+    true
+}
+
+// Whether the shares of each two trains of a chain fit.
+fn fits(kept: Kept<'_>, chain: &Chain) -> bool {
+    for m in 0..chain.trains.len() {
+        if !train_fits(kept, chain, m) {
+            return false;
+        }
+    }
+    true
+}
+
+// Whether a chain forbids two trains to be at these places.
+fn forbids(chain: &Chain, order: &Order, a: u32, b: u32) -> bool {
+    let both = chain
+        .share(order.first(), a)
+        .saturating_add(chain.share(order.second(), b));
+    both > LIMIT
+}
+
+// Two chains of a list, by their numbers, and what they would be joined to.
+#[derive(Clone, Copy)]
+struct Join<'a> {
+    first: usize,
+    second: usize,
+    joined: &'a Chain,
+}
+
+// Whether one of the chains forbids two trains to be at these places, after a join.
+fn still_forbids(
+    chains: &[Chain],
+    join: &Join<'_>,
+    number: usize,
+    order: &Order,
+    a: u32,
+    b: u32,
+) -> bool {
+    if forbids(join.joined, order, a, b) {
+        return true;
+    }
+    for (k, chain) in chains.iter().enumerate() {
+        let stays = k != join.first && k != join.second && chain.keeps(number);
+        if stays && forbids(chain, order, a, b) {
+            return true;
+        }
+    }
+    false
+}
+
+// Whether the chains forbid the train that leads, after a join, to be at one of some places while the other is at b.
+fn column_stays(
+    chains: &[Chain],
+    join: &Join<'_>,
+    number: usize,
+    order: &Order,
+    places: Two,
+    b: u32,
+) -> bool {
+    for a in places.first..places.second {
+        if !still_forbids(chains, join, number, order, a, b) {
+            return false;
+        }
+    }
+    true
+}
+
+// Whether all that the order with a number forbids stays forbidden after a join.
+fn order_stays(
+    alloc: Global,
+    kept: Kept<'_>,
+    chains: &[Chain],
+    join: &Join<'_>,
+    number: usize,
+) -> Result<bool, AllocError> {
+    let Some(order) = kept.orders.get(number) else {
+        return Ok(false);
+    };
+    let Some(grid) = order.grids().get(kept.number) else {
+        return Ok(false);
+    };
+    let stairs = Stairs::new(alloc, grid, Leader::First)?;
+    let beyond = last_in(kept.table, order.first()).saturating_add(1);
+    for b in 0..=last_in(kept.table, order.second()) {
+        let places = Two {
+            first: stairs.at(0),
+            second: stairs.at(b).min(beyond),
+        };
+        if !column_stays(chains, join, number, order, places, b) {
+            return Ok(false);
+        }
+    }
+    Ok(true)
+}
+
+// Whether all that the orders of a chain forbid stays forbidden after a join.
+fn orders_stay(
+    alloc: Global,
+    kept: Kept<'_>,
+    chains: &[Chain],
+    join: &Join<'_>,
+) -> Result<bool, AllocError> {
+    for link in &join.joined.links {
+        if !order_stays(alloc, kept, chains, join, link.order)? {
+            return Ok(false);
+        }
+    }
+    Ok(true)
+}
+
+// Whether two chains have no train in common but the one at which they are joined.
+fn are_disjoint(first: &Chain, second: &Chain) -> bool {
+    let mut common: u32 = 0;
+    for train in &first.trains {
+        if second.trains.contains(train) {
+            common = common.saturating_add(1);
+        }
+    }
+    common == 1
+}
+
+// The place from which on the last train of a chain has the whole limit.
+fn rises_at(chain: &Chain) -> Option<usize> {
+    let shares = chain.shares.last()?;
+    shares.iter().position(|share| *share >= LIMIT)
+}
+
+// The place from which on the first train of a chain hasn't the whole limit.
+fn falls_at(chain: &Chain) -> Option<usize> {
+    let shares = chain.shares.first()?;
+    shares.iter().position(|share| *share < LIMIT)
+}
+
+// The place where the share of a train falls for its follower, if it stands last in one chain and first in another, and rises for its leader
+// before that.
+fn meets_at(first: &Chain, second: &Chain) -> Option<usize> {
+    let rises = rises_at(first)?;
+    let falls = falls_at(second)?;
+    let meets = first.trains.last() == second.trains.first()
+        && rises < falls
+        && are_disjoint(first, second);
+    if meets { Some(falls) } else { None }
+}
+
+// The lesser of two shares, place by place.
+fn lesser(alloc: Global, shares: &[u32], others: &[u32]) -> Result<Vec<u32>, AllocError> {
+    let mut least = Vec::new(alloc);
+    for (share, other) in shares.iter().zip(others) {
+        least.push((*share).min(*other))?;
+    }
+    Ok(least)
+}
+
+// Adds the trains of a chain with their shares and links, from a place in it on.
+fn add_members(
+    alloc: Global,
+    chain: &Chain,
+    from: usize,
+    joined: &mut Chain,
+) -> Result<(), AllocError> {
+    for train in chain.trains.iter().skip(from) {
+        joined.trains.push(*train)?;
+    }
+    for shares in chain.shares.iter().skip(from) {
+        joined.shares.push(Vec::from_slice(alloc, shares)?)?;
+    }
+    for link in &chain.links {
+        joined.links.push(link.try_copy(alloc)?)?;
+    }
+    Ok(())
+}
+
+// Two chains one behind the other: the last train of the first one is the first of the second.
+fn join_of(alloc: Global, first: &Chain, second: &Chain) -> Result<Chain, AllocError> {
+    let mut joined = Chain::new(alloc);
+    add_members(alloc, first, 0, &mut joined)?;
+    if let (Some(rise), Some(fall)) = (joined.shares.pop(), second.shares.first()) {
+        joined.shares.push(lesser(alloc, &rise, fall)?)?;
+    }
+    add_members(alloc, second, 1, &mut joined)?;
+    Ok(joined)
+}
+
+// A chain with another one behind it, if the join is permitted.
+fn permitted(
+    alloc: Global,
+    kept: Kept<'_>,
+    chains: &[Chain],
+    first: usize,
+    second: usize,
+) -> Result<Option<Chain>, AllocError> {
+    let (Some(leading), Some(following)) = (chains.get(first), chains.get(second)) else {
+        return Ok(None);
+    };
+    let joined = join_of(alloc, leading, following)?;
+    let join = Join {
+        first,
+        second,
+        joined: &joined,
+    };
+    if fits(kept, &joined) && orders_stay(alloc, kept, chains, &join)? {
+        Ok(Some(joined))
+    } else {
+        Ok(None)
+    }
+}
+
+// The chain that is joined behind another one, and what they are then.
+#[derive(Drop)]
+struct Best {
+    second: usize,
+    meets: usize,
+    joined: Chain,
+}
+
+// The join behind a chain that meets it first.
+fn best_behind(
+    alloc: Global,
+    kept: Kept<'_>,
+    chains: &[Chain],
+    first: usize,
+) -> Result<Option<Best>, AllocError> {
+    let mut best: Option<Best> = None;
+    let Some(leading) = chains.get(first) else {
+        return Ok(None);
+    };
+    for (second, following) in chains.iter().enumerate() {
+        let Some(meets) = meets_at(leading, following) else {
+            continue;
+        };
+        if best.as_ref().is_some_and(|best| best.meets <= meets) {
+            continue;
+        }
+        if let Some(joined) = permitted(alloc, kept, chains, first, second)? {
+            best = Some(Best {
+                second,
+                meets,
+                joined,
+            });
+        }
+    }
+    Ok(best)
+}
+
+// Joins a chain with one behind it, and leaves an empty one in the place of that, if a join is permitted.
+fn extend(
+    alloc: Global,
+    kept: Kept<'_>,
+    chains: &mut Vec<Chain>,
+    first: usize,
+) -> Result<bool, AllocError> {
+    let Some(best) = best_behind(alloc, kept, chains, first)? else {
+        return Ok(false);
+    };
+    if let Some(chain) = chains.get_mut(best.second) {
+        *chain = Chain::new(alloc);
+    }
+    if let Some(chain) = chains.get_mut(first) {
+        *chain = best.joined;
+    }
+    Ok(true)
+}
+
+// Joins a chain with those behind it.
+fn extend_all(
+    alloc: Global,
+    kept: Kept<'_>,
+    chains: &mut Vec<Chain>,
+    first: usize,
+) -> Result<(), AllocError> {
+    for _ in 0..chains.len() {
+        if !extend(alloc, kept, chains, first)? {
+            return Ok(());
+        }
+    }
+    Ok(())
+}
+
+/// The chains that keep orders in the table with a number, joined.
+pub(crate) fn packed(
+    alloc: Global,
+    table: &Table,
+    number: usize,
+    orders: &[Order],
+    others: &[Order],
+) -> Result<Vec<Chain>, AllocError> {
+    let kept = Kept {
+        table,
+        number,
+        orders,
+        others,
+    };
+    let mut chains = chains_of_two(alloc, table, number, orders)?;
+    for first in 0..chains.len() {
+        extend_all(alloc, kept, &mut chains, first)?;
+    }
+    let mut joined = Vec::new(alloc);
+    for chain in chains {
+        if !chain.links.is_empty() {
+            joined.push(chain)?;
+        }
+    }
+    Ok(joined)
+}
