@@ -14,6 +14,9 @@ const MOST_SECTIONS: usize = 64;
 // Of more sections of a table than these it isn't tried to pack them.
 const MOST_UNPACKED: usize = 256;
 
+// How many numbers of orders are tried, half way between one that has room and one that hasn't.
+const MOST_TRIALS: u32 = 8;
+
 // A train that leads, one that follows, and their stairs under each table; and whether a run has them in this order, or the tracks force it.
 #[derive(Drop)]
 struct Lead {
@@ -321,6 +324,50 @@ fn sorted(alloc: Global, sought: Sought<'_>, leads: &[Lead]) -> Result<Sorted, A
     Ok(Sorted { needed, others })
 }
 
+// The first orders of a list.
+fn front(orders: &[Order], count: usize) -> &[Order] {
+    if count < orders.len() { &orders[..count] } else { orders }
+}
+
+// How many of the strongest orders have room, and the chains of so many, if these were packed.
+#[derive(Drop)]
+struct Packed {
+    count: usize,
+    chains: Option<Vec<Vec<Chain>>>,
+}
+
+// The most of the strongest orders for which there is room if sections are packed, if they are more than so many.
+fn most_packed(
+    alloc: Global,
+    tables: &[Table],
+    orders: &[Order],
+    others: &[Order],
+    more_than: usize,
+) -> Result<Packed, AllocError> {
+    let mut most = Packed {
+        count: more_than,
+        chains: None,
+    };
+    let mut tried = orders.len();
+    let mut limit = orders.len().saturating_add(1);
+    for _ in 0..MOST_TRIALS {
+        if tried <= most.count {
+            return Ok(most);
+        }
+        match packed_chains(alloc, tables, front(orders, tried), others)? {
+            Some(chains) => {
+                most = Packed {
+                    count: tried,
+                    chains: Some(chains),
+                };
+            }
+            None => limit = tried,
+        }
+        tried = most.count.saturating_add(limit.saturating_sub(most.count) / 2);
+    }
+    Ok(most)
+}
+
 // The strongest orders for which there is room if sections are packed, if they are more than so many.
 fn packed_choice(
     alloc: Global,
@@ -330,21 +377,17 @@ fn packed_choice(
 ) -> Result<Option<Choice>, AllocError> {
     let Sorted { needed, others } = sorted(alloc, sought, leads)?;
     let mut orders = needed;
-    for _ in 0..orders.len() {
-        if orders.len() <= more_than {
-            return Ok(None);
-        }
-        if let Some(chains) = packed_chains(alloc, sought.tables, &orders, &others)? {
-            let beside = orders_in(alloc, others, &chains)?;
-            return Ok(Some(Choice {
-                orders,
-                beside,
-                chains,
-            }));
-        }
-        orders.truncate(orders.len().saturating_sub(1));
-    }
-    Ok(None)
+    let Packed { count, chains } = most_packed(alloc, sought.tables, &orders, &others, more_than)?;
+    let Some(chains) = chains else {
+        return Ok(None);
+    };
+    orders.truncate(count);
+    let beside = orders_in(alloc, others, &chains)?;
+    Ok(Some(Choice {
+        orders,
+        beside,
+        chains,
+    }))
 }
 
 // The trains of the orders that don't follow from two others, the strongest first.

@@ -1,8 +1,7 @@
 // Chains that are joined, so that fewer sections keep the same orders. A join is taken only if trains that aren't neighbours in the chain
-// never have shares at one time, neighbours never more than the limit, and all that the orders forbid stays forbidden.
-use crate::chains::{Chain, LIMIT, chains_of_two};
+// never have shares at one time, and all that the orders forbid stays forbidden. Shares only get less, so neighbours stay within the limit.
+use crate::chains::{Chain, LIMIT, Link, chains_of_two};
 use crate::search::{Two, last_in};
-use crate::stairs::{Leader, Stairs};
 use crate::{Grid, Order};
 use rail_model::Table;
 use std::alloc::{AllocError, Global};
@@ -16,23 +15,6 @@ struct Kept<'a> {
     others: &'a [Order],
 }
 
-// How two trains of a chain stand to one another.
-#[derive(Clone, Copy)]
-enum Standing {
-    Neighbours,
-    Apart,
-}
-
-impl Standing {
-    // Whether both may have these shares at one time.
-    fn permits(self, first: u32, second: u32) -> bool {
-        match self {
-            Standing::Neighbours => first.saturating_add(second) <= LIMIT,
-            Standing::Apart => first == 0 || second == 0,
-        }
-    }
-}
-
 // The order of two trains.
 fn order_of(orders: &[Order], trains: Two) -> Option<&Order> {
     for order in orders {
@@ -43,11 +25,11 @@ fn order_of(orders: &[Order], trains: Two) -> Option<&Order> {
     None
 }
 
-// Whether a train's share at a place and those of another are permitted at each pair of a set.
-fn row_fits(standing: Standing, a: u32, share: u32, second: &[u32], grid: &Grid) -> bool {
+// Whether a train has no share in any pair of a set with a place of another.
+fn row_has_none(a: u32, second: &[u32], grid: &Grid) -> bool {
     let mut b: u32 = 0;
-    for other in second {
-        if !standing.permits(share, *other) && grid.has(a, b) {
+    for share in second {
+        if *share > 0 && grid.has(a, b) {
             return false;
         }
         b = b.saturating_add(1);
@@ -55,11 +37,11 @@ fn row_fits(standing: Standing, a: u32, share: u32, second: &[u32], grid: &Grid)
     true
 }
 
-// Whether the shares of two trains are permitted at each pair of a set.
-fn shares_fit(standing: Standing, first: &[u32], second: &[u32], grid: &Grid) -> bool {
+// Whether at each pair of a set one of two trains has no share.
+fn shares_fit(first: &[u32], second: &[u32], grid: &Grid) -> bool {
     let mut a: u32 = 0;
     for share in first {
-        if *share > 0 && !row_fits(standing, a, *share, second, grid) {
+        if *share > 0 && !row_has_none(a, second, grid) {
             return false;
         }
         a = a.saturating_add(1);
@@ -67,7 +49,7 @@ fn shares_fit(standing: Standing, first: &[u32], second: &[u32], grid: &Grid) ->
     true
 }
 
-// Whether the shares of two trains of a chain, the second one behind the first, are permitted at each pair that was found.
+// Whether at each pair that was found of two trains of a chain, the second one behind the first, one of them has no share.
 fn two_fit(kept: Kept<'_>, chain: &Chain, m: usize, n: usize) -> bool {
     let (Some(first), Some(second)) = (chain.trains.get(m), chain.trains.get(n)) else {
         return false;
@@ -79,21 +61,16 @@ fn two_fit(kept: Kept<'_>, chain: &Chain, m: usize, n: usize) -> bool {
         first: *first,
         second: *second,
     };
-    let standing = if n - m == 1 {
-        Standing::Neighbours
-    } else {
-        Standing::Apart
-    };
     let order = order_of(kept.orders, trains).or_else(|| order_of(kept.others, trains));
     match order.and_then(|order| order.grids().get(kept.number)) {
-        Some(grid) => shares_fit(standing, leader, follower, grid),
+        Some(grid) => shares_fit(leader, follower, grid),
         None => false,
     }
 }
 
-// Whether the shares of a train of a chain fit those of the trains behind it.
-fn train_fits(kept: Kept<'_>, chain: &Chain, m: usize) -> bool {
-    for n in m + 1..chain.trains.len() {
+// Whether the shares of a train of a chain fit those of the trains from a place in it on.
+fn train_fits(kept: Kept<'_>, chain: &Chain, m: usize, from: usize) -> bool {
+    for n in from..chain.trains.len() {
         if !two_fit(kept, chain, m, n) {
             return false;
         }
@@ -101,10 +78,10 @@ fn train_fits(kept: Kept<'_>, chain: &Chain, m: usize) -> bool {
     true
 }
 
-// Whether the shares of each two trains of a chain fit.
-fn fits(kept: Kept<'_>, chain: &Chain) -> bool {
-    for m in 0..chain.trains.len() {
-        if !train_fits(kept, chain, m) {
+// Whether the shares of the trains before a place of a chain fit those of the trains behind it. They aren't neighbours.
+fn fits(kept: Kept<'_>, chain: &Chain, place: usize) -> bool {
+    for m in 0..place {
+        if !train_fits(kept, chain, m, place.saturating_add(1)) {
             return false;
         }
     }
@@ -113,99 +90,60 @@ fn fits(kept: Kept<'_>, chain: &Chain) -> bool {
 
 // Whether a chain forbids two trains to be at these places.
 fn forbids(chain: &Chain, order: &Order, a: u32, b: u32) -> bool {
-    let both = chain
-        .share(order.first(), a)
-        .saturating_add(chain.share(order.second(), b));
-    both > LIMIT
+    let leader = chain.share(order.first(), a);
+    leader.saturating_add(chain.share(order.second(), b)) > LIMIT
 }
 
 // Two chains of a list, by their numbers, and what they would be joined to.
 #[derive(Clone, Copy)]
 struct Join<'a> {
+    chains: &'a [Chain],
     first: usize,
     second: usize,
     joined: &'a Chain,
 }
 
-// Whether one of the chains forbids two trains to be at these places, after a join.
-fn still_forbids(
-    chains: &[Chain],
-    join: &Join<'_>,
-    number: usize,
-    order: &Order,
-    a: u32,
-    b: u32,
-) -> bool {
-    if forbids(join.joined, order, a, b) {
-        return true;
-    }
-    for (k, chain) in chains.iter().enumerate() {
-        let stays = k != join.first && k != join.second && chain.keeps(number);
-        if stays && forbids(chain, order, a, b) {
-            return true;
+impl<'a> Join<'a> {
+    // Whether another chain of the order with a number forbids two trains to be at these places.
+    fn is_forbidden_elsewhere(self, number: usize, order: &Order, a: u32, b: u32) -> bool {
+        for (k, chain) in self.chains.iter().enumerate() {
+            let stays = k != self.first && k != self.second && chain.keeps(number);
+            if stays && forbids(chain, order, a, b) {
+                return true;
+            }
         }
+        false
     }
-    false
+
+    // Whether what a chain forbids for a place of the train that leads stays forbidden after the join.
+    fn row_stays(self, before: &Chain, number: usize, order: &Order, a: u32, last: u32) -> bool {
+        for b in 0..=last {
+            if forbids(before, order, a, b)
+                && !forbids(self.joined, order, a, b)
+                && !self.is_forbidden_elsewhere(number, order, a, b)
+            {
+                return false;
+            }
+        }
+        true
+    }
 }
 
-// Whether the chains forbid the train that leads, after a join, to be at one of some places while the other is at b.
-fn column_stays(
-    chains: &[Chain],
-    join: &Join<'_>,
-    number: usize,
-    order: &Order,
-    places: Two,
-    b: u32,
-) -> bool {
-    for a in places.first..places.second {
-        if !still_forbids(chains, join, number, order, a, b) {
+// Whether all that a chain forbids by a link of it stays forbidden after a join.
+fn link_stays(kept: Kept<'_>, join: Join<'_>, before: &Chain, link: Option<&Link>) -> bool {
+    let Some(link) = link else {
+        return false;
+    };
+    let Some(order) = kept.orders.get(link.order) else {
+        return false;
+    };
+    let last = last_in(kept.table, order.second());
+    for a in 0..=last_in(kept.table, order.first()) {
+        if !join.row_stays(before, link.order, order, a, last) {
             return false;
         }
     }
     true
-}
-
-// Whether all that the order with a number forbids stays forbidden after a join.
-fn order_stays(
-    alloc: Global,
-    kept: Kept<'_>,
-    chains: &[Chain],
-    join: &Join<'_>,
-    number: usize,
-) -> Result<bool, AllocError> {
-    let Some(order) = kept.orders.get(number) else {
-        return Ok(false);
-    };
-    let Some(grid) = order.grids().get(kept.number) else {
-        return Ok(false);
-    };
-    let stairs = Stairs::new(alloc, grid, Leader::First)?;
-    let beyond = last_in(kept.table, order.first()).saturating_add(1);
-    for b in 0..=last_in(kept.table, order.second()) {
-        let places = Two {
-            first: stairs.at(0),
-            second: stairs.at(b).min(beyond),
-        };
-        if !column_stays(chains, join, number, order, places, b) {
-            return Ok(false);
-        }
-    }
-    Ok(true)
-}
-
-// Whether all that the orders of a chain forbid stays forbidden after a join.
-fn orders_stay(
-    alloc: Global,
-    kept: Kept<'_>,
-    chains: &[Chain],
-    join: &Join<'_>,
-) -> Result<bool, AllocError> {
-    for link in &join.joined.links {
-        if !order_stays(alloc, kept, chains, join, link.order)? {
-            return Ok(false);
-        }
-    }
-    Ok(true)
 }
 
 // Whether two chains have no train in common but the one at which they are joined.
@@ -281,7 +219,7 @@ fn join_of(alloc: Global, first: &Chain, second: &Chain) -> Result<Chain, AllocE
     Ok(joined)
 }
 
-// A chain with another one behind it, if the join is permitted.
+// A chain with another one behind it, if the join is permitted. Only the train at which they are joined has lesser shares than before.
 fn permitted(
     alloc: Global,
     kept: Kept<'_>,
@@ -294,11 +232,15 @@ fn permitted(
     };
     let joined = join_of(alloc, leading, following)?;
     let join = Join {
+        chains,
         first,
         second,
         joined: &joined,
     };
-    if fits(kept, &joined) && orders_stay(alloc, kept, chains, &join)? {
+    let is_permitted = fits(kept, &joined, leading.links.len())
+        && link_stays(kept, join, leading, leading.links.last())
+        && link_stays(kept, join, following, following.links.first());
+    if is_permitted {
         Ok(Some(joined))
     } else {
         Ok(None)
