@@ -326,7 +326,11 @@ fn sorted(alloc: Global, sought: Sought<'_>, leads: &[Lead]) -> Result<Sorted, A
 
 // The first orders of a list.
 fn front(orders: &[Order], count: usize) -> &[Order] {
-    if count < orders.len() { &orders[..count] } else { orders }
+    if count < orders.len() {
+        &orders[..count]
+    } else {
+        orders
+    }
 }
 
 // How many of the strongest orders have room, and the chains of so many, if these were packed.
@@ -363,7 +367,9 @@ fn most_packed(
             }
             None => limit = tried,
         }
-        tried = most.count.saturating_add(limit.saturating_sub(most.count) / 2);
+        tried = most
+            .count
+            .saturating_add(limit.saturating_sub(most.count) / 2);
     }
     Ok(most)
 }

@@ -100,6 +100,17 @@ fn row_has_none(table: &Table, second: u32, section: u32, grid: &Grid, a: u32) -
     true
 }
 
+// Whether in each pair of a set with a place of the first train one of two trains has no share of a section.
+fn row_has_one(table: &Table, first: u32, second: u32, section: u32, grid: &Grid, a: u32) -> bool
+    requires first { (first < trains table.now) × (a ≤ last table.now first) }
+    requires second { second < trains table.now }
+    requires section { section < length table.now.sections }
+    ensures { IsTrue result → (b : ℕ) → b ≤ last table.now second → has_pair grid.now a b ≡ true
+        → pos 0 <ℤ share table.now first section a → pos 0 <ℤ share table.now second section b → ⊥ }
+{
+    share_at(table, first, section, a) <= 0 || row_has_none(table, second, section, grid, a)
+}
+
 // Whether at each pair of a set one of two trains has no share of a section.
 fn pairs_have_one(table: &Table, first: u32, second: u32, section: u32, grid: &Grid) -> bool
     requires trains { HasTrains table.now first second }
@@ -108,9 +119,7 @@ fn pairs_have_one(table: &Table, first: u32, second: u32, section: u32, grid: &G
         → pos 0 <ℤ share table.now first section a → pos 0 <ℤ share table.now second section b → ⊥ }
 {
     for a in 0..=last_of(table, first) {
-        if share_at(table, first, section, a) > 0
-            && !row_has_none(table, second, section, grid, a)
-        {
+        if !row_has_one(table, first, second, section, grid, a) {
             return false;
         }
     }

@@ -8,5 +8,5 @@ returns-clause-orders c =
     let orders = c.args.orders.now in
     let beside = c.args.beside.now in
     adds_orders c.args.tables.now made c.args.start.now (orders ++ beside)
-    (all_orders c.args.tables.now c.args.start.now orders beside (c.are_orders.ensures (search rules)) (c.are_orders-2.ensures (search rules)))
+    (all_orders c.args.tables.now c.args.start.now orders beside (c.are_orders.ensures (search rules)) (c.are_orders-else-not-are_orders.ensures (search rules)))
     c.in_ok-made.ensures.adds c.in_ok-made.ensures.formed c.in_ok-made.ensures.keep
