@@ -310,7 +310,7 @@ struct Sorted {
     others: Vec<Order>,
 }
 
-fn sorted(alloc: Global, sought: Sought<'_>, leads: &[Lead]) -> Result<Sorted, AllocError> {
+fn sort_orders(alloc: Global, sought: Sought<'_>, leads: &[Lead]) -> Result<Sorted, AllocError> {
     let mut needed = Vec::new(alloc);
     let mut others = Vec::new(alloc);
     for lead in leads {
@@ -381,7 +381,7 @@ fn packed_choice(
     leads: &[Lead],
     more_than: usize,
 ) -> Result<Option<Choice>, AllocError> {
-    let Sorted { needed, others } = sorted(alloc, sought, leads)?;
+    let Sorted { needed, others } = sort_orders(alloc, sought, leads)?;
     let mut orders = needed;
     let Packed { count, chains } = most_packed(alloc, sought.tables, &orders, &others, more_than)?;
     let Some(chains) = chains else {
