@@ -1,6 +1,6 @@
 use Rattle.std.proofs.Common.{◌<◌, length, arith}
 use Rattle.layout_json.proofs.Offered.{offers_more}
-use Rattle.yard_tests.proofs.documents.accepted.Goals as goal
+use Rattle.call_tests.proofs.documents.accepted.Goals as goal
 
 pub loop-number-preserved : goal.loop-number-preserved
 loop-number-preserved c =

@@ -1,5 +1,5 @@
-use Rattle.yard_tests.proofs.Offered.{on_given}
-use Rattle.yard_tests.proofs.stages.opened.Goals as goal
+use Rattle.call_tests.proofs.Offered.{on_given}
+use Rattle.call_tests.proofs.stages.opened.Goals as goal
 
 pub new-requires-clause-points : goal.new-requires-clause-points
 new-requires-clause-points c =
