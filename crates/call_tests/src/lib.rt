@@ -9,8 +9,6 @@ mod certificates;
 #[cfg(test)]
 mod devices;
 #[cfg(test)]
-mod documents;
-#[cfg(test)]
 mod errors;
 #[cfg(test)]
 mod examples;
