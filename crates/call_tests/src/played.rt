@@ -2,14 +2,13 @@
 ghost use Rattle.std.specs.Prelude.{◌≡◌};
 ghost use Rattle.layout_json.specs.Doc.{offers_of};
 
-use crate::documents::{accepted, document_called};
+use crate::certificates::checked;
 use crate::stages::{Stage, finished, play};
 use cert_checker::Accepted;
-use layout_json::Doc;
+use layout_json::Frame;
 use rail_model::PlainState;
 use std::alloc::Global;
 use std::sync::Wait;
-use std::test::Fail;
 use std::thread::Threads;
 
 // The first line of a scene has its name, its document and how many entries each pass may make, and then `resumed` if its yard goes on from a
@@ -259,7 +258,7 @@ fn is_told(alloc: Global, state: &PlainState, end: &str) -> bool {
 fn is_ended(
     rt: &(impl Threads + Wait + Sync),
     alloc: Global,
-    doc: &Doc,
+    doc: &Frame,
     tables: &[Accepted],
     row: Row<'_>,
 ) -> Option<bool>
@@ -272,31 +271,24 @@ fn is_ended(
     }
 }
 
-// The same of a scene at a document.
-fn comes_to(
-    rt: &(impl Threads + Wait + Sync),
-    alloc: Global,
-    doc: &Doc,
-    row: Row<'_>,
-) -> Result<bool, Fail> {
-    let tables = accepted(alloc, doc)?;
-    Ok(is_ended(rt, alloc, doc, &tables, row).unwrap_or(false))
-}
-
 // The same of the scene that has this text.
-fn is_played(rt: &(impl Threads + Wait + Sync), alloc: Global, text: &str) -> Result<bool, Fail> {
-    let row = row_of(text).ok_or("a scene")?;
-    let doc = document_called(alloc, row.document).ok_or("a document")?;
-    comes_to(rt, alloc, &doc, row)
+fn is_played(rt: &(impl Threads + Wait + Sync), alloc: Global, text: &str) -> bool {
+    let Some(row) = row_of(text) else {
+        return false;
+    };
+    match checked(alloc, row.document) {
+        Some(checked) => {
+            is_ended(rt, alloc, &checked.doc, &checked.tables, row).unwrap_or(false)
+        }
+        None => false,
+    }
 }
 
 #[test]
-fn scenes_come_to_what_their_last_lines_say(rt: HostRuntime) -> Result<(), Fail> {
-    let alloc = rt.alloc();
+fn scenes_come_to_what_their_last_lines_say(rt: HostRuntime) {
     for scenes in [OF_BLOCKS, OF_ZONES, OF_EXCHANGES, OF_CLOSINGS] {
         for text in scenes.split("\n\n") {
-            assert!(rt; is_played(&rt, alloc, text)?, "{text}");
+            assert!(rt; is_played(&rt, rt.alloc(), text), "{text}");
         }
     }
-    Ok(())
 }

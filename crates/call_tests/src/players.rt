@@ -2,7 +2,7 @@
 ghost use Rattle.std.specs.Prelude.{◌≡◌, All};
 ghost use Rattle.rail_model.specs.Table.{trains as trains_of};
 ghost use Rattle.rail_model.specs.Yard.{offer};
-ghost use Rattle.yard_tests.specs.Players.{IsOf};
+ghost use Rattle.call_tests.specs.Players.{IsOf};
 
 use crate::scenes::Scene;
 use either::{Either, Left, Right};

@@ -8,7 +8,7 @@ ghost use Rattle.layout_json.specs.Doc.{offers_of};
 use crate::players::{board_all, leave_all, perform_all};
 use crate::scenes::Scene;
 use cert_checker::Accepted;
-use layout_json::{Doc, layout_of, start_of, table_of, tables_of};
+use layout_json::Frame;
 use move_journal::{Journal, replay};
 use plain_yard::PlainYard;
 use rail_model::{Line, PlainState, trains_of as count_trains};
@@ -70,18 +70,16 @@ fn play_at<R: Threads + Wait + Sync>(
     }
 }
 
-// The number of trains of a document.
-fn trains(doc: &Doc) -> Option<u32>
-    ensures { IfSome result (λ n. n ≡ trains_of (offer (offers_of doc.now) 0).table) }
+// The number of trains of tables, if there are any.
+fn trains(tables: &[Accepted]) -> Option<u32>
+    ensures { IfSome result (λ n. n ≡ trains_of (offer tables.now 0).table) }
 {
-    if tables_of(doc) == 0 {
-        return None;
-    }
-    Some(count_trains(table_of(doc, 0)))
+    let first = tables.first()?;
+    Some(count_trains(first.table()))
 }
 
 // The state to which the first move of train 0 leads.
-fn replayed(alloc: Global, doc: &Doc, tables: &[Accepted]) -> Option<PlainState>
+fn replayed(alloc: Global, doc: &Frame, tables: &[Accepted]) -> Option<PlainState>
     requires { tables.now ≡ offers_of doc.now }
     ensures { IfSome result (λ state. Keeps (offers_of doc.now) state.yard state.lines) }
 {
@@ -93,7 +91,7 @@ fn replayed(alloc: Global, doc: &Doc, tables: &[Accepted]) -> Option<PlainState>
     let Ok(lines) = Vec::from_slice(alloc, &[line]) else {
         return None;
     };
-    match replay(alloc, tables, start_of(doc), &Journal::from_lines(lines)) {
+    match replay(alloc, tables, doc.start(), &Journal::from_lines(lines)) {
         Ok(state) => Some(state),
         Err(_) => None,
     }
@@ -102,7 +100,7 @@ fn replayed(alloc: Global, doc: &Doc, tables: &[Accepted]) -> Option<PlainState>
 // The yard of a document, and its root.
 fn opened<'a>(
     alloc: Global,
-    doc: &'a Doc,
+    doc: &'a Frame,
     tables: &'a [Accepted],
     stage: Stage<'_>,
 ) -> Option<(Yard<'a>, Root)>
@@ -110,7 +108,7 @@ fn opened<'a>(
     ensures root { IfSome result (λ made. made.1.yard ≡ made.0) }
     ensures tables { IfSome result (λ made. made.0.setup.tables ≡ offers_of doc.entry.now) }
 {
-    let layout = layout_of(doc);
+    let layout = doc.layout();
     let calls = stage.entries.max(1);
     if stage.is_resumed {
         let state = replayed(alloc, doc, tables)?;
@@ -119,7 +117,7 @@ fn opened<'a>(
             Err(_) => None,
         }
     } else {
-        match Yard::new(alloc, layout, tables, start_of(doc), calls) {
+        match Yard::new(alloc, layout, tables, doc.start(), calls) {
             Ok(made) => Some(made),
             Err(_) => None,
         }
@@ -130,14 +128,14 @@ fn opened<'a>(
 pub(crate) fn play<R: Threads + Wait + Sync>(
     rt: &R,
     alloc: Global,
-    doc: &Doc,
+    doc: &Frame,
     tables: &[Accepted],
     stage: Stage<'_>,
 ) -> Option<PlainState>
     requires { tables.now ≡ offers_of doc.now }
     ensures { IfSome result (λ state. Keeps (offers_of doc.now) state.yard state.lines) }
 {
-    let trains = trains(doc)?;
+    let trains = trains(tables)?;
     let (yard, root) = opened(alloc, doc, tables, stage)?;
     play_at(rt, alloc, yard, root, trains, stage.lines)
 }
