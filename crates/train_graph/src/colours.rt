@@ -47,9 +47,8 @@ fn write_train(style: &mut String, train: u32) -> Result<(), AllocError> {
     let dashes = dashes(train);
     write!(
         style,
-        "line.t{train}{{stroke:{colour};stroke-dasharray:{dashes}}}"
-    )?;
-    write!(style, "text.t{train}{{fill:{colour}}}")
+        "line.t{train}{{stroke:{colour};stroke-dasharray:{dashes}}}text.t{train}{{fill:{colour}}}"
+    )
 }
 
 const COMMON: &str =
