@@ -297,10 +297,16 @@ class Live:
             before, answer = [], f"error {fault}"
         return [row if row[0].isdigit() else tag + row for row in before] + [tag + answer] + self.following()
 
+    def next_want(self, first):
+        """The index of the want that is granted next: from this one on to the last, and then from the first on."""
+        trains = list(self.wants)
+        return next((k for k in [*range(first, len(trains)), *range(first)] if self.told(trains[k])[0] == "may"), None)
+
     def following(self):
-        """What follows an answer: wants that are granted, in their order, and the events of tables and of the end."""
-        rows = []
-        while (train := next((train for train in self.wants if self.told(train)[0] == "may"), None)) is not None:
+        """What follows an answer: wants that are granted, in their turn, and the events of tables and of the end."""
+        rows, index = [], 0
+        while (index := self.next_want(index)) is not None:
+            train = list(self.wants)[index]
             tag = self.wants.pop(train)
             rows += [self.move(train), f"{tag}! granted {self.spot(train, 0)} line={len(self.lines)}"]
         return rows + self.events()

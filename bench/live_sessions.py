@@ -42,13 +42,31 @@ def called(ats, words, text):
     return ran.stdout if ran.returncode == 0 else b""
 
 
+def crowd(draw):
+    """A document whose trains cross the same few points in one order, and leave: none is ever stuck, and many wait for one another."""
+    trains, points = draw.randint(3, 8), [f"X{k}" for k in range(draw.randint(1, 5))]
+    ways = [[f"S{i}", *(points[k] for k in sorted(draw.sample(range(len(points)), draw.randint(1, len(points)))))] for i in range(trains)]
+    start, taken = [0] * trains, set()
+    for train, way in enumerate(ways):
+        place = draw.randrange(len(way))
+        if way[place] not in taken:
+            start[train] = place
+        taken.add(way[start[train]])
+    names = [f"S{i}" for i in range(trains)] + points
+    return {
+        "version": 2, "points": [[name, 0] for name in names], "links": sorted({step for way in ways for step in zip(way, way[1:])}), "zones": 1,
+        "trains": [f"T{i}" for i in range(trains)], "start": start,
+        "tables": [{"missions": ways, "exits": [True] * trains, "sections": [], "after": 0}],
+    }
+
+
 def document(number, ats):
     """The text of a small document with certificates: of `gen`, or drawn and then made or repaired."""
     for attempt in range(1000):
         draw = random.Random(f"document {number} {attempt}")
         if draw.random() < 0.2:
             return called(ats, ["gen", "--seed", str(draw.randrange(1000)), "--trains", str(draw.randint(1, 6))], b"")
-        text = json.dumps(agree.document(draw)).encode()
+        text = json.dumps(crowd(draw) if draw.random() < 0.2 else agree.document(draw)).encode()
         made = called(ats, ["make", "--budget", "20000"], text) or called(ats, ["repair", "--budget", "20000"], text)
         if made:
             return made
@@ -62,6 +80,8 @@ class Drawn:
         self.draw, self.document, self.yard, self.reports = draw, document, yard, reports
         self.number = {name: number for number, name in enumerate(document["trains"])}
         self.there = list(document["start"])
+        wants = draw.choice([24, 24, 24, 24, 200])      # (in some sessions nearly all trains have a want)
+        self.weights = [26, wants, 5, 26 if reports else 1, 1, 4, 3, 8, 2, 3, 1, 1, 0.3]
 
     def train(self):
         names = self.document["trains"]
@@ -79,8 +99,7 @@ class Drawn:
     def request(self):
         draw, train = self.draw, self.train()
         verb = draw.choices(
-            ["ask", "want", "can", "at", "drop", "why", "state", "table", "fits", "since", "ping", "hello", "help"],
-            [26, 24, 5, 26 if self.reports else 1, 1, 4, 3, 8, 2, 3, 1, 1, 0.3],
+            ["ask", "want", "can", "at", "drop", "why", "state", "table", "fits", "since", "ping", "hello", "help"], self.weights
         )[0]
         if verb in ("ask", "want"):
             place = self.place(train) if draw.random() < 0.4 else None

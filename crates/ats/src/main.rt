@@ -8,10 +8,7 @@ use std::{env, io};
 
 // The words after the program's name.
 fn words(rt: &HostRuntime) -> io::Result<Vec<String>> {
-    let mut words = Vec::new(rt.alloc());
-    for word in env::args(rt)?.skip(1) {
-        words.push(word)?;
-    }
+    let words = env::args(rt)?.skip(1).collect(rt.alloc())?;
     Ok(words)
 }
 

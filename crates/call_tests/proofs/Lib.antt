@@ -1,1 +1,3 @@
+mod Offered
 mod Opening
+mod Rows

@@ -1,5 +1,5 @@
-//! Tests of public calls: worked examples through the whole program, and on values from outside what the program doesn't
-//! reach.
+//! Tests of public calls: worked examples through the whole program, on values from outside what the program doesn't
+//! reach, and scenes at the shared yard.
 #![tactic(auto)]
 
 #[cfg(test)]
@@ -17,7 +17,15 @@ mod held;
 #[cfg(test)]
 mod orders;
 #[cfg(test)]
+mod played;
+#[cfg(test)]
+mod players;
+#[cfg(test)]
 mod refusals;
+#[cfg(test)]
+mod scenes;
+#[cfg(test)]
+mod stages;
 #[cfg(test)]
 mod steps;
 #[cfg(test)]

@@ -15,10 +15,7 @@ const NO_WORDS: &str = "dispatch: the words of the command line can't be read\n"
 
 // The words after the program's name.
 fn line(rt: &HostRuntime) -> io::Result<Vec<String>> {
-    let mut line = Vec::new(rt.alloc());
-    for word in env::args(rt)?.skip(1) {
-        line.push(word)?;
-    }
+    let line = env::args(rt)?.skip(1).collect(rt.alloc())?;
     Ok(line)
 }
 

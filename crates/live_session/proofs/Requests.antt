@@ -29,15 +29,16 @@ changed_size a b change = elim change [
   | inr (inr (inr table)) ↦ ap (λ (v : Reported). length v.there) table.2
 ]
 
-fired_size : (a b : DispatchState) (wants : List ℕ) → Fires a wants b → length b.yard.there ≡ length a.yard.there
-fired_size a b [] same = ap (λ (v : DispatchState). length v.yard.there) same
-fired_size a b (k ∷ later) fires =
-    fired_size (fired a k) b later fires.1 ∙ granted_size a.yard (slice_index a.wants k)
+fired_size : (a b : DispatchState) (from : ℕ) (wants : List ℕ) → Fires a from wants b
+    → length b.yard.there ≡ length a.yard.there
+fired_size a b from [] same = ap (λ (v : DispatchState). length v.yard.there) same
+fired_size a b from (k ∷ later) fires =
+    fired_size (fired a k) b k later fires.1 ∙ granted_size a.yard (slice_index a.wants k)
 
 pub served_size : (v w : DispatchState) (request : Request) (served : Served) → IsServed v request served w
     → length w.yard.there ≡ length v.yard.there
 served_size v w request served is =
-    fired_size is.between w is.settles.wants is.settles.fires
+    fired_size is.between w 0 is.settles.wants is.settles.fires
     ∙ changed_size v.yard is.between.yard (changes v is.between request served.reply is.serves).0
 
 -- the lines before, and those of the wants that were granted, are among the lines after

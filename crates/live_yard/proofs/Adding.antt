@@ -40,12 +40,12 @@ own a b change = elim change [
 ]
 
 -- and each want that is granted one
-of_wants : (a b : DispatchState) (wants : List ℕ) → Fires a wants b
+of_wants : (a b : DispatchState) (from : ℕ) (wants : List ℕ) → Fires a from wants b
     → (added : List Line) × (b.yard.run.lines ≡ a.yard.run.lines ++ added) × (length added ≡ length wants)
-of_wants a b [] same = ([], ap (λ (v : DispatchState). v.yard.run.lines) same ∙ sym (append-nil a.yard.run.lines), refl)
-of_wants a b (k ∷ later) fires =
+of_wants a b from [] same = ([], ap (λ (v : DispatchState). v.yard.run.lines) same ∙ sym (append-nil a.yard.run.lines), refl)
+of_wants a b from (k ∷ later) fires =
     let line = move_line a.yard.run.tables a.yard.run.yard (slice_index a.wants k) in
-    let rest = of_wants (fired a k) b later fires.1 in
+    let rest = of_wants (fired a k) b k later fires.1 in
     (line ∷ rest.0, rest.1 ∙ append_assoc a.yard.run.lines (line ∷ []) rest.0, omega (arith, rest.2))
 
 pub adds : (v w : DispatchState) (request : Request) (served : Served) → IsServed v request served w
@@ -53,7 +53,7 @@ pub adds : (v w : DispatchState) (request : Request) (served : Served) → IsSer
     × (length first ≤ 1) × (length fires ≡ served.granted)
 adds v w request served is =
     let first = own v.yard is.between.yard (changes v is.between request served.reply is.serves).0 in
-    let fires = of_wants is.between w is.settles.wants is.settles.fires in (
+    let fires = of_wants is.between w 0 is.settles.wants is.settles.fires in (
       first.0,
       fires.0,
       fires.1 ∙ ap (λ (lines : List Line). lines ++ fires.0) first.1 ∙ append_assoc v.yard.run.lines first.0 fires.0,
@@ -73,23 +73,23 @@ kept f a b by_grant by_report by_table change = elim change [
   | inr (inr (inr table)) ↦ ap f table.2 ∙ by_table a table.0
 ]
 
-kept_by_wants : {A : Type 0} (f : Reported → A) (a b : DispatchState) (wants : List ℕ)
+kept_by_wants : {A : Type 0} (f : Reported → A) (a b : DispatchState) (from : ℕ) (wants : List ℕ)
     → ((v : Reported) (i : ℕ) → f (granted v i) ≡ f v)
-    → Fires a wants b → f b.yard ≡ f a.yard
-kept_by_wants f a b [] by_grant same = ap (λ (v : DispatchState). f v.yard) same
-kept_by_wants f a b (k ∷ later) by_grant fires =
-    kept_by_wants f (fired a k) b later by_grant fires.1 ∙ by_grant a.yard (slice_index a.wants k)
+    → Fires a from wants b → f b.yard ≡ f a.yard
+kept_by_wants f a b from [] by_grant same = ap (λ (v : DispatchState). f v.yard) same
+kept_by_wants f a b from (k ∷ later) by_grant fires =
+    kept_by_wants f (fired a k) b k later by_grant fires.1 ∙ by_grant a.yard (slice_index a.wants k)
 
 pub keeps_tables : (v w : DispatchState) (request : Request) (served : Served) → IsServed v request served w
     → w.yard.run.tables ≡ v.yard.run.tables
 keeps_tables v w request served is =
-    kept_by_wants (λ (y : Reported). y.run.tables) is.between w is.settles.wants (λ y i. refl) is.settles.fires
+    kept_by_wants (λ (y : Reported). y.run.tables) is.between w 0 is.settles.wants (λ y i. refl) is.settles.fires
     ∙ kept (λ (y : Reported). y.run.tables) v.yard is.between.yard (λ y i. refl) (λ y i k. refl) (λ y tried. refl)
     (changes v is.between request served.reply is.serves).0
 
 pub keeps_reports : (v w : DispatchState) (request : Request) (served : Served) → IsServed v request served w
     → w.yard.reports ≡ v.yard.reports
 keeps_reports v w request served is =
-    kept_by_wants (λ (y : Reported). y.reports) is.between w is.settles.wants (λ y i. refl) is.settles.fires
+    kept_by_wants (λ (y : Reported). y.reports) is.between w 0 is.settles.wants (λ y i. refl) is.settles.fires
     ∙ kept (λ (y : Reported). y.reports) v.yard is.between.yard (λ y i. refl) (λ y i k. refl) (λ y tried. refl)
     (changes v is.between request served.reply is.serves).0

@@ -14,6 +14,7 @@ use Rattle.live_yard.specs.Answers.{Asks, AtNext, IsServed, Reports, Serves, Tri
 use Rattle.live_yard.specs.Firing.{CanFire, DispatchState, Fires, IsSettled}
 use Rattle.live_yard.specs.Reported.{Reported, MayGoOn, after_table, granted, reported}
 use Rattle.live_yard.specs.Sessions.{is_refusal}
+use Rattle.live_yard.proofs.Firing.{next_can}
 
 -- Nothing, a grant, a report, or a table.
 abbrev pub Changes : Reported → Reported → Type 0
@@ -116,14 +117,15 @@ changes v w (At i k) reply is = told_of v w i k reply is
 changes v w (Table table) reply is = tabled v w table reply is
 
 -- no want is granted where none can be
-pub none_fires : (v w : DispatchState) (wants : List ℕ) → IsSettled v → Fires v wants w → (w ≡ v) × (length wants ≡ 0)
-none_fires v w [] settled same = (same, refl)
-none_fires v w (k ∷ later) settled fires = absurd (settled k fires.0.0)
+pub none_fires : (v w : DispatchState) (from : ℕ) (wants : List ℕ) → IsSettled v → Fires v from wants w
+    → (w ≡ v) × (length wants ≡ 0)
+none_fires v w from [] settled same = (same, refl)
+none_fires v w from (k ∷ later) settled fires = absurd (settled k (next_can v from k fires.0))
 
 pub refused : (v w : DispatchState) (request : Request) (served : Served) → IsSettled v → IsServed v request served w
     → is_refusal served.reply ≡ true → (w ≡ v) × (served.granted ≡ 0)
 refused v w request served settled is refusal =
     let same : is.between ≡ v = (changes v is.between request served.reply is.serves).1 refusal in
-    let none = none_fires is.between w is.settles.wants
+    let none = none_fires is.between w 0 is.settles.wants
     (λ k can. settled k (subst (λ (u : DispatchState). CanFire u k) same can)) is.settles.fires in
     (none.0 ∙ same, is.settles.number ∙ none.1)

@@ -118,5 +118,5 @@ held_stays v w request served told settled is reply =
     let serves : Serves v request (Held told) is.between =
     subst (λ (r : Reply). Serves v request r is.between) reply is.serves in
     let between = held_settled v is.between request told settled serves in
-    let none = none_fires is.between w is.settles.wants between.1 is.settles.fires in
+    let none = none_fires is.between w 0 is.settles.wants between.1 is.settles.fires in
     (ap (λ (u : DispatchState). u.yard) none.0 ∙ between.0, is.settles.number ∙ none.1)

@@ -13,6 +13,7 @@ pub mod Plainly
 pub mod Repeating
 pub mod RightLines
 mod Rows
+mod RowsOfFiring
 mod RowsOfLines
 mod RowsOfReports
 mod RowsOfSessions

@@ -14,6 +14,7 @@ use Rattle.live_yard.specs.Firing.{DispatchState, Fires, fired}
 use Rattle.live_yard.specs.Reported.{Reported, MayGoOn, after_table, forgotten, granted, positions_of, table_of}
 use Rattle.live_yard.specs.Sessions.{IsPlain, IsSession, PlainSession, plain}
 use Rattle.live_yard.proofs.Changing.{Changes, changes}
+use Rattle.live_yard.proofs.Firing.{next_can}
 use Rattle.live_yard.proofs.Following.{tried_positions}
 use Rattle.live_yard.proofs.Forgetting.{may_forget}
 
@@ -90,17 +91,18 @@ serves_plainly a b change = elim change [
 ]
 
 -- wants that are granted
-fires_plainly : (a b : DispatchState) (wants : List ℕ) → Fires a wants b → PlainSession a b
-fires_plainly a b [] same = same_yard a b (ap (λ (u : DispatchState). forgotten u.yard) same)
-fires_plainly a b (k ∷ later) fires =
+fires_plainly : (a b : DispatchState) (from : ℕ) (wants : List ℕ) → Fires a from wants b → PlainSession a b
+fires_plainly a b from [] same = same_yard a b (ap (λ (u : DispatchState). forgotten u.yard) same)
+fires_plainly a b from (k ∷ later) fires =
     let i = slice_index a.wants k in
-    then a (fired a k) b (grants a (fired a k) i fires.0.0.1 refl) (fires_plainly (fired a k) b later fires.1)
+    let may = (next_can a from k fires.0).1 in
+    then a (fired a k) b (grants a (fired a k) i may refl) (fires_plainly (fired a k) b k later fires.1)
 
 pub served_plainly : (a b : DispatchState) (request : Request) (served : Served) → IsServed a request served b
     → PlainSession a b
 served_plainly a b request served is =
     then a is.between b (serves_plainly a is.between (changes a is.between request served.reply is.serves).0)
-    (fires_plainly is.between b is.settles.wants is.settles.fires)
+    (fires_plainly is.between b 0 is.settles.wants is.settles.fires)
 
 pub plainly : (a b : DispatchState) (requests : List Request) (served : List Served) → IsSession a requests served b
     → PlainSession a b

@@ -18,9 +18,10 @@ use Rattle.live_yard.specs.declared.requests.Request.{Request}
 use Rattle.live_yard.specs.declared.requests.Served.{Served}
 use Rattle.live_yard.specs.Answers.{IsServed}
 use Rattle.live_yard.specs.Firing.{DispatchState, Fires, fired}
-use Rattle.live_yard.specs.Reported.{Reported, MayGoOn, granted, stepped, tried_on}
+use Rattle.live_yard.specs.Reported.{Reported, MayGoOn, stepped, tried_on}
 use Rattle.live_yard.specs.Sessions.{GoesOn}
 use Rattle.live_yard.proofs.Changing.{Changes, changes}
+use Rattle.live_yard.proofs.Firing.{next_can}
 
 -- by no lines
 pub stays : (a b : PlainRun) → b ≡ a → GoesOn a [] b
@@ -98,22 +99,23 @@ own a b change = elim change [
 ]
 
 -- by wants that are granted
-of_wants : (a b : DispatchState) (wants : List ℕ) → Fires a wants b
+of_wants : (a b : DispatchState) (from : ℕ) (wants : List ℕ) → Fires a from wants b
     → (added : List Line) × GoesOn a.yard.run added b.yard.run
-of_wants a b [] same = ([], stays a.yard.run b.yard.run (ap (λ (v : DispatchState). v.yard.run) same))
-of_wants a b (k ∷ later) fires =
+of_wants a b from [] same = ([], stays a.yard.run b.yard.run (ap (λ (v : DispatchState). v.yard.run) same))
+of_wants a b from (k ∷ later) fires =
     let i = slice_index a.wants k in
     let line = move_line a.yard.run.tables a.yard.run.yard i in
-    let rest = of_wants (fired a k) b later fires.1 in (
+    let may = (next_can a from k fires.0).1 in
+    let rest = of_wants (fired a k) b k later fires.1 in (
       line ∷ rest.0,
-      goes_on a.yard.run (stepped a.yard.run i) b.yard.run (line ∷ []) rest.0 (granted_on a.yard i fires.0.0.1) rest.1,
+      goes_on a.yard.run (stepped a.yard.run i) b.yard.run (line ∷ []) rest.0 (granted_on a.yard i may) rest.1,
     )
 
 pub served_on : (v w : DispatchState) (request : Request) (served : Served) → IsServed v request served w
     → (added : List Line) × GoesOn v.yard.run added w.yard.run
 served_on v w request served is =
     let first = own v.yard is.between.yard (changes v is.between request served.reply is.serves).0 in
-    let fires = of_wants is.between w is.settles.wants is.settles.fires in (
+    let fires = of_wants is.between w 0 is.settles.wants is.settles.fires in (
       first.0 ++ fires.0,
       goes_on v.yard.run is.between.yard.run w.yard.run first.0 fires.0 first.1 fires.1,
     )

@@ -1,5 +1,5 @@
 -- Which standing wants are granted.
-use Rattle.std.specs.Prelude.{◌≡◌, ℕ, ◌<◌, List, [], ◌∷◌, length, slice_index}
+use Rattle.std.specs.Prelude.{◌≡◌, ◌⊎◌, ℕ, ◌<◌, ◌≤◌, List, [], ◌∷◌, length, slice_index}
 use Rattle.std.specs.List.{remove}
 use Rattle.rail_model.specs.Move.{IsFirst}
 use Rattle.live_yard.specs.Reported.{Reported, MayGoOn, granted}
@@ -13,22 +13,30 @@ pub record DispatchState : Type 0 where
 abbrev pub CanFire : DispatchState → ℕ → Type 0
 CanFire v k = (k < length v.wants) × MayGoOn v.yard (slice_index v.wants k)
 
+-- The want that is granted next, where it is sought from an index on: the first from there on that can be, or where
+-- none from there on can be, the first of all.
+abbrev pub IsNextWant : DispatchState → ℕ → ℕ → Type 0
+IsNextWant v from k =
+    IsFirst (λ j. (from ≤ j) × CanFire v j) k
+    ⊎ (((j : ℕ) → from ≤ j → CanFire v j → ⊥) × IsFirst (CanFire v) k)
+
 -- the state after the want of this index was granted
 abbrev pub fired : DispatchState → ℕ → DispatchState
 fired v k = record { yard = granted v.yard (slice_index v.wants k); wants = remove v.wants k }
 
--- Wants are granted one after the other, each the first in the order of coming that can be.
-abbrev pub Fires : DispatchState → List ℕ → DispatchState → Type 0
-Fires v [] w = w ≡ v
-Fires v (k ∷ later) w = IsFirst (CanFire v) k × Fires (fired v k) later w
+-- Wants are granted one after the other: the first is sought from an index on, and each later one from the want that
+-- stood behind the one before, which has that one's index then.
+abbrev pub Fires : DispatchState → ℕ → List ℕ → DispatchState → Type 0
+Fires v from [] w = w ≡ v
+Fires v from (k ∷ later) w = IsNextWant v from k × Fires (fired v k) k later w
 
 -- No standing want can be granted.
 abbrev pub IsSettled : DispatchState → Type 0
 IsSettled v = (k : ℕ) → CanFire v k → ⊥
 
--- So many wants are granted, and then none can be.
+-- So many wants are granted, in turn from the first on, and then none can be.
 pub record Settles (v w : DispatchState) (n : ℕ) : Type 0 where
   pub wants : List ℕ
   pub number : n ≡ length wants
-  pub fires : Fires v wants w
+  pub fires : Fires v 0 wants w
   pub settled : IsSettled w

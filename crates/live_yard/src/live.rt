@@ -59,8 +59,8 @@ impl<'a, A: CheckedTable> LiveYard<'a, A> {
         self.queue.as_slice()
     }
 
-    /// Answers a request, and then grants standing wants, each time the first in the order of coming that can be
-    /// granted, until none can be. Takes no memory.
+    /// Answers a request, and then grants standing wants in the order of coming, going on behind the one that was
+    /// granted and then again from the first, until none can be granted. Takes no memory.
     pub fn serve(&mut self, request: Request) -> Served
         requires { IsOfRun (length self.old.yard.there) request }
         ensures served { IsServed self.old request result self.new }

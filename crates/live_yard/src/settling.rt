@@ -1,9 +1,9 @@
 // Wants that are granted as soon as they can be.
-ghost use Rattle.std.specs.Prelude.{◌≡◌, ◌↔◌, length, IsTrue, slice_index, ◌<◌};
+ghost use Rattle.std.specs.Prelude.{◌≡◌, ◌↔◌, length, IsTrue, slice_index, ◌<◌, ◌≤◌, MatchOption};
 ghost use Rattle.std.specs.List.{remove};
 ghost use Rattle.rail_model.specs.Move.{IsFirstOrNone};
 ghost use Rattle.live_yard.specs.Wants.{AreWants};
-ghost use Rattle.live_yard.specs.Firing.{CanFire, Settles};
+ghost use Rattle.live_yard.specs.Firing.{CanFire, IsNextWant, IsSettled, Settles};
 ghost use Rattle.live_yard.specs.Reported.{granted, MayGoOn};
 
 use crate::{ReportedYard, Told, WantQueue};
@@ -17,17 +17,41 @@ fn may_go<A: CheckedTable>(yard: &ReportedYard<'_, A>, train: u32) -> bool
     matches!(yard.told(train), Told::May)
 }
 
-// The first want that can be granted.
-fn next_want<A: CheckedTable>(yard: &ReportedYard<'_, A>, wants: &[u32]) -> Option<usize>
-    requires { AreWants (length yard.now.there) wants.now }
-    ensures { IsFirstOrNone (CanFire (record { yard = yard.now; wants = wants.now })) result }
+// The first want from one index on and before another that can be granted.
+fn first_want<A: CheckedTable>(
+    yard: &ReportedYard<'_, A>,
+    wants: &[u32],
+    from: usize,
+    end: usize,
+) -> Option<usize>
+    requires wants { AreWants (length yard.now.there) wants.now }
+    requires within { end ≤ length wants.now }
+    ensures { IsFirstOrNone (λ k. (from ≤ k) × (k < end)
+        × CanFire (record { yard = yard.now; wants = wants.now }) k) result }
 {
-    for index in 0..wants.len() {
+    for index in from..end {
         if may_go(yard, wants[index]) {
             return Some(index);
         }
     }
     None
+}
+
+// The want that is granted next, sought from an index on and then among those before.
+fn next_want<A: CheckedTable>(
+    yard: &ReportedYard<'_, A>,
+    wants: &[u32],
+    from: usize,
+) -> Option<usize>
+    requires wants { AreWants (length yard.now.there) wants.now }
+    requires within { from ≤ length wants.now }
+    ensures { MatchOption result (IsSettled (record { yard = yard.now; wants = wants.now }))
+        (IsNextWant (record { yard = yard.now; wants = wants.now }) from) }
+{
+    match first_want(yard, wants, from, wants.len()) {
+        Some(index) => Some(index),
+        None => first_want(yard, wants, 0, from),
+    }
 }
 
 // Grants a want that can be granted; it stands no longer.
@@ -42,8 +66,8 @@ fn fire<A: CheckedTable>(yard: &mut ReportedYard<'_, A>, queue: &mut WantQueue, 
     yard.grant(train);
 }
 
-/// Grants standing wants, each time the first in the order of coming that can be granted, until none can be; and says
-/// how many.
+/// Grants standing wants in the order of coming, going on behind the one that was granted and then again from the
+/// first, until none can be granted; and says how many.
 pub(crate) fn settle<A: CheckedTable>(
     yard: &mut ReportedYard<'_, A>,
     queue: &mut WantQueue,
@@ -54,8 +78,10 @@ pub(crate) fn settle<A: CheckedTable>(
     ensures trains { queue.new.trains ≡ length yard.new.there }
 {
     let before = queue.len();
-    while let Some(index) = next_want(yard, queue.as_slice()) {
+    let mut from = 0;
+    while let Some(index) = next_want(yard, queue.as_slice(), from) {
         fire(yard, queue, index);
+        from = index;
     }
     before - queue.len()
 }

@@ -1,6 +1,5 @@
 // The entries of a plan: what its text says, before its names are known.
-ghost use Rattle.std.specs.Prelude.{◌≡◌, is_some, option_and_then, option_copied, option_map};
-ghost use Rattle.std.specs.List.{list_all};
+ghost use Rattle.std.specs.Prelude.{◌≡◌, is_none, option_and_then, option_copied, option_map};
 ghost use Rattle.toml.specs.Data.{as_bool, as_integer, as_str, as_table, get_item};
 ghost use Rattle.toml.specs.View.{items_view, table_view, view};
 ghost use Rattle.plan_entries.specs.Found as spec;
@@ -57,7 +56,9 @@ impl Kind {
 }
 
 /// The first value that isn't a text.
-pub(crate) fn first_other(values: &[Value]) -> Option<&Value> {
+pub(crate) fn first_other(values: &[Value]) -> Option<&Value>
+    ensures { is_none result ≡ spec.are_names (items_view values.now) }
+{
     for value in values {
         if !value.is_str() {
             return Some(value);
@@ -66,27 +67,12 @@ pub(crate) fn first_other(values: &[Value]) -> Option<&Value> {
     None
 }
 
-// Whether a value is a text.
-fn is_text(value: &Value) -> bool
-    ensures { result ≡ is_some (as_str (view value.now)) }
-{
-    value.is_str()
-}
-
-// Whether all values are texts.
-fn are_texts(values: &[Value]) -> bool
-    ensures { result ≡ list_all (λ v. is_some (as_str (view v))) values.now }
-{
-    values.iter().all(|value| is_text(value))
-}
-
 /// The names of a list; none, if it isn't a list of names.
-#[tactic(auto, using(crate::proofs::Names::all_names))]
 pub fn names_of(value: &Value) -> Option<&[Value]>
     ensures { option_map (λ names. items_view names.now) result ≡ spec.names_in (view value.now) }
 {
     match value.as_array() {
-        Some(values) if are_texts(values) => Some(values.as_slice()),
+        Some(values) if first_other(values).is_none() => Some(values.as_slice()),
         _ => None,
     }
 }

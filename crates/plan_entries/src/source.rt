@@ -83,6 +83,28 @@ fn has_name(line: &str, name: &str) -> bool {
     has_quoted(line, '"', name) || has_quoted(line, '\'', name) || has_bare(line, name)
 }
 
+// What is looked for in the lines of an entry. Empty words are nowhere.
+#[derive(Clone, Copy)]
+enum Sought<'s> {
+    // A header that is none of a part of this one.
+    OtherThan(&'s str),
+    Key(&'s str),
+    Name(&'s str),
+}
+
+impl Sought<'_> {
+    fn is_in(self, line: &str) -> bool {
+        match self {
+            Sought::OtherThan(header) => {
+                let next = header_of(line);
+                !next.is_empty() && !is_part_of(next, header)
+            }
+            Sought::Key(key) => !key.is_empty() && begins_with(line, key),
+            Sought::Name(name) => !name.is_empty() && has_name(line, name),
+        }
+    }
+}
+
 impl<'a> Source<'a> {
     /// The lines of a text.
     pub fn new(alloc: Global, text: &'a str) -> Result<Source<'a>, AllocError> {
@@ -124,41 +146,14 @@ impl<'a> Source<'a> {
         self.header_line(from, header, at.index)
     }
 
-    // The line of the next header that is none of a part of this one.
-    fn end_line(&self, from: usize, header: &str) -> usize {
-        for at in from..self.lines.len() {
-            let next = header_of(self.line(at));
-            if !next.is_empty() && !is_part_of(next, header) {
-                return at;
-            }
-        }
-        self.lines.len()
-    }
-
-    // The first of these lines that begins with a key.
-    fn key_line(&self, from: usize, end: usize, key: &str) -> Option<usize> {
-        if key.is_empty() {
-            return None;
-        }
+    // The first of these lines in which something is.
+    fn first_with(&self, from: usize, end: usize, sought: Sought<'_>) -> Option<usize> {
         for at in from..end {
-            if begins_with(self.line(at), key) {
+            if sought.is_in(self.line(at)) {
                 return Some(at);
             }
         }
         None
-    }
-
-    // The first of these lines in which a name is, or else the first of all.
-    fn name_line(&self, from: usize, end: usize, name: &str) -> usize {
-        if name.is_empty() {
-            return from;
-        }
-        for at in from..end {
-            if has_name(self.line(at), name) {
-                return at;
-            }
-        }
-        from
     }
 
     // The line of a name below a key in the lines of an entry, of which the first is its header, if it has one.
@@ -168,9 +163,15 @@ impl<'a> Source<'a> {
         } else {
             first.saturating_add(1)
         };
-        let end = self.end_line(below, header);
-        let from = self.key_line(below, end, key).unwrap_or(first);
-        self.name_line(from, end, name)
+        let all = self.lines.len();
+        let end = self
+            .first_with(below, all, Sought::OtherThan(header))
+            .unwrap_or(all);
+        let from = self
+            .first_with(below, end, Sought::Key(key))
+            .unwrap_or(first);
+        self.first_with(from, end, Sought::Name(name))
+            .unwrap_or(from)
     }
 
     // The line of a name below a key of an entry, counted from 0.

@@ -104,19 +104,14 @@ impl Words {
         }
     }
 
-    // Adds one of some parts, if it is there.
-    fn push_at(&mut self, parts: &[Part], index: usize) {
-        if let Some(part) = parts.get(index) {
-            self.push_part(part);
-        }
-    }
-
     /// Adds a text, with a part in place of each `{}`.
     pub fn push_form(&mut self, form: &str, parts: &[Part]) {
         let mut index = 0usize;
         for piece in form.split("{}") {
             self.push(piece);
-            self.push_at(parts, index);
+            if let Some(part) = parts.get(index) {
+                self.push_part(part);
+            }
             index = index.saturating_add(1);
         }
     }

@@ -1,6 +1,8 @@
 -- Words that are refused ask for nothing.
-use Rattle.std.proofs.Common.{◌≡◌, ◌∙◌, sym, ap, subst, arith, get_or, inl, inr, ℕ, List, codes, Option, Some, None, Result}
-use Rattle.std.specs.Prelude.{Ok, Err, IfErr, IsSomeAnd}
+use Rattle.std.proofs.Common.{◌≡◌, ◌∙◌, refl, sym, subst, inl, inr, ℕ, List, codes, false, Option, Some, None, Result}
+use Rattle.std.proofs.lemmas.Bool.Decides.{not_from_Decides}
+use Rattle.std.proofs.lemmas.Slice.Eq.{bytes_eq-Decides}
+use Rattle.std.specs.Prelude.{bytes_eq, Ok, Err, IfErr, IsSomeAnd}
 use Rattle.decimal_number.specs.Decimal.{number_of}
 use Rattle.clap.specs.Words.{Row, Text, first_of}
 use Rattle.clap.specs.declared.error.ErrorKind.{ErrorKind}
@@ -28,21 +30,16 @@ no_memory kind (Shown text) found (inr version) is = let both : DisplayVersion �
 no_memory kind (Refused text) found answers is = absurd (answers.1 is)
 no_memory kind Memory found answers is = tt
 
--- the names of `explain` and `certify` differ
-other_name : codes "explain" ≡ codes "certify" → ⊥
-other_name same = let first : 101 ≡ 99 = ap (λ word. get_or word 0 0) same in omega (arith, first)
+-- words that a comparison tells apart differ
+differ : (called name : Text) → bytes_eq called name ≡ false → called ≡ name → ⊥
+differ called name = not_from_Decides _ (bytes_eq-Decides called name)
 
--- and so do the names of `explain` and `protect`
-explain_not_protect : codes "explain" ≡ codes "protect" → ⊥
-explain_not_protect same = let first : 101 ≡ 112 = ap (λ word. get_or word 0 0) same in omega (arith, first)
-
--- and the names of `certify` and `protect`
-certify_not_protect : codes "certify" ≡ codes "protect" → ⊥
-certify_not_protect same = let first : 99 ≡ 112 = ap (λ word. get_or word 0 0) same in omega (arith, first)
-
--- and the names of `graph` and `order`
-graph_not_order : codes "graph" ≡ codes "order" → ⊥
-graph_not_order same = let first : 103 ≡ 111 = ap (λ word. get_or word 0 0) same in omega (arith, first)
+-- The number and the effort that are found for the command `certify`.
+record IsCertifying (given : List Row) (order : Order) : Type 0 where
+  nodes : ℕ
+  effort : Effort
+  nodes_are : budget_in given ≡ Some nodes
+  effort_is : IsEffort (first_of (codes "effort") given) effort
 
 -- The numbers and the effort that are found for the command `protect`.
 record IsProtecting (given : List Row) (order : Order) : Type 0 where
@@ -55,60 +52,56 @@ record IsProtecting (given : List Row) (order : Order) : Type 0 where
 
 -- the command `explain` asks for nothing without places and without a line
 pub none_explained : (given : List Row) → None ≡ first_of (codes "at") given → None ≡ first_of (codes "line") given → AsksForNone (Some (codes "explain", given))
-none_explained given no_places no_line Plan asked = cc
+none_explained given no_places no_line Plan asked = differ _ _ refl asked.0
 none_explained given no_places no_line (ExplainState table at run) asked = let found : Some at.now ≡ None = asked.1.1 ∙ sym no_places in cc
 none_explained given no_places no_line (ExplainLine line) asked = let found : Some line.now ≡ None = asked.1.1 ∙ sym no_line in cc
-none_explained given no_places no_line (Lint before) asked = cc
-none_explained given no_places no_line (Certify budget effort) asked = other_name (sym asked.0)
-none_explained given no_places no_line (Protect budget effort rounds) asked = explain_not_protect (sym asked.0)
-none_explained given no_places no_line AddOrders asked = cc
-none_explained given no_places no_line (OrderByRun seed) asked = cc
-none_explained given no_places no_line (Timetable csv) asked = cc
-none_explained given no_places no_line (Graph train) asked = cc
-none_explained given no_places no_line (Layout table at) asked = cc
+none_explained given no_places no_line (Lint before) asked = differ _ _ refl asked.0
+none_explained given no_places no_line (Certify budget effort) asked = differ _ _ refl asked.0
+none_explained given no_places no_line (Protect budget effort rounds) asked = differ _ _ refl asked.0
+none_explained given no_places no_line AddOrders asked = differ _ _ refl asked.0
+none_explained given no_places no_line (OrderByRun seed) asked = differ _ _ refl asked.0
+none_explained given no_places no_line (Timetable csv) asked = differ _ _ refl asked.0
+none_explained given no_places no_line (Graph train) asked = differ _ _ refl asked.0
+none_explained given no_places no_line (Layout table at) asked = differ _ _ refl asked.0
+
+-- an order of the command `certify` has its values
+asks_to_certify : (given : List Row) (order : Order) → AsksFor order (codes "certify", given) → IsCertifying given order
+asks_to_certify given Plan asked = absurd (differ _ _ refl asked.0)
+asks_to_certify given (ExplainState table at run) asked = absurd (differ _ _ refl asked.0)
+asks_to_certify given (ExplainLine line) asked = absurd (differ _ _ refl asked.0)
+asks_to_certify given (Lint before) asked = absurd (differ _ _ refl asked.0)
+asks_to_certify given (Certify budget effort) asked = record { nodes = budget; effort = effort; nodes_are = asked.1.0; effort_is = asked.1.1 }
+asks_to_certify given (Protect budget effort rounds) asked = absurd (differ _ _ refl asked.0)
+asks_to_certify given AddOrders asked = absurd (differ _ _ refl asked.0)
+asks_to_certify given (OrderByRun seed) asked = absurd (differ _ _ refl asked.0)
+asks_to_certify given (Timetable csv) asked = absurd (differ _ _ refl asked.0)
+asks_to_certify given (Graph train) asked = absurd (differ _ _ refl asked.0)
+asks_to_certify given (Layout table at) asked = absurd (differ _ _ refl asked.0)
 
 -- the command `certify` asks for nothing with a number that is no budget
 pub none_certified : (given : List Row) → budget_in given ≡ None → AsksForNone (Some (codes "certify", given))
-none_certified given no_budget Plan asked = cc
-none_certified given no_budget (ExplainState table at run) asked = other_name asked.0
-none_certified given no_budget (ExplainLine line) asked = other_name asked.0
-none_certified given no_budget (Lint before) asked = cc
-none_certified given no_budget (Certify budget effort) asked = let found : Some budget ≡ None = sym asked.1.0 ∙ no_budget in cc
-none_certified given no_budget (Protect budget effort rounds) asked = certify_not_protect (sym asked.0)
-none_certified given no_budget AddOrders asked = cc
-none_certified given no_budget (OrderByRun seed) asked = cc
-none_certified given no_budget (Timetable csv) asked = cc
-none_certified given no_budget (Graph train) asked = cc
-none_certified given no_budget (Layout table at) asked = cc
+none_certified given no_budget order asked =
+    let has = asks_to_certify given order asked in
+    let found : Some has.nodes ≡ None = sym has.nodes_are ∙ no_budget in cc
 
 -- nor with a word that is no effort
 pub none_tried : (given : List Row) → ((effort : Effort) → IsEffort (first_of (codes "effort") given) effort → ⊥) → AsksForNone (Some (codes "certify", given))
-none_tried given no_effort Plan asked = cc
-none_tried given no_effort (ExplainState table at run) asked = other_name asked.0
-none_tried given no_effort (ExplainLine line) asked = other_name asked.0
-none_tried given no_effort (Lint before) asked = cc
-none_tried given no_effort (Certify budget effort) asked = no_effort effort asked.1.1
-none_tried given no_effort (Protect budget effort rounds) asked = certify_not_protect (sym asked.0)
-none_tried given no_effort AddOrders asked = cc
-none_tried given no_effort (OrderByRun seed) asked = cc
-none_tried given no_effort (Timetable csv) asked = cc
-none_tried given no_effort (Graph train) asked = cc
-none_tried given no_effort (Layout table at) asked = cc
+none_tried given no_effort order asked = let has = asks_to_certify given order asked in no_effort has.effort has.effort_is
 
 -- an order of the command `protect` has its values
 asks_to_protect : (given : List Row) (order : Order) → AsksFor order (codes "protect", given) → IsProtecting given order
-asks_to_protect given Plan asked = cc
-asks_to_protect given (ExplainState table at run) asked = absurd (explain_not_protect asked.0)
-asks_to_protect given (ExplainLine line) asked = absurd (explain_not_protect asked.0)
-asks_to_protect given (Lint before) asked = cc
-asks_to_protect given (Certify budget effort) asked = absurd (certify_not_protect asked.0)
+asks_to_protect given Plan asked = absurd (differ _ _ refl asked.0)
+asks_to_protect given (ExplainState table at run) asked = absurd (differ _ _ refl asked.0)
+asks_to_protect given (ExplainLine line) asked = absurd (differ _ _ refl asked.0)
+asks_to_protect given (Lint before) asked = absurd (differ _ _ refl asked.0)
+asks_to_protect given (Certify budget effort) asked = absurd (differ _ _ refl asked.0)
 asks_to_protect given (Protect budget effort rounds) asked =
     record { nodes = budget; effort = effort; rounds = rounds; nodes_are = asked.1.0; rounds_are = asked.1.1; effort_is = asked.1.2 }
-asks_to_protect given AddOrders asked = cc
-asks_to_protect given (OrderByRun seed) asked = cc
-asks_to_protect given (Timetable csv) asked = cc
-asks_to_protect given (Graph train) asked = cc
-asks_to_protect given (Layout table at) asked = cc
+asks_to_protect given AddOrders asked = absurd (differ _ _ refl asked.0)
+asks_to_protect given (OrderByRun seed) asked = absurd (differ _ _ refl asked.0)
+asks_to_protect given (Timetable csv) asked = absurd (differ _ _ refl asked.0)
+asks_to_protect given (Graph train) asked = absurd (differ _ _ refl asked.0)
+asks_to_protect given (Layout table at) asked = absurd (differ _ _ refl asked.0)
 
 -- the command `protect` asks for nothing with a number of nodes or of rounds that is out of range
 pub no_nodes_protected : (given : List Row) → nodes_in given ≡ None → AsksForNone (Some (codes "protect", given))
@@ -128,19 +121,19 @@ no_effort_protected given no_effort order asked = let has = asks_to_protect give
 
 -- the command `order` asks for nothing with a word that is no number
 pub none_ordered : (given : List Row) (word : Text) → Some word ≡ first_of (codes "of-run") given → number_of word ≡ None → AsksForNone (Some (codes "order", given))
-none_ordered given word found none Plan asked = cc
-none_ordered given word found none (ExplainState table at run) asked = cc
-none_ordered given word found none (ExplainLine line) asked = cc
-none_ordered given word found none (Lint before) asked = cc
-none_ordered given word found none (Certify budget effort) asked = cc
-none_ordered given word found none (Protect budget effort rounds) asked = cc
+none_ordered given word found none Plan asked = differ _ _ refl asked.0
+none_ordered given word found none (ExplainState table at run) asked = differ _ _ refl asked.0
+none_ordered given word found none (ExplainLine line) asked = differ _ _ refl asked.0
+none_ordered given word found none (Lint before) asked = differ _ _ refl asked.0
+none_ordered given word found none (Certify budget effort) asked = differ _ _ refl asked.0
+none_ordered given word found none (Protect budget effort rounds) asked = differ _ _ refl asked.0
 none_ordered given word found none AddOrders asked = let unnamed : None ≡ Some word = asked.1 ∙ sym found in cc
 none_ordered given word found none (OrderByRun seed) asked =
     let number : number_of word ≡ Some seed = subst (λ o. IsSomeAnd o (λ w. number_of w ≡ Some seed)) (sym found) asked.1 in
     let both : Some seed ≡ None = sym number ∙ none in cc
-none_ordered given word found none (Timetable csv) asked = cc
-none_ordered given word found none (Graph train) asked = graph_not_order asked.0
-none_ordered given word found none (Layout table at) asked = cc
+none_ordered given word found none (Timetable csv) asked = differ _ _ refl asked.0
+none_ordered given word found none (Graph train) asked = differ _ _ refl asked.0
+none_ordered given word found none (Layout table at) asked = differ _ _ refl asked.0
 
 -- a word that is none of the three is for no effort
 pub no_effort : (word : Text) → (word ≡ codes "small" → ⊥) → (word ≡ codes "usual" → ⊥) → (word ≡ codes "great" → ⊥) → (effort : Effort) → word ≡ word_of effort → ⊥

@@ -1,9 +1,10 @@
 -- The command as clap takes it: its subcommands and their options.
-use Rattle.std.specs.Prelude.{List, [], ◌∷◌, codes, true, false, Some}
+use Rattle.std.specs.Prelude.{List, [], ◌∷◌, codes, map, true, false, Some}
 use Rattle.clap.specs.Words.{App, Rule, Shape, Text, new_app}
 use Rattle.clap.specs.declared.builder.action.ArgAction.TheVariants.{Set, SetTrue}
 use Rattle.command_words.specs.Built.{leaf, long_option, with_all}
 use Rattle.planner_words.specs.declared.asking.Choice.{Choice}
+use Rattle.planner_words.specs.declared.asking.Subcommand.{Subcommand}
 use Rattle.planner_words.specs.declared.asking.Choice.TheVariants.{Flag, ExcludingFlag, Value, Excluding}
 
 -- an option with one value
@@ -28,6 +29,10 @@ rule_for (Flag name help) = flag name.now
 rule_for (ExcludingFlag name help without) = excluding_flag name.now
 rule_for (Value name value help) = valued name.now
 rule_for (Excluding name value help without) = excluding name.now
+
+-- what clap takes a subcommand for
+abbrev pub shape_of : Subcommand → Shape
+shape_of subcommand = leaf subcommand.name.now (map rule_for subcommand.choices.now)
 
 -- the command before any subcommand
 abbrev pub start : App

@@ -1,8 +1,8 @@
 // The command as clap takes it.
-ghost use Rattle.std.specs.Prelude.{◌≡◌, false, IfOk, map};
+ghost use Rattle.std.specs.Prelude.{◌≡◌, false, IfOk};
 ghost use Rattle.clap.specs.Built.{IsPlainArg};
 ghost use Rattle.clap.specs.Words.{app_of, rule_of, with_subcommand};
-ghost use Rattle.command_words.specs.Built.{IsBuiltAs, IsSubcommand, IsLocal, leaf, long_option, with_all};
+ghost use Rattle.command_words.specs.Built.{IsBuiltAs, IsSubcommand, IsLocal, long_option};
 ghost use Rattle.planner_words.specs.Line as spec;
 
 use clap::{Arg, ArgAction, Command};
@@ -121,18 +121,71 @@ const AT_OR_START: Choice = Choice::Value {
     help: "The place of each train, as 1,0,2 (default: the start)",
 };
 
+// A subcommand with its options.
+struct Subcommand {
+    name: &'static str,
+    about: &'static str,
+    choices: &'static [Choice],
+}
+
+const SUBCOMMANDS: [Subcommand; 9] = [
+    Subcommand {
+        name: "plan",
+        about: "Reads a plan (TOML) and writes its document, for `ats make`",
+        choices: &[],
+    },
+    Subcommand {
+        name: "explain",
+        about: "Reads a document and explains a state, or a line of `ats`, by names",
+        choices: &[AT, TABLE, RUN, LINE],
+    },
+    Subcommand {
+        name: "lint",
+        about: "Reads a document and lists what has no effect or is likely a mistake",
+        choices: &[BEFORE],
+    },
+    Subcommand {
+        name: "certify",
+        about: "Reads a document and writes it with certificates that are found by search",
+        choices: &[BUDGET, EFFORT],
+    },
+    Subcommand {
+        name: "protect",
+        about: "Reads a document and writes it with sections against states that are lost, and certificates",
+        choices: &[NODES, EFFORT, ROUNDS],
+    },
+    Subcommand {
+        name: "order",
+        about: "Reads a document and writes it with sections for the order that its tracks force on trains",
+        choices: &[OF_RUN],
+    },
+    Subcommand {
+        name: "timetable",
+        about: "Reads a document, a line `journal` and what `ats sim` wrote; writes when each train arrives, leaves and waits",
+        choices: &[CSV],
+    },
+    Subcommand {
+        name: "graph",
+        about: "Reads what `timetable` reads; writes a picture (SVG) of the trains over time",
+        choices: &[TRAIN],
+    },
+    Subcommand {
+        name: "layout",
+        about: "Reads a document and writes a picture (SVG) of its tracks, sections and trains",
+        choices: &[AT_OR_START, TABLE],
+    },
+];
+
 /// The whole command.
 pub(crate) fn command<'a>(alloc: Global) -> Result<Command<'a>, AllocError>
     ensures { IfOk result (IsBuiltAs spec.planner) }
 {
-    let about = "Reads a plan (TOML) and writes its document, for `ats make`";
-    let command = with_subcommand(alloc, start(alloc), "plan", about, &[])?;
-    let about = "Reads a document and explains a state, or a line of `ats`, by names";
-    let command = with_subcommand(alloc, command, "explain", about, &[AT, TABLE, RUN, LINE])?;
-    let about = "Reads a document and lists what has no effect or is likely a mistake";
-    let command = with_subcommand(alloc, command, "lint", about, &[BEFORE])?;
-    let command = with_makers(alloc, command)?;
-    with_pictures(alloc, command)
+    let subcommands: &[Subcommand] = &SUBCOMMANDS;
+    let mut command = start(alloc);
+    for subcommand in subcommands {
+        command = with_subcommand(alloc, command, subcommand)?;
+    }
+    Ok(command)
 }
 
 // The command before any subcommand.
@@ -140,65 +193,30 @@ fn start<'a>(alloc: Global) -> Command<'a>
     ensures { IsBuiltAs spec.start result }
 {
     Command::new(alloc, "planner")
-        .version("1.5.0")
+        .version("1.6.0")
         .about(ABOUT)
         .no_binary_name(true)
         .subcommand_required(true)
         .disable_help_subcommand(true)
 }
 
-fn with_makers<'a>(alloc: Global, command: Command<'a>) -> Result<Command<'a>, AllocError>
-    requires { IsLocal command }
-    ensures { IfOk result (IsBuiltAs (with_all spec.makers (app_of command.entry))) }
-{
-    let about = "Reads a document and writes it with certificates that are found by search";
-    let command = with_subcommand(alloc, command, "certify", about, &[BUDGET, EFFORT])?;
-    let about =
-        "Reads a document and writes it with sections against states that are lost, and certificates";
-    let command = with_subcommand(alloc, command, "protect", about, &[NODES, EFFORT, ROUNDS])?;
-    let about =
-        "Reads a document and writes it with sections for the order that its tracks force on trains";
-    with_subcommand(alloc, command, "order", about, &[OF_RUN])
-}
-
-fn with_pictures<'a>(alloc: Global, command: Command<'a>) -> Result<Command<'a>, AllocError>
-    requires { IsLocal command }
-    ensures { IfOk result (IsBuiltAs (with_all spec.pictures (app_of command.entry))) }
-{
-    let about =
-        "Reads a document, a line `journal` and what `ats sim` wrote; writes when each train arrives, leaves and waits";
-    let command = with_subcommand(alloc, command, "timetable", about, &[CSV])?;
-    let about = "Reads what `timetable` reads; writes a picture (SVG) of the trains over time";
-    let command = with_subcommand(alloc, command, "graph", about, &[TRAIN])?;
-    let about = "Reads a document and writes a picture (SVG) of its tracks, sections and trains";
-    with_subcommand(alloc, command, "layout", about, &[AT_OR_START, TABLE])
-}
-
-// The command with one more subcommand, which has these options.
+// The command with one more subcommand.
 fn with_subcommand<'a>(
     alloc: Global,
     command: Command<'a>,
-    name: &'static str,
-    about: &'static str,
-    choices: &[Choice],
+    subcommand: &Subcommand,
 ) -> Result<Command<'a>, AllocError>
     requires { IsLocal command }
-    ensures { IfOk result (IsBuiltAs (with_subcommand (app_of command.entry) (leaf name.entry.now (map spec.rule_for choices.now)))) }
+    ensures { IfOk result (IsBuiltAs (with_subcommand (app_of command.entry) (spec.shape_of subcommand.now))) }
 {
-    command.subcommand(leaf(alloc, name, about, choices)?)
+    command.subcommand(leaf(alloc, subcommand)?)
 }
 
-// A subcommand with these options.
-fn leaf<'a>(
-    alloc: Global,
-    name: &'static str,
-    about: &'static str,
-    choices: &[Choice],
-) -> Result<Command<'a>, AllocError>
-    ensures { IfOk result (IsSubcommand (leaf name.entry.now (map spec.rule_for choices.now))) }
+fn leaf<'a>(alloc: Global, subcommand: &Subcommand) -> Result<Command<'a>, AllocError>
+    ensures { IfOk result (IsSubcommand (spec.shape_of subcommand.now)) }
 {
-    let mut command = Command::new(alloc, name).about(about);
-    for choice in choices {
+    let mut command = Command::new(alloc, subcommand.name).about(subcommand.about);
+    for choice in subcommand.choices {
         command = command.arg(option(alloc, choice)?)?;
     }
     Ok(command)

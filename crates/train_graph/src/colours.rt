@@ -29,10 +29,16 @@ fn dashes(train: u32) -> &'static str {
 /// How the classes of a picture of this many trains look.
 pub(crate) fn style_of(alloc: Global, trains: u32) -> Result<String, AllocError> {
     let mut style = String::from_str(alloc, COMMON)?;
-    for train in 0..trains {
-        write_train(&mut style, train)?;
-    }
+    write_trains(&mut style, trains)?;
     Ok(style)
+}
+
+// Adds how the classes of this many trains look.
+fn write_trains(style: &mut String, trains: u32) -> Result<(), AllocError> {
+    for train in 0..trains {
+        write_train(style, train)?;
+    }
+    Ok(())
 }
 
 // Adds how the class of a train looks.
@@ -41,9 +47,8 @@ fn write_train(style: &mut String, train: u32) -> Result<(), AllocError> {
     let dashes = dashes(train);
     write!(
         style,
-        "line.t{train}{{stroke:{colour};stroke-dasharray:{dashes}}}"
-    )?;
-    write!(style, "text.t{train}{{fill:{colour}}}")
+        "line.t{train}{{stroke:{colour};stroke-dasharray:{dashes}}}text.t{train}{{fill:{colour}}}"
+    )
 }
 
 const COMMON: &str =

@@ -35,21 +35,30 @@ pub fn train_graph(
         run,
         axes: &axes,
     };
-    let groups = groups_of(alloc, &sheet)?;
-    let picture = framed(alloc, run, height_of(&axes), groups)?;
-    Ok(picture)
+    drawn(alloc, &sheet)
 }
 
-// A picture of a run with these groups.
-fn framed(alloc: Global, run: &Run, height: u64, groups: Vec<Group>) -> Result<Picture, AllocError>
-    ensures { IfOk result (λ picture. picture.groups ≡ groups.items) }
+// The picture of a sheet, with a title and with the colours of its trains.
+fn drawn(alloc: Global, sheet: &Sheet) -> Result<Picture, AllocError>
+    ensures { IfOk result (λ picture. marks_in picture.groups
+        ≡ map (mark_of sheet.now.axes.now) sheet.now.run.now.steps.items) }
 {
-    let trains = run.trains();
-    let end = run.end();
+    let trains = sheet.run.trains();
+    let end = sheet.run.end();
     let title = format!(in alloc; "Train graph: {trains} trains over {end} ticks")?;
     let style = style_of(alloc, trains)?;
+    framed(alloc, sheet, title.as_str(), style.as_str())
+}
+
+// The picture of a sheet, with this title and this style.
+fn framed(alloc: Global, sheet: &Sheet, title: &str, style: &str) -> Result<Picture, AllocError>
+    ensures { IfOk result (λ picture. marks_in picture.groups
+        ≡ map (mark_of sheet.now.axes.now) sheet.now.run.now.steps.items) }
+{
+    let mut groups = Vec::new(alloc);
+    push_groups(alloc, &mut groups, sheet)?;
     let width = u64::from(WIDTH);
-    Picture::new(alloc, width, height, title.as_str(), style.as_str(), groups)
+    Picture::new(alloc, width, height_of(sheet.axes), title, style, groups)
 }
 
 // How high a picture is.
@@ -250,14 +259,13 @@ fn push_moves(
     Ok(())
 }
 
-// All groups, from the back to the front.
-fn groups_of(alloc: Global, sheet: &Sheet) -> Result<Vec<Group>, AllocError>
-    ensures { IfOk result (λ groups. marks_in groups.items ≡ map (mark_of sheet.now.axes.now) sheet.now.run.now.steps.items) }
+// Adds all groups, from the back to the front.
+fn push_groups(alloc: Global, groups: &mut Vec<Group>, sheet: &Sheet) -> Result<(), AllocError>
+    ensures { OnOk result (marks_in groups.new.items
+        ≡ marks_in groups.old.items ++ map (mark_of sheet.now.axes.now) sheet.now.run.now.steps.items) }
 {
-    let mut groups = Vec::new(alloc);
     let mut labels = Labels::new(alloc);
-    push_layers(alloc, &mut groups, &mut labels, sheet, &BEHIND)?;
-    push_moves(alloc, &mut groups, sheet.axes, &sheet.run.steps)?;
-    push_layers(alloc, &mut groups, &mut labels, sheet, &BEFORE)?;
-    Ok(groups)
+    push_layers(alloc, groups, &mut labels, sheet, &BEHIND)?;
+    push_moves(alloc, groups, sheet.axes, &sheet.run.steps)?;
+    push_layers(alloc, groups, &mut labels, sheet, &BEFORE)
 }

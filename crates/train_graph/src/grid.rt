@@ -42,11 +42,13 @@ const UNITS: [u64; 11] = [
     10_000_000_000,
 ];
 
+const FACTORS: [u64; 3] = [1, 2, 5];
+
 // The distance of two lines of a grid: 1, 2 or 5 times a power of ten, so that there are at most twelve.
 fn grid_step(span: u64) -> u64 {
-    for unit in UNITS {
-        for factor in [1, 2, 5] {
-            let step = unit.saturating_mul(factor);
+    for unit in &UNITS {
+        for factor in &FACTORS {
+            let step = unit.saturating_mul(*factor);
             if step.saturating_mul(11) >= span {
                 return step;
             }
@@ -63,10 +65,7 @@ pub(crate) fn push_ticks(
 ) -> Result<(), AllocError> {
     let step = grid_step(axes.span);
     for count in 0..13u64 {
-        let tick = step.saturating_mul(count);
-        if tick <= axes.span {
-            push_tick(alloc, shapes, axes, tick)?;
-        }
+        push_tick(alloc, shapes, axes, step.saturating_mul(count))?;
     }
     let middle = Spot {
         x: u64::from(axes.left) + u64::from(axes.width / 2),
@@ -75,13 +74,16 @@ pub(crate) fn push_ticks(
     push_label(alloc, shapes, middle, "ticks")
 }
 
-// Adds the line of a tick, and its number.
+// Adds the line of a tick, and its number, unless the run ends before it.
 fn push_tick(
     alloc: Global,
     shapes: &mut Vec<Shape>,
     axes: &Axes,
     tick: u64,
 ) -> Result<(), AllocError> {
+    if axes.span < tick {
+        return Ok(());
+    }
     let x = axes.x(tick);
     let bottom = axes.floor();
     push_upright(alloc, shapes, axes, x)?;
@@ -117,19 +119,29 @@ pub(crate) fn push_points(
     before: u64,
 ) -> Result<(), AllocError> {
     for point in &axes.rows {
-        let from = axes.spot(0, *point);
-        let to = Spot {
-            x: axes.right(),
-            y: from.y,
-        };
-        push_line(alloc, shapes, from, to)?;
-        let end = Spot {
-            x: from.x.saturating_sub(before),
-            y: from.y.saturating_add(4),
-        };
-        push_label(alloc, shapes, end, point_name(layout, *point))?;
+        let name = point_name(layout, *point);
+        push_point(alloc, shapes, axes, axes.y(*point), name, before)?;
     }
     Ok(())
+}
+
+// Adds the line of a point, and its name, which ends so far to the left of tick 0.
+fn push_point(
+    alloc: Global,
+    shapes: &mut Vec<Shape>,
+    axes: &Axes,
+    y: u64,
+    name: &str,
+    before: u64,
+) -> Result<(), AllocError> {
+    let left = u64::from(axes.left);
+    let end = Spot {
+        x: left.saturating_sub(before),
+        y: y.saturating_add(4),
+    };
+    let right = axes.right();
+    push_line(alloc, shapes, Spot { x: left, y }, Spot { x: right, y })?;
+    push_label(alloc, shapes, end, name)
 }
 
 /// Adds the lines of tables that take over, each with its number.
@@ -141,22 +153,22 @@ pub(crate) fn push_tables(
     takeovers: &[Takeover],
 ) -> Result<(), AllocError> {
     for takeover in takeovers {
-        let x = axes.x(u64::from(takeover.tick));
-        push_upright(alloc, shapes, axes, x)?;
-        push_table(alloc, shapes, labels, axes, x, takeover.table)?;
+        push_table(alloc, shapes, labels, axes, takeover)?;
     }
     Ok(())
 }
 
-// Adds the number of a table that takes over.
+// Adds the line of a table that takes over, and its number.
 fn push_table(
     alloc: Global,
     shapes: &mut Vec<Shape>,
     labels: &mut Labels,
     axes: &Axes,
-    x: u64,
-    table: u32,
+    takeover: &Takeover,
 ) -> Result<(), AllocError> {
+    let x = axes.x(u64::from(takeover.tick));
+    push_upright(alloc, shapes, axes, x)?;
+    let table = takeover.table;
     let words = format!(in alloc; "table {table}")?;
     let width = text_width(words.as_str());
     let spot = labels.place(&table_spots(axes, x, width), width)?;

@@ -1,7 +1,7 @@
 // Trains that stand, and their names.
 use crate::Axes;
 use crate::labels::{Labels, text_width};
-use crate::marks::of_train;
+use crate::marks::set_train;
 use crate::shapes::push_train_line;
 use rail_model::Names;
 use run_timetable::{Row, Run, Step, rows_of, train_name};
@@ -32,7 +32,18 @@ fn push_train_levels(
     stay: bool,
 ) -> Result<(), AllocError> {
     let rows = rows_of(alloc, &run.steps, train, run.start(train))?;
-    for row in &rows {
+    push_rows(alloc, shapes, axes, &rows, stay)
+}
+
+// Adds the level lines of these rows that a train leaves, or of those where it stays.
+fn push_rows(
+    alloc: Global,
+    shapes: &mut Vec<Shape>,
+    axes: &Axes,
+    rows: &[Row],
+    stay: bool,
+) -> Result<(), AllocError> {
+    for row in rows {
         if row.leaves.is_none() == stay {
             push_level(alloc, shapes, axes, row)?;
         }
@@ -69,15 +80,20 @@ pub(crate) fn push_first_names(
 ) -> Result<(), AllocError> {
     for train in 0..run.trains() {
         if let Some(point) = run.start(train) {
-            let at = axes.spot(0, point);
-            let spot = Spot {
-                x: at.x.saturating_sub(6),
-                y: at.y.saturating_add(4),
-            };
+            let spot = start_spot(axes, point);
             push_name(alloc, shapes, train, spot, train_name(names, train))?;
         }
     }
     Ok(())
+}
+
+// Where the name of a train stands that begins at a point.
+fn start_spot(axes: &Axes, point: u32) -> Spot {
+    let at = axes.spot(0, point);
+    Spot {
+        x: at.x.saturating_sub(6),
+        y: at.y.saturating_add(4),
+    }
 }
 
 // Adds the name of a train.
@@ -88,9 +104,9 @@ fn push_name(
     spot: Spot,
     name: &str,
 ) -> Result<(), AllocError> {
-    let words = label(alloc, spot, name)?;
-    shapes.push(of_train(alloc, train, words)?)?;
-    Ok(())
+    let mut words = label(alloc, spot, name)?;
+    set_train(&mut words, alloc, train)?;
+    Ok(shapes.push(words)?)
 }
 
 /// Adds the names of the trains where they end: right of the picture if they stay, or else where they leave.
@@ -114,13 +130,18 @@ pub(crate) fn push_last_names(
 // Adds the lines of the steps, which labels keep clear of.
 fn push_steps(labels: &mut Labels, axes: &Axes, steps: &[Step]) -> Result<(), AllocError> {
     for step in steps {
-        let end = Spot {
-            x: axes.x(step.arrival()),
-            y: axes.target(step.from, step.to),
-        };
-        labels.push_line(axes.spot(u64::from(step.tick), step.from), end)?;
+        let start = axes.spot(u64::from(step.tick), step.from);
+        labels.push_line(start, end_of(axes, step))?;
     }
     Ok(())
+}
+
+// Where the line of a step ends.
+fn end_of(axes: &Axes, step: &Step) -> Spot {
+    Spot {
+        x: axes.x(step.arrival()),
+        y: axes.target(step.from, step.to),
+    }
 }
 
 // Where the name of a train stands at the end of its way.
@@ -131,11 +152,21 @@ fn last_spot(
     train: u32,
     width: u64,
 ) -> Result<Spot, AllocError> {
-    let last = run.steps.iter().rev().find(|step| step.train == train);
-    match last {
-        Some(step) => labels.place(&end_spots(axes, step, width), width),
+    match last_step(&run.steps, train) {
+        Some(step) => labels.place(&end_spots(axes, &step, width), width),
         None => Ok(stay_spot(axes, run.start(train).unwrap_or(0))),
     }
+}
+
+// The last step of a train, if it makes one.
+fn last_step(steps: &[Step], train: u32) -> Option<Step> {
+    let mut last: Option<Step> = None;
+    for step in steps {
+        if step.train == train {
+            last = Some(*step);
+        }
+    }
+    last
 }
 
 // Where the name of a train stands that stays at a point.

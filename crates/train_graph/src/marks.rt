@@ -1,5 +1,5 @@
 // The marks of moves.
-ghost use Rattle.std.specs.Prelude.{◌≡◌, IfOk, map};
+ghost use Rattle.std.specs.Prelude.{◌≡◌, IfOk, OnOk, map};
 ghost use Rattle.svg_text.specs.Shapes.{line_of};
 ghost use Rattle.train_graph.specs.Marks.{mark_of, of_train as marked};
 
@@ -8,13 +8,12 @@ use run_timetable::Step;
 use std::alloc::{AllocError, Global};
 use svg_text::{Shape, Spot, line};
 
-/// A shape with the class of its train.
-pub(crate) fn of_train(alloc: Global, train: u32, mut shape: Shape) -> Result<Shape, AllocError>
-    ensures { IfOk result (λ made. made ≡ marked train shape) }
+/// Gives a shape the class of its train.
+pub(crate) fn set_train(shape: &mut Shape, alloc: Global, train: u32) -> Result<(), AllocError>
+    ensures { OnOk result (shape.new ≡ marked train shape.old) }
 {
     let class = format!(in alloc; "t{train}")?;
-    shape.set(alloc, "class", class.as_str())?;
-    Ok(shape)
+    shape.set(alloc, "class", class.as_str())
 }
 
 /// A line of a train.
@@ -26,7 +25,9 @@ pub(crate) fn train_line(
 ) -> Result<Shape, AllocError>
     ensures { IfOk result (λ shape. shape ≡ marked train (line_of from to)) }
 {
-    of_train(alloc, train, line(alloc, from, to)?)
+    let mut shape = line(alloc, from, to)?;
+    set_train(&mut shape, alloc, train)?;
+    Ok(shape)
 }
 
 // The mark of a step.

@@ -84,15 +84,23 @@ fn push_train(
     push_way(depths, &mut way)
 }
 
+// How many steps a train makes.
+fn steps_of(run: &Run, train: u32) -> u64 {
+    let mut steps: u64 = 0;
+    for step in &run.steps {
+        if step.train == train {
+            steps = steps.saturating_add(1);
+        }
+    }
+    steps
+}
+
 // The train with the most steps, the first of several.
 fn longest(run: &Run) -> u32 {
     let mut first = 0;
-    let mut most = 0;
     for train in 0..run.trains() {
-        let steps = run.steps.iter().filter(|step| step.train == train).count();
-        if steps > most {
+        if steps_of(run, first) < steps_of(run, train) {
             first = train;
-            most = steps;
         }
     }
     first

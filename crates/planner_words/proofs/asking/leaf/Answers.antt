@@ -14,5 +14,5 @@ loop-choice-init c = (
 
 pub loop-choice-preserved : goal.loop-choice-preserved
 loop-choice-preserved c =
-    one_option_more rule_for c.args.name.now c.args.choices.now c.loop-choice.choice-index _ _ c.loop-choice.command c.in_ok-command.command (search rules)
+    one_option_more rule_for c.args.subcommand.now.name.now c.args.subcommand.now.choices.now c.loop-choice.choice-index _ _ c.loop-choice.command c.in_ok-command.command (search rules)
     c.in_ok-option.ensures.0 c.in_ok-option.ensures.1 c.in_ok-command.ensures c.loop-choice.invariant

@@ -4,4 +4,4 @@ use Rattle.planner_words.specs.Line.{rule_for}
 use Rattle.planner_words.proofs.asking.leaf.Given as goal
 
 abbrev pub invariant-loop-choice : goal.invariant-loop-choice
-invariant-loop-choice l = IsSubcommand (leaf l.name (map rule_for (take l.choice-index l.choices))) l.command
+invariant-loop-choice l = IsSubcommand (leaf l.subcommand.name.now (map rule_for (take l.choice-index l.subcommand.choices.now))) l.command

@@ -1,6 +1,0 @@
-use Rattle.std.proofs.Common.{ℕ, ◌<◌}
-use Rattle.live_yard.specs.Firing.{CanFire}
-use Rattle.live_yard.proofs.settling.next_want.Given as goal
-
-abbrev pub invariant-loop-index : goal.invariant-loop-index
-invariant-loop-index g l = (k : ℕ) → k < l.index → CanFire (record { yard = l.yard; wants = l.wants }) k → ⊥

@@ -1,0 +1,14 @@
+use Rattle.command_words.proofs.Leaves.{one_subcommand_more, all_subcommands}
+use Rattle.planner_words.specs.Line.{shape_of, start}
+use Rattle.planner_words.proofs.asking.command.Goals as goal
+
+pub loop-subcommand-init : goal.loop-subcommand-init
+loop-subcommand-init c = c.start-command.ensures
+
+pub loop-subcommand-preserved : goal.loop-subcommand-preserved
+loop-subcommand-preserved c =
+    one_subcommand_more shape_of start _ c.loop-subcommand.subcommand-index _ c.loop-subcommand.command c.in_ok-command.command c.loop-subcommand-test.true c.loop-subcommand.invariant
+    c.in_ok-command.ensures
+
+pub returns : goal.returns
+returns c = all_subcommands shape_of start _ c.loop-subcommand.subcommand-index c.loop-subcommand.command c.loop-subcommand-test.false c.loop-subcommand.invariant

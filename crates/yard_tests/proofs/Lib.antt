@@ -1,2 +1,0 @@
-mod Offered
-mod Rows
