@@ -47,14 +47,14 @@ impl Chain {
         }
     }
 
-    /// The share of a train at a place.
-    pub(crate) fn share(&self, train: u32, place: u32) -> u32 {
+    /// The shares of a train, place by place: none, if it isn't in the chain.
+    pub(crate) fn shares_of(&self, train: u32) -> &[u32] {
         for (member, shares) in self.trains.iter().zip(&self.shares) {
             if *member == train {
-                return shares.get(place as usize).copied().unwrap_or(0);
+                return shares;
             }
         }
-        0
+        &[]
     }
 
     /// Whether the trains of an order have shares.

@@ -15,7 +15,7 @@ const MOST_SECTIONS: usize = 64;
 const MOST_UNPACKED: usize = 256;
 
 // How many numbers of orders are tried, half way between one that has room and one that hasn't.
-const MOST_TRIALS: u32 = 8;
+const MOST_TRIALS: u32 = 5;
 
 // A train that leads, one that follows, and their stairs under each table; and whether a run has them in this order, or the tracks force it.
 #[derive(Drop)]

@@ -31,9 +31,10 @@ fn shares_in(
     chain: &Chain,
     train: u32,
 ) -> Result<Vec<u32>, AllocError> {
+    let own = chain.shares_of(train);
     let mut shares = Vec::new(alloc);
     for place in 0..=last_in(table, train) {
-        shares.push(chain.share(train, place))?;
+        shares.push(own.get(place as usize).copied().unwrap_or(0))?;
     }
     Ok(shares)
 }

@@ -1,15 +1,17 @@
 // Chains that are joined, so that fewer sections keep the same orders. A join is taken only if trains that aren't neighbours in the chain
 // never have shares at one time, and all that the orders forbid stays forbidden. Shares only get less, so neighbours stay within the limit.
 use crate::chains::{Chain, LIMIT, Link, chains_of_two};
-use crate::search::{Two, last_in};
+use crate::search::Two;
 use crate::{Grid, Order};
 use rail_model::Table;
 use std::alloc::{AllocError, Global};
 
-// A table with its number, the orders that are kept in it, and those of other trains.
+// The most joins that are tried in a table. Of lines of 8 to 24 trains at most 268 were.
+const MOST_TRIES: usize = 2000;
+
+// The number of a table, the orders that are kept in it, and those of other trains.
 #[derive(Clone, Copy)]
 struct Kept<'a> {
-    table: &'a Table,
     number: usize,
     orders: &'a [Order],
     others: &'a [Order],
@@ -88,10 +90,26 @@ fn fits(kept: Kept<'_>, chain: &Chain, place: usize) -> bool {
     true
 }
 
-// Whether a chain forbids two trains to be at these places.
-fn forbids(chain: &Chain, order: &Order, a: u32, b: u32) -> bool {
-    let leader = chain.share(order.first(), a);
-    leader.saturating_add(chain.share(order.second(), b)) > LIMIT
+// What the section of a chain has for the two trains of an order, place by place.
+#[derive(Clone, Copy)]
+struct Shares<'a> {
+    leader: &'a [u32],
+    follower: &'a [u32],
+}
+
+impl<'a> Shares<'a> {
+    fn of(chain: &'a Chain, order: &Order) -> Shares<'a> {
+        Shares {
+            leader: chain.shares_of(order.first()),
+            follower: chain.shares_of(order.second()),
+        }
+    }
+
+    // Whether they forbid the two trains to be at these places.
+    fn forbid(self, a: usize, b: usize) -> bool {
+        let leader = self.leader.get(a).copied().unwrap_or(0);
+        leader.saturating_add(self.follower.get(b).copied().unwrap_or(0)) > LIMIT
+    }
 }
 
 // Two chains of a list, by their numbers, and what they would be joined to.
@@ -103,25 +121,32 @@ struct Join<'a> {
     joined: &'a Chain,
 }
 
-impl<'a> Join<'a> {
-    // Whether another chain of the order with a number forbids two trains to be at these places.
-    fn is_forbidden_elsewhere(self, number: usize, order: &Order, a: u32, b: u32) -> bool {
-        for (k, chain) in self.chains.iter().enumerate() {
-            let stays = k != self.first && k != self.second && chain.keeps(number);
-            if stays && forbids(chain, order, a, b) {
-                return true;
+// What a chain forbids two trains, what the join forbids them, and what further chains of their order do.
+#[derive(Drop)]
+struct Change<'a> {
+    before: Shares<'a>,
+    after: Shares<'a>,
+    elsewhere: Vec<Shares<'a>>,
+}
+
+impl<'a> Change<'a> {
+    // Whether what was forbidden for a place of the train that leads stays forbidden.
+    fn row_stays(&self, a: usize) -> bool {
+        for b in 0..self.before.follower.len() {
+            if self.before.forbid(a, b)
+                && !self.after.forbid(a, b)
+                && !self.elsewhere.iter().any(|shares| shares.forbid(a, b))
+            {
+                return false;
             }
         }
-        false
+        true
     }
 
-    // Whether what a chain forbids for a place of the train that leads stays forbidden after the join.
-    fn row_stays(self, before: &Chain, number: usize, order: &Order, a: u32, last: u32) -> bool {
-        for b in 0..=last {
-            if forbids(before, order, a, b)
-                && !forbids(self.joined, order, a, b)
-                && !self.is_forbidden_elsewhere(number, order, a, b)
-            {
+    // Whether all that was forbidden stays forbidden.
+    fn stays(&self) -> bool {
+        for a in 0..self.before.leader.len() {
+            if !self.row_stays(a) {
                 return false;
             }
         }
@@ -129,21 +154,44 @@ impl<'a> Join<'a> {
     }
 }
 
+impl<'a> Join<'a> {
+    // What the chains that aren't joined have for the order with a number.
+    fn elsewhere(
+        self,
+        alloc: Global,
+        number: usize,
+        order: &Order,
+    ) -> Result<Vec<Shares<'a>>, AllocError> {
+        let mut elsewhere = Vec::new(alloc);
+        for (k, chain) in self.chains.iter().enumerate() {
+            if k != self.first && k != self.second && chain.keeps(number) {
+                elsewhere.push(Shares::of(chain, order))?;
+            }
+        }
+        Ok(elsewhere)
+    }
+}
+
 // Whether all that a chain forbids by a link of it stays forbidden after a join.
-fn link_stays(kept: Kept<'_>, join: Join<'_>, before: &Chain, link: Option<&Link>) -> bool {
+fn link_stays(
+    alloc: Global,
+    kept: Kept<'_>,
+    join: Join<'_>,
+    before: &Chain,
+    link: Option<&Link>,
+) -> Result<bool, AllocError> {
     let Some(link) = link else {
-        return false;
+        return Ok(false);
     };
     let Some(order) = kept.orders.get(link.order) else {
-        return false;
+        return Ok(false);
     };
-    let last = last_in(kept.table, order.second());
-    for a in 0..=last_in(kept.table, order.first()) {
-        if !join.row_stays(before, link.order, order, a, last) {
-            return false;
-        }
-    }
-    true
+    let change = Change {
+        before: Shares::of(before, order),
+        after: Shares::of(join.joined, order),
+        elsewhere: join.elsewhere(alloc, link.order, order)?,
+    };
+    Ok(change.stays())
 }
 
 // Whether two chains have no train in common but the one at which they are joined.
@@ -238,8 +286,8 @@ fn permitted(
         joined: &joined,
     };
     let is_permitted = fits(kept, &joined, leading.links.len())
-        && link_stays(kept, join, leading, leading.links.last())
-        && link_stays(kept, join, following, following.links.first());
+        && link_stays(alloc, kept, join, leading, leading.links.last())?
+        && link_stays(alloc, kept, join, following, following.links.first())?;
     if is_permitted {
         Ok(Some(joined))
     } else {
@@ -247,60 +295,53 @@ fn permitted(
     }
 }
 
-// The chain that is joined behind another one, and what they are then.
-#[derive(Drop)]
-struct Best {
+// A chain that may be joined behind another one, by its number, and the place at which it meets that.
+#[derive(Clone, Copy)]
+struct Candidate {
     second: usize,
     meets: usize,
-    joined: Chain,
 }
 
-// The join behind a chain that meets it first.
-fn best_behind(
-    alloc: Global,
-    kept: Kept<'_>,
-    chains: &[Chain],
-    first: usize,
-) -> Result<Option<Best>, AllocError> {
-    let mut best: Option<Best> = None;
+// The chains that may be joined behind one, those that meet it first before the others.
+fn candidates(alloc: Global, chains: &[Chain], first: usize) -> Result<Vec<Candidate>, AllocError> {
+    let mut found = Vec::new(alloc);
     let Some(leading) = chains.get(first) else {
-        return Ok(None);
+        return Ok(found);
     };
     for (second, following) in chains.iter().enumerate() {
-        let Some(meets) = meets_at(leading, following) else {
-            continue;
-        };
-        if best.as_ref().is_some_and(|best| best.meets <= meets) {
-            continue;
-        }
-        if let Some(joined) = permitted(alloc, kept, chains, first, second)? {
-            best = Some(Best {
-                second,
-                meets,
-                joined,
-            });
+        if let Some(meets) = meets_at(leading, following) {
+            found.push(Candidate { second, meets })?;
         }
     }
-    Ok(best)
+    found.sort_by_key(|candidate| candidate.meets)?;
+    Ok(found)
 }
 
-// Joins a chain with one behind it, and leaves an empty one in the place of that, if a join is permitted.
+// Joins a chain with the first of some that is permitted behind it, and leaves an empty one in the place of that. Each try is counted.
 fn extend(
     alloc: Global,
     kept: Kept<'_>,
     chains: &mut Vec<Chain>,
     first: usize,
+    tries: &mut usize,
 ) -> Result<bool, AllocError> {
-    let Some(best) = best_behind(alloc, kept, chains, first)? else {
-        return Ok(false);
-    };
-    if let Some(chain) = chains.get_mut(best.second) {
-        *chain = Chain::new(alloc);
+    for Candidate { second, .. } in candidates(alloc, chains, first)? {
+        if *tries >= MOST_TRIES {
+            return Ok(false);
+        }
+        *tries += 1;
+        let Some(joined) = permitted(alloc, kept, chains, first, second)? else {
+            continue;
+        };
+        if let Some(chain) = chains.get_mut(second) {
+            *chain = Chain::new(alloc);
+        }
+        if let Some(chain) = chains.get_mut(first) {
+            *chain = joined;
+        }
+        return Ok(true);
     }
-    if let Some(chain) = chains.get_mut(first) {
-        *chain = best.joined;
-    }
-    Ok(true)
+    Ok(false)
 }
 
 // Joins a chain with those behind it.
@@ -309,9 +350,10 @@ fn extend_all(
     kept: Kept<'_>,
     chains: &mut Vec<Chain>,
     first: usize,
+    tries: &mut usize,
 ) -> Result<(), AllocError> {
     for _ in 0..chains.len() {
-        if !extend(alloc, kept, chains, first)? {
+        if !extend(alloc, kept, chains, first, tries)? {
             return Ok(());
         }
     }
@@ -327,14 +369,14 @@ pub(crate) fn packed(
     others: &[Order],
 ) -> Result<Vec<Chain>, AllocError> {
     let kept = Kept {
-        table,
         number,
         orders,
         others,
     };
     let mut chains = chains_of_two(alloc, table, number, orders)?;
+    let mut tries = 0;
     for first in 0..chains.len() {
-        extend_all(alloc, kept, &mut chains, first)?;
+        extend_all(alloc, kept, &mut chains, first, &mut tries)?;
     }
     let mut joined = Vec::new(alloc);
     for chain in chains {
