@@ -1,4 +1,4 @@
-use Rattle.std.proofs.Common.{◌<◌, ◌≤◌, arith, below_more, inl, inr}
+use Rattle.std.proofs.Common.{arith, below_more, inl, inr}
 use Rattle.std.proofs.lemmas.Bool.{cases_lt}
 use Rattle.order_sections.proofs.whole.is_whole.Goals as goal
 
