@@ -13,7 +13,8 @@ use std::alloc::Global;
 const MOST_SECTIONS: u32 = 64;
 
 /// The text of a document with orders. For each table, and each section that was added to it, in their order, `chains` has the trains that
-/// it keeps one behind the other, and says why; `left_out` has the trains of the orders for which there was no room, as the one that leads and the one that follows.
+/// it keeps one behind the other, and says why; `left_out` has the trains of the orders for which there was no room, as the one that leads
+/// and the one that follows.
 #[derive(Drop)]
 pub struct OrderedDoc {
     pub text: Vec<u8>,
