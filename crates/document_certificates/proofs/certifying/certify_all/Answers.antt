@@ -7,7 +7,7 @@ use Rattle.document_certificates.proofs.More.{fails_in, one_more}
 use Rattle.document_certificates.proofs.certifying.certify_all.Goals as goal
 
 pub returns-in_err-certify-clause-none : goal.returns-in_err-certify-clause-none
-returns-in_err-certify-clause-none c =
+returns-in_err-certify-clause-none g c =
     let D = c.args.doc.now in
     let n = c.loop-table.table in
     let budget = c.args.budget in
@@ -18,7 +18,7 @@ returns-in_err-certify-clause-none c =
     (subst (HasNone D budget) (sym got.2) (fails_in D budget n e lt (subst (λ (T : Table). FailsFor T budget n e) c.table_of.ensures.table c.in_err-certify.ensures.none)))
 
 pub loop-table-preserved : goal.loop-table-preserved
-loop-table-preserved c =
+loop-table-preserved g c =
     let D = c.args.doc.now in
     let n = c.loop-table.table in
     one_more D c.args.budget n c.loop-table.certs.items c.push.new.self.items c.in_ok-certify.field-0 c.loop-table.invariant c.in_ok-push.ensures.items
