@@ -21,5 +21,5 @@ pub loop-table-preserved : goal.loop-table-preserved
 loop-table-preserved g c =
     let D = c.args.doc.now in
     let n = c.loop-table.table in
-    one_more D c.args.budget n c.loop-table.certs.items c.push.new.self.items c.in_ok-cert.field-0 c.loop-table.invariant c.in_ok-push.ensures.items
-    (subst (λ (T : Table). AcceptsWithin c.args.budget T c.in_ok-cert.field-0) c.table_of.ensures.table c.in_ok-cert.ensures.accepted)
+    one_more D c.args.budget n c.loop-table.certs.items c.push.new.self.items c.in_ok-cert.cert c.loop-table.invariant c.in_ok-push.ensures.items
+    (subst (λ (T : Table). AcceptsWithin c.args.budget T c.in_ok-cert.cert) c.table_of.ensures.table c.in_ok-cert.ensures.accepted)
