@@ -56,7 +56,9 @@ impl<'a> Progress<'a> {
 impl Watcher for Progress<'_> {
     fn see(&self, nodes: usize, splits: usize) {
         if let Some(seconds) = self.due() {
-            match eprintln!(self.rt; "planner: {seconds} s: {nodes} nodes, within {splits} splits") {
+            match eprintln!(self.rt;
+                "planner: {seconds} s: {nodes} nodes, within {splits} splits"
+            ) {
                 Ok(()) | Err(_) => {}
             }
         }
