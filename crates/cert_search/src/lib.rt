@@ -15,6 +15,8 @@ mod search;
 mod spelling;
 mod stuck;
 mod votes;
+mod watcher;
 
 pub use finding::find;
 pub use found::{Effort, End, Found, Report, Searched, Way};
+pub use watcher::{Silent, Watcher};

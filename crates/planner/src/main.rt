@@ -1,6 +1,10 @@
-//! The program `planner`: its words, the standard streams and the file of `--before`, handed to the calls of `planner_run`.
+//! The program `planner`: its words, the standard streams, the file of `--before`, and progress on a terminal, handed to
+//! the calls of `planner_run`.
 #![tactic(auto)]
 
+mod progress;
+
+use crate::progress::Progress;
 use ats_io::{Reading, Writing, read_all};
 use planner_run::{MOST_BYTES, Status, Stop, code, end_unread, serve, turn_down};
 use planner_words::{Order, words};
@@ -28,7 +32,16 @@ fn answer(rt: &HostRuntime, order: &Order<'_>, former: Option<&[u8]>) -> Status 
     let mut source = Reading::new(rt.stdin());
     let mut out = Writing::new(rt.stdout());
     let mut err = Writing::new(rt.stderr());
-    serve(rt.alloc(), order, former, &mut source, &mut out, &mut err)
+    let progress = Progress::new(rt);
+    serve(
+        rt.alloc(),
+        order,
+        former,
+        &mut source,
+        &mut out,
+        &mut err,
+        &progress,
+    )
 }
 
 // Answers an order, with the file that it names.

@@ -10,6 +10,7 @@ use crate::ordering::{add_orders, order_by_run};
 use crate::planning::plan;
 use crate::protecting::protect;
 use crate::timing::{graph, timetable};
+use cert_search::Watcher;
 use planner_words::Order;
 use std::alloc::{AllocError, Global};
 
@@ -26,13 +27,15 @@ pub enum Answer {
     Wrong(String),
 }
 
-/// What an order comes to on this input. `former` is the former document, where the order names one.
+/// What an order comes to on this input. `former` is the former document, where the order names one. The watcher sees
+/// how far searches for certificates are.
 #[tactic(auto, using(crate::proofs::Suits::if_text_answers, crate::proofs::Suits::lint_answers, crate::proofs::Suits::certifying_answers, crate::proofs::Suits::ordering_answers, crate::proofs::Suits::run_ordering_answers, crate::proofs::Suits::protecting_answers))]
-pub fn answer_to(
+pub fn answer_to<W: Watcher>(
     alloc: Global,
     order: &Order<'_>,
     input: &[u8],
     former: Option<&[u8]>,
+    watcher: &W,
 ) -> Result<Answer, AllocError>
     ensures { IfOk result (IsAnswerTo order.now former.entry input.now) }
 {
@@ -41,12 +44,12 @@ pub fn answer_to(
         Order::ExplainState { table, at, run } => explain_state(alloc, input, table, at, *run),
         Order::ExplainLine { line } => explain_line(alloc, input, line),
         Order::Lint { .. } => remarks(alloc, input, former),
-        Order::Certify { budget, effort } => certify(alloc, input, *budget, *effort),
+        Order::Certify { budget, effort } => certify(alloc, input, *budget, *effort, watcher),
         Order::Protect {
             budget,
             effort,
             rounds,
-        } => protect(alloc, input, *budget, *effort, *rounds),
+        } => protect(alloc, input, *budget, *effort, *rounds, watcher),
         Order::AddOrders => add_orders(alloc, input),
         Order::OrderByRun { seed } => order_by_run(alloc, input, *seed),
         Order::Timetable { csv } => timetable(alloc, input, *csv),

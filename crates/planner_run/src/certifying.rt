@@ -8,7 +8,7 @@ ghost use Rattle.planner_run.specs.Certifying.{SaysWhy, TellsStuck, gave_up_word
 use crate::Answer;
 use crate::drawing::refusal;
 use crate::explaining::MOST_STATES;
-use cert_search::Effort as Searches;
+use cert_search::{Effort as Searches, Watcher};
 use document_certificates::{Uncertified, certified_text};
 use layout_json::{Doc, DocRefused, document};
 use planner_words::Effort;
@@ -19,16 +19,17 @@ use std::alloc::{AllocError, Global};
 
 /// The document that the input is, with certificates that are found by search, of at most `budget` nodes each.
 #[tactic(auto, using(crate::proofs::Certified::refused_answers))]
-pub(crate) fn certify(
+pub(crate) fn certify<W: Watcher>(
     alloc: Global,
     input: &[u8],
     budget: u32,
     effort: Effort,
+    watcher: &W,
 ) -> Result<Answer, AllocError>
     ensures { IfOk result (IsCertifying input.now budget) }
 {
     match document(alloc, input) {
-        Ok(doc) => certified(alloc, input, &doc, budget, effort),
+        Ok(doc) => certified(alloc, input, &doc, budget, effort, watcher),
         Err(DocRefused::Memory) => Err(AllocError),
         Err(refused) => refusal(alloc, &refused),
     }
@@ -45,17 +46,18 @@ pub(crate) fn searches_of(effort: Effort) -> Searches {
 
 // The document with its certificates.
 #[tactic(auto, using(crate::proofs::Certified::certified_answers, crate::proofs::Certified::uncertified_answers))]
-fn certified(
+fn certified<W: Watcher>(
     alloc: Global,
     input: &[u8],
     doc: &Doc,
     budget: u32,
     effort: Effort,
+    watcher: &W,
 ) -> Result<Answer, AllocError>
     requires read { doc_of input.now ≡ Ok doc.now }
     ensures { IfOk result (IsCertifying input.now budget) }
 {
-    match certified_text(alloc, doc, budget, searches_of(effort)) {
+    match certified_text(alloc, doc, budget, searches_of(effort), watcher) {
         Ok(text) => Ok(Answer::Text(text)),
         Err(Uncertified::Memory) => Err(AllocError),
         Err(why) => uncertified(alloc, doc, &why),

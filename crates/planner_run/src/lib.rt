@@ -13,4 +13,5 @@ mod timing;
 mod top;
 
 pub use answer::{Answer, answer_to};
+pub use cert_search::{Silent, Watcher};
 pub use top::{MOST_BYTES, Status, Stop, code, end_unread, serve, turn_down};

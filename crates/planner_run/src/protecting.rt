@@ -8,27 +8,33 @@ ghost use Rattle.document_protection.specs.Words.{unprotected_words};
 use crate::Answer;
 use crate::certifying::searches_of;
 use crate::drawing::refusal;
+use cert_search::Watcher;
 use document_protection::{Unprotected, lines_of, lines_of_why, protected};
 use layout_json::{Doc, DocRefused, document};
 use planner_words::Effort;
-use section_protect::Searching;
+use section_protect::{Finder, Searching};
 use std::alloc::{AllocError, Global};
 
 /// The document that the input is, with at most `rounds` guards behind the sections of each table, and with
 /// certificates that are found by search, of at most `budget` nodes each.
 #[tactic(auto, using(crate::proofs::Protected::refused_guards))]
-pub(crate) fn protect(
+pub(crate) fn protect<W: Watcher>(
     alloc: Global,
     input: &[u8],
     budget: u32,
     effort: Effort,
     rounds: u32,
+    watcher: &W,
 ) -> Result<Answer, AllocError>
     ensures { IfOk result (IsProtecting input.now) }
 {
-    let effort = searches_of(effort);
+    let searching = Searching {
+        budget,
+        effort: searches_of(effort),
+        watcher,
+    };
     match document(alloc, input) {
-        Ok(doc) => with_guards(alloc, input, &doc, Searching { budget, effort }, rounds),
+        Ok(doc) => with_guards(alloc, input, &doc, &searching, rounds),
         Err(DocRefused::Memory) => Err(AllocError),
         Err(refused) => refusal(alloc, &refused),
     }
@@ -36,17 +42,17 @@ pub(crate) fn protect(
 
 // The document with its guards, and a line for each.
 #[tactic(auto, using(crate::proofs::Protected::protected_answers, crate::proofs::Protected::unprotected_answers))]
-fn with_guards(
+fn with_guards<F: Finder>(
     alloc: Global,
     input: &[u8],
     doc: &Doc,
-    searching: Searching,
+    finder: &F,
     rounds: u32,
 ) -> Result<Answer, AllocError>
     requires read { doc_of input.now ≡ Ok doc.now }
     ensures { IfOk result (IsProtecting input.now) }
 {
-    match protected(alloc, doc, &searching, rounds) {
+    match protected(alloc, doc, finder, rounds) {
         Ok(made) => {
             let lines = lines_of(alloc, doc, &made)?;
             Ok(Answer::Noted(made.text, lines))

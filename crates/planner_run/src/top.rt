@@ -7,6 +7,7 @@ ghost use Rattle.planner_run.specs.Answered.{IsTextFor, AsksForNotes, AsksForRem
 use crate::Answer;
 use crate::answer::answer_to;
 use ats_io::{ReadAll, Sink, Source, WriteFault, read_all, write_all};
+use cert_search::Watcher;
 use planner_words::{Order, WordsAnswered};
 use std::alloc::{AllocError, Global};
 
@@ -89,14 +90,16 @@ fn print_noted<K: Sink, E: Sink>(text: &[u8], notes: &str, out: &mut K, err: &mu
 }
 
 /// Answers an order: it reads the source to its end, and writes to `out` what the order asks for, or to `err` what is wrong.
-/// `former` is the former document, where the order names one.
-pub fn serve<S: Source, K: Sink, E: Sink>(
+/// `former` is the former document, where the order names one. The watcher sees how far searches for certificates are; what
+/// it writes then, by a handle of its own, no clause says.
+pub fn serve<S: Source, K: Sink, E: Sink, W: Watcher>(
     alloc: Global,
     order: &Order<'_>,
     former: Option<&[u8]>,
     source: &mut S,
     out: &mut K,
     err: &mut E,
+    watcher: &W,
 ) -> Status
     // What is written is what the order comes to on all that the source had left.
     ensures done { result ≡ Status.Done → IfSome (S.left source.old) (λ all.
@@ -110,7 +113,7 @@ pub fn serve<S: Source, K: Sink, E: Sink>(
         AsksForRemarks order.now ⊎ Tells order.now all (E.taken err.old) (E.taken err.new)) }
 {
     match read_all(alloc, source, MOST_BYTES) {
-        Ok(input) => respond(alloc, order, &input, former, out, err),
+        Ok(input) => respond(alloc, order, &input, former, out, err, watcher),
         Err(ReadAll::Memory) => failed(err, NO_MEMORY),
         Err(ReadAll::ReadFault) => failed(err, "planner: standard input can't be read\n"),
         Err(ReadAll::TooLong { .. }) => failed(
@@ -121,20 +124,21 @@ pub fn serve<S: Source, K: Sink, E: Sink>(
 }
 
 // Answers an order on its input.
-fn respond<K: Sink, E: Sink>(
+fn respond<K: Sink, E: Sink, W: Watcher>(
     alloc: Global,
     order: &Order<'_>,
     input: &[u8],
     former: Option<&[u8]>,
     out: &mut K,
     err: &mut E,
+    watcher: &W,
 ) -> Status
     ensures done { result ≡ Status.Done → (text : List ℕ) × IsTextFor order.now former.entry input.now text × Adds (K.taken out.old) (K.taken out.new) text }
     ensures quiet { result ≡ Status.Done → AsksForNotes order.now ⊎ (E.taken err.new ≡ E.taken err.old) }
     ensures faulty { result ≡ Status.Faulty → AsksForRemarks order.now ⊎ (K.taken out.new ≡ K.taken out.old) }
     ensures told { result ≡ Status.Faulty → AsksForRemarks order.now ⊎ Tells order.now input.now (E.taken err.old) (E.taken err.new) }
 {
-    match answer_to(alloc, order, input, former) {
+    match answer_to(alloc, order, input, former, watcher) {
         Ok(Answer::Text(text)) => print(&text, Status::Done, out, err),
         Ok(Answer::Remarks(text)) => print(text.as_bytes(), Status::Faulty, out, err),
         Ok(Answer::Noted(text, lines)) => print_noted(&text, lines.as_str(), out, err),

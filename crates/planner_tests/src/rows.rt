@@ -5,7 +5,7 @@ use crate::documents::DOCUMENTS;
 use crate::orders::ORDERED;
 use crate::plans::PLANS;
 use crate::runs::RUNS;
-use planner_run::{Answer, answer_to};
+use planner_run::{Answer, Silent, answer_to};
 use planner_words::words;
 use std::alloc::{AllocError, Global};
 use std::str::from_utf8;
@@ -24,7 +24,7 @@ fn answer_of(alloc: Global, line: &[String], input: &str) -> Option<Answer> {
     let Ok(order) = words(alloc, line) else {
         return None;
     };
-    match answer_to(alloc, &order, input.as_bytes(), None) {
+    match answer_to(alloc, &order, input.as_bytes(), None, &Silent) {
         Ok(answer) => Some(answer),
         Err(_) => None,
     }
