@@ -41,7 +41,7 @@ explain|--at|2,2|--run
 T0 is at E, place 2 of 2, and has arrived
 T1 is at W, place 2 of 2, and has arrived
 All trains have arrived.
-No run from the start leads there.
+No run from the start leads there, since T0 and T1 are never both at these places.
 ====
 explain|--at|3,2|--table|1|--run
 {"version":1,"points":[["W",0],["L1",0],["L2",0],["E",0],["S",0]],"links":[["W","L1"],["W","L2"],["L1","E"],["L2","E"],["E","S"]],"zones":1,"trains":["T0","T1"],"start":[0,0],"tables":[{"missions":[["W","L1","E"],["E","L2","W"]],"sections":[],"certificate":[]},{"after":1,"missions":[["W","L1","E","S"],["E","L2","W"]],"sections":[],"certificate":[]}]}

@@ -1,2 +1,4 @@
+pub mod NeverBoth
 pub mod Offers
+pub mod Rows
 pub mod RunLines

@@ -32,7 +32,7 @@ put_on N lines out before some is =
     ap (λ b. b ++ lines_text N 1 lines) is ∙ append_assoc out (codes "A run from the start leads there:\n") (lines_text N 1 lines)
     ∙ ap (λ t. out ++ t) (sym (told_by_lines N lines some))
 
-enough : (D : Doc) → IsDoc D → AreEnough (names_of D) (offers_of D)
+pub enough : (D : Doc) → IsDoc D → AreEnough (names_of D) (offers_of D)
 enough D doc = record {
   each_train = λ t lt.
       let within = subst (λ n. t < n) (offer_count D) lt in

@@ -2,13 +2,14 @@
 ghost use Rattle.std.specs.Prelude.{◌≡◌, ◌++◌, All, OnOk, IfOk, string_bytes};
 ghost use Rattle.rail_model.specs.Journal.{lines_text};
 ghost use Rattle.move_journal.specs.Printable.{IsNamed};
-ghost use Rattle.run_sentences.specs.Told.{HasNamedLines, TellsRun, lines_words, run_words};
+ghost use Rattle.run_sentences.specs.Told.{AreNamed, HasNamedLines, HasNames, TellsRun, apart_words, known_words, lines_words, run_words};
 
-use crate::tables_offered;
-use layout_json::{Doc, names_of, start_of};
+use crate::known::{Known, known_of};
+use layout_json::{Doc, names_of};
 use move_journal::push_line;
+use order_sections::Two;
 use rail_model::{Line, Names, State};
-use run_search::{RunTo, run_to};
+use run_search::RunTo;
 use std::alloc::{AllocError, Global};
 
 // Adds the lines of a run, each with its number.
@@ -49,8 +50,32 @@ fn push_told(out: &mut String, names: &Names, told: &RunTo) -> Result<(), AllocE
     }
 }
 
-/// What is known of runs from the start of a document to these places under one of its tables: the lines of one, as in a journal, or a line
-/// that says that there is none, or that neither was found. More than `limit` states aren't searched.
+// Adds that two trains keep all runs from the places.
+fn push_apart(out: &mut String, names: &Names, two: Two) -> Result<(), AllocError>
+    requires { AreNamed names.now two }
+    ensures { OnOk result (string_bytes out.new ≡ string_bytes out.old ++ apart_words names.now two) }
+{
+    let (first, second) = (names.train(two.first), names.train(two.second));
+    write!(
+        out,
+        "No run from the start leads there, since {first} and {second} are never both at these places.\n"
+    )
+}
+
+// Adds what is known.
+fn push_known(out: &mut String, names: &Names, known: &Known) -> Result<(), AllocError>
+    requires { HasNames names.now known.now }
+    ensures { OnOk result (string_bytes out.new ≡ string_bytes out.old ++ known_words names.now known.now) }
+{
+    match known {
+        Known::Searched(told) => push_told(out, names, told),
+        Known::Apart(two) => push_apart(out, names, *two),
+    }
+}
+
+/// What is known of runs from the start of a document to these places under one of its tables: the lines of one, as in a
+/// journal, or a line that says that there is none, also since two trains are never both there, or that neither was found.
+/// More than `limit` states aren't searched.
 pub fn runs_told(
     alloc: Global,
     doc: &Doc,
@@ -60,9 +85,8 @@ pub fn runs_told(
 ) -> Result<String, AllocError>
     ensures { IfOk result (λ text. TellsRun doc.now table at.now (string_bytes text)) }
 {
-    let tables = tables_offered(alloc, doc)?;
-    let told = run_to(alloc, &tables, start_of(doc), at, table, limit)?;
+    let known = known_of(alloc, doc, table, at, limit)?;
     let mut text = String::new(alloc);
-    push_told(&mut text, names_of(doc), &told)?;
+    push_known(&mut text, names_of(doc), &known)?;
     Ok(text)
 }
