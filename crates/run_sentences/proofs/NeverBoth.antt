@@ -1,8 +1,7 @@
 -- Two trains that are never both at places, since a section that keeps an order has no room for them there.
-use Rattle.std.proofs.Common.{◌≡◌, ◌≢◌, ℕ, ◌+◌, ◌<◌, pos, ◌+ℤ◌, ◌<ℤ◌, ◌≤ℤ◌, List, [], ◌∷◌, ◌++◌, length, map, take, get_or, sym, ◌∙◌, ap, subst, arith}
+use Rattle.std.proofs.Common.{◌≡◌, ℕ, ◌+◌, ◌<◌, pos, ◌+ℤ◌, ◌<ℤ◌, ◌≤ℤ◌, List, [], ◌∷◌, ◌++◌, length, map, take, get_or, sym, ◌∙◌, ap, subst, arith}
 use Rattle.std.proofs.lemmas.Int.{ints}
 use Rattle.std.proofs.lemmas.List.{get_or-map, length-map, take_more}
-use Rattle.rail_model.specs.Names.{Names}
 use Rattle.rail_model.specs.State.{Legal}
 use Rattle.rail_model.specs.Table.{Table, IsTable, count, limit, place, share, trains}
 use Rattle.rail_model.specs.Yard.{Offer, Yard}

@@ -1,11 +1,10 @@
 -- Worked rows: on a line of three points two trains are never both at places of one point, nor at places where a section is full.
-use Rattle.std.proofs.Common.{◌≡◌, ℕ, Some, true, false, pos, negsuc, [], ◌∷◌, refl, ap, subst, arith, lit<}
+use Rattle.std.proofs.Common.{◌≡◌, ℕ, true, false, pos, negsuc, [], ◌∷◌, refl, ap, subst, arith, lit<}
 use Rattle.std.specs.Prelude.{codes}
 use Rattle.std.proofs.lemmas.Int.{ints}
-use Rattle.rail_model.specs.Names.{Names}
 use Rattle.rail_model.specs.State.{Legal}
 use Rattle.rail_model.specs.Table.{Table, place, point}
-use Rattle.rail_model.specs.Yard.{Offer, Yard}
+use Rattle.rail_model.specs.Yard.{Yard}
 use Rattle.order_sections.proofs.Reaching.{kept_reached}
 use Rattle.order_sections.specs.Orders.{with_more}
 use Rattle.reached_states.specs.Reached.{AreOffered, IsReached, offered}

@@ -1,4 +1,4 @@
-use Rattle.std.proofs.Common.{◌≡◌, ◌∙◌, ◌<◌, length, List, ap, subst, sym}
+use Rattle.std.proofs.Common.{◌≡◌, ◌∙◌, ◌<◌, length, ap, subst, sym}
 use Rattle.std.proofs.lemmas.Option.{IfSome_then}
 use Rattle.document_orders.proofs.Adding.{same_trains}
 use Rattle.rail_model.specs.Table.{IsTable}
@@ -28,7 +28,7 @@ returns-in-Ok c =
     let count : length made ≡ length tables = ap length c.deref-in-Ok.ensures.value ∙ c.in-Ok.ensures.count in
     IfSome_then c.two_in.result c.two_in.ensures
     (λ two both.
-        let lt : c.args.table < length tables = subst (λ n. c.args.table < n) count both.0 in
-        let formed : IsTable (table_at made c.args.table) =
-        subst (λ ts. IsTable (table_at ts c.args.table)) back (c.in-Ok.ensures.formed c.args.table lt) in
-        apart_in D start tables made c.args.at.now c.args.table two c.start_of.ensures.formed same c.start_of.ensures.start adds lt formed both.1)
+    let lt : c.args.table < length tables = subst (λ n. c.args.table < n) count both.0 in
+    let formed : IsTable (table_at made c.args.table) =
+    subst (λ ts. IsTable (table_at ts c.args.table)) back (c.in-Ok.ensures.formed c.args.table lt) in
+    apart_in D start tables made c.args.at.now c.args.table two c.start_of.ensures.formed same c.start_of.ensures.start adds lt formed both.1)

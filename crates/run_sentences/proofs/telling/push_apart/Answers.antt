@@ -11,5 +11,5 @@ returns c =
     append_assoc (first ++ codes " and ") second later ∙ append_assoc first (codes " and ") (second ++ later) in
     rw (sym c.train-first.ensures, sym c.train-second.ensures)
     (on_ok_weaker c.write.result
-    (λ bytes. bytes ∙ ap (λ ws. string_bytes c.args.out.now ++ (codes "No run from the start leads there, since " ++ ws)) words)
+    (λ bytes. bytes ∙ ap (λ ws. string_bytes c.args.out.now ++ (codes "No run from the start leads there, since " ++ ws)) (sym words))
     c.write.ensures.bytes)
