@@ -509,14 +509,20 @@ def answers_told(out):
     return sorted(AGAIN.sub(lambda found: found[1] if found[1] else b"granted ", line) for line in lines)
 
 
+# Several standing wants that are granted after one request, with the line that granted the request itself, if one did.
+GRANTS = re.compile(rb"(?m)(?:^\d+ .*\n(?:#\S+ )?granted .*\n)?(?:^\d+ .*\n(?:#\S+ )?! granted .*\n){2,}")
+
+
 def cut_of(draw, out):
-    """Where a program dies: before or after the line of the journal that grants a want, after another one, or anywhere. Most sessions in which
-    no want is granted later are passed over."""
+    """Where a program dies: before or after the line of the journal that grants a want, after another one, or anywhere. It doesn't die among
+    several grants of standing wants: a new program begins with the first want again, and may grant them in another order. Most sessions in
+    which no want is granted later are left out."""
     wants = [place for found in re.finditer(rb"(?m)^\d+ .*\n(?=(#\S+ )?! granted)", out) for place in found.span()]
     if not wants and draw.random() < 0.8:
         return None
     lines = [found.end() for found in re.finditer(rb"(?m)^\d+ .*\n", out)]
-    return draw.choice(draw.choice([wants, wants, lines, []]) or range(len(out)))
+    place = draw.choice(draw.choice([wants, wants, lines, []]) or range(len(out)))
+    return None if any(found.start() < place < found.end() for found in GRANTS.finditer(out)) else place
 
 
 def cuts():
