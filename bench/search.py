@@ -35,6 +35,7 @@ from states import States, count
 
 MOST_STATES, BUDGET = 2000, 100_000
 LEADS, LEADS_NOT = "A run from the start leads there:\n", "No run from the start leads there."
+APART = re.compile(r"No run from the start leads there, since (\S+) and (\S+) are never both at these places\.")
 STARTS = "The trains are there at the start: no move is needed."
 COMMANDS = ["certify", "explain", "order", "of-run", "protect"]
 
@@ -217,6 +218,11 @@ class Case:
         elif LEADS_NOT in told:
             self.counts[f"{command}: no run"] += 1
             self.expect(not is_reached, f"{about} says that there is no run, and there is one")
+        elif found := APART.search(told):
+            self.counts[f"{command}: two apart"] += 1
+            first, second = (self.document["trains"].index(name) for name in found.groups())
+            both = [state for table, state in self.states.reached() if table == number and state[first] == at[first] and state[second] == at[second]]
+            self.expect(not both, f"{about} says that two trains are never both there, and a run has them there")
         else:
             self.counts[f"{command}: not known"] += 1
             self.expect("were searched, and neither" in told, f"{about} says nothing of a run")
