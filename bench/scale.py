@@ -7,7 +7,7 @@
     bench/scale.py --kept rows.json --picture nodes.svg      rows that this file has aren't measured again; and a picture of all
 
 The documents (families.py) are the same in every run. For each: `ats make`; `planner certify`; `planner order`, and `certify` of what it
-writes; the same with `order --of-run 1`. Nodes are counted in the document that was written, and `ats check` has to accept it.
+writes; the same with `order --of-run 0`. Nodes are counted in the document that was written, and `ats check` has to accept it.
 `--other-order COMMAND` takes the words of `planner order`; what it writes is given to `--other`. SPIN counts the states that are reached,
 with at most 1 GiB. A SAT solver, cadical or minisat, says whether a table allows a stuck state: it gives no certificate. Each tool that is
 missing is left out, with a line that says so. The programs are those of `./build`, or else trial builds. It ends with 1 if an answer is
@@ -153,7 +153,7 @@ class Measuring:
         if "order" in columns:
             ordered = self.order(row, "order", [*self.planner, "order"], [*self.planner, "certify"], document)
         if "of-run" in columns:
-            self.order(row, "of-run", [*self.planner, "order", "--of-run", "1"], [*self.planner, "certify"], document)
+            self.order(row, "of-run", [*self.planner, "order", "--of-run", "0"], [*self.planner, "certify"], document)
         if "other" in columns:
             row["other"] = self.certified(row["name"], self.other, document)
         if "other-order" in columns:

@@ -8,7 +8,7 @@ INNER = (WIDTH - LEFT - 14, HEIGHT - TOP - 30)
 LEAST, MOST, TRAINS = 10, 1_000_000, 32
 WAYS = [
     ("make", "ats make", "circle"), ("certify", "certify", "square"), ("order", "order, certify", "triangle"),
-    ("of-run", "order --of-run 1, certify", "diamond"),
+    ("of-run", "order --of-run 0, certify", "diamond"),
 ]
 STYLE = """
 svg{--paper:#fff;--ink:#222;--faint:#ddd;--make:#a03d00;--certify:#0b57c0;--order:#067a46;--of-run:#8a2da5}

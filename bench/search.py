@@ -288,7 +288,7 @@ class Case:
         given = lines if is_whole and self.draw.random() < 0.6 else lines[: self.draw.choice([0, 0, len(lines) // 2])]
         is_given = is_whole and len(given) == len(lines)
         journal = "".join(line + "\n" for line in given) + (end if is_given else "")
-        words = ["order", "--of-run", str(self.draw.randrange(2**32))]
+        words = ["order", "--of-run", str(self.draw.choice([0, self.draw.randrange(2**32)]))]
         code, written, said = self.run("planner", words, self.text + "journal\n" * bool(journal) + journal)
         self.counts[f"of-run {code}, {'given' if is_given else 'begun' if journal else 'drawn'}"] += 1
         if code != 0:

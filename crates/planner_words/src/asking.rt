@@ -101,7 +101,7 @@ const EFFORT: Choice = Choice::Value {
 const OF_RUN: Choice = Choice::Value {
     name: "of-run",
     value: "SEED",
-    help: "The orders of one run: that of a journal behind the document, or one drawn from this number",
+    help: "The orders of one run: that of a journal behind the document, or one drawn from this number; with 0, trains near their ends go first",
 };
 
 const CSV: Choice = Choice::Flag {
@@ -193,7 +193,7 @@ fn start<'a>(alloc: Global) -> Command<'a>
     ensures { IsBuiltAs spec.start result }
 {
     Command::new(alloc, "planner")
-        .version("1.6.0")
+        .version("1.7.0")
         .about(ABOUT)
         .no_binary_name(true)
         .subcommand_required(true)
