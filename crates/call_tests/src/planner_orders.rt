@@ -11,6 +11,12 @@ order
 ----
 {"links":[],"points":[["A",0]],"start":[],"tables":[{"after":0,"certificate":[[3]],"exits":[],"missions":[],"sections":[],"times":[]}],"trains":[],"version":2,"zones":1}
 ====
+order|--of-run|0
+{"version":2,"points":[["A",0],["B",0],["C",0],["D",0],["M",0],["X",0]],"links":[["A","X"],["X","M"],["M","B"],["C","M"],["M","D"]],"zones":1,"trains":["T0","T1"],"start":[0,0],"tables":[{"missions":[["A","X","M","B"],["C","M","D"]],"exits":[false,false],"sections":[],"certificate":[]}]}
+----
+{"links":[["A","X"],["X","M"],["M","B"],["C","M"],["M","D"]],"points":[["A",0],["B",0],["C",0],["D",0],["M",0],["X",0]],"start":[0,0],"tables":[{"after":0,"certificate":[[3]],"exits":[false,false],"missions":[["A","X","M","B"],["C","M","D"]],"sections":[{"changes":[[0,0,1,0],[4,0,-1]],"limit":4}],"times":[[1,1,1],[1,1]]}],"trains":["T0","T1"],"version":2,"zones":1}
+tables[0].sections[0]: T0 goes behind T1, in this run: to M (place 2) after D (place 2)
+====
 order|--of-run|1
 {"version":2,"points":[["A",0],["B",0],["C",0],["D",0],["M",0]],"links":[["A","M"],["M","B"],["C","M"],["M","D"]],"zones":1,"trains":["T0","T1"],"start":[0,0],"tables":[{"missions":[["A","M","B"],["C","M","D"]],"exits":[false,false],"sections":[],"certificate":[]}]}
 journal

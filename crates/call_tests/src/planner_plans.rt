@@ -1,5 +1,5 @@
 // Plans, and the documents or the faults that they are answered with.
-use crate::rows::is_answered;
+use crate::planner_rows::is_answered;
 use std::alloc::{AllocError, Global};
 
 // Words, a plan and an answer each: a document, or a line for each mistake.

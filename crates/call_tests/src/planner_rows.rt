@@ -1,10 +1,10 @@
 // Rows of text played: words, with `|` between them; an input; after a line `----` the answer, or how many nodes
 // its certificate has at most. Rows are parted by a line `====`.
-use crate::certificates::CERTIFIED;
-use crate::documents::DOCUMENTS;
-use crate::orders::ORDERED;
-use crate::plans::PLANS;
-use crate::runs::RUNS;
+use crate::planner_certificates::CERTIFIED;
+use crate::planner_documents::DOCUMENTS;
+use crate::planner_orders::ORDERED;
+use crate::planner_plans::PLANS;
+use crate::planner_runs::RUNS;
 use planner_run::{Answer, Silent, answer_to};
 use planner_words::words;
 use std::alloc::{AllocError, Global};
