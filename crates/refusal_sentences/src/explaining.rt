@@ -3,10 +3,9 @@ ghost use Rattle.std.specs.Prelude.{IfOk};
 ghost use Rattle.refusal_sentences.specs.ExplainedLines.{ExplainsLine};
 ghost use Rattle.refusal_sentences.specs.StateLines.{IsLineOf};
 
-use crate::meanings::write_meaning;
 use crate::state_lines::state_of;
-use crate::text::Text;
 use crate::{Explained, explain_state};
+use refusal_meanings::meaning_of;
 use std::alloc::{AllocError, Global};
 
 // The words of a line, without the name of the program.
@@ -19,28 +18,28 @@ fn words_of(line: &str) -> &str
     }
 }
 
-// Adds what a line that names no state means; says whether it is a line of `ats`.
-fn write_words(out: &mut Text, bytes: &[u8], words: &str, line: &str) -> bool {
-    let is_known = write_meaning(out, bytes, words);
-    if !is_known {
-        out.say("This is no line of ats: ");
-        out.quote(line);
-        out.say(". A line of ats is like 206 Stuck table=0 at=1,1.\n");
-    }
-    is_known
+// That a line is none of `ats`.
+fn no_line_text(alloc: Global, line: &str) -> Result<String, AllocError> {
+    let mut text = String::new(alloc);
+    write!(
+        text,
+        "This is no line of ats: {line:?}. A line of ats is like 206 Stuck table=0 at=1,1.\n"
+    )?;
+    Ok(text)
 }
 
 // What a line that names no state is explained with.
-fn meaning_of(alloc: Global, bytes: &[u8], words: &str, line: &str) -> Result<Explained, AllocError>
+fn explain_words(
+    alloc: Global,
+    bytes: &[u8],
+    words: &str,
+    line: &str,
+) -> Result<Explained, AllocError>
     ensures { IfOk result (ExplainsLine bytes.now line.now) }
 {
-    let mut text = Text::new(alloc);
-    let is_known = write_words(&mut text, bytes, words, line);
-    let text = text.into_result()?;
-    if is_known {
-        Ok(Explained::Refusal(text))
-    } else {
-        Ok(Explained::NoLine(text))
+    match meaning_of(alloc, bytes, words)? {
+        Some(text) => Ok(Explained::Refusal(text)),
+        None => Ok(Explained::NoLine(no_line_text(alloc, line)?)),
     }
 }
 
@@ -52,6 +51,6 @@ pub fn explain_line(alloc: Global, bytes: &[u8], line: &str) -> Result<Explained
     let words = words_of(line);
     match state_of(alloc, words)? {
         Some(at) => explain_state(alloc, bytes, at.table, at.state.as_slice()),
-        None => meaning_of(alloc, bytes, words, line),
+        None => explain_words(alloc, bytes, words, line),
     }
 }

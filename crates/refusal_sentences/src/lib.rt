@@ -1,20 +1,11 @@
-//! Explains by names what `ats` answers: what holds each train in a state, and what each refusal means and what to do about it.
+//! Explains by names what `ats` answers: what holds each train in a state, and what a line of it means for a document.
 #![tactic(auto)]
 
 mod explained;
 mod explaining;
-mod faults;
-mod fields;
-mod lines;
-mod meanings;
-mod names;
 mod places;
-mod refusals;
-mod section_points;
-mod shapes;
 mod state_lines;
 mod states;
-mod text;
 
 pub use explained::Explained;
 pub use explaining::explain_line;

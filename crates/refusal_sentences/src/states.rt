@@ -8,10 +8,10 @@ ghost use Rattle.state_sentences.specs.Tells.{Tells};
 ghost use Rattle.refusal_sentences.specs.Explains.{ExplainsState, ExplainsIn};
 
 use crate::Explained;
-use crate::faults::{no_document_text, no_table_text, not_legal_text};
 use layout_json::{Doc, DocRefused, document, names_of, table_of, tables_of};
 use legal_state::judge;
 use rail_model::State;
+use refusal_meanings::{no_document_text, no_table_text, not_legal_text};
 use state_sentences::{Scene, text_of};
 use std::alloc::{AllocError, Global};
 

@@ -5,6 +5,23 @@ use crate::lines::words_of;
 use crate::names::{members_of, names_of};
 use crate::refusals::{Refusal, refusal_of};
 use crate::text::Text;
+use std::alloc::{AllocError, Global};
+
+/// What a line of `ats` means for a document, in two or three lines; `None` if it isn't one of its lines.
+///
+/// # Errors
+///
+/// Out of memory.
+pub fn meaning_of(
+    alloc: Global,
+    document: &[u8],
+    line: &str,
+) -> Result<Option<String>, AllocError> {
+    let mut text = Text::new(alloc);
+    let is_known = write_meaning(&mut text, document, line);
+    let text = text.into_result()?;
+    Ok(if is_known { Some(text) } else { None })
+}
 
 /// Adds what a line means for a document, in two or three lines; says whether it is a line of `ats`.
 pub(crate) fn write_meaning(out: &mut Text, document: &[u8], line: &str) -> bool {

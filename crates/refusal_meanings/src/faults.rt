@@ -1,4 +1,4 @@
-// Why there is no such state.
+// Why a document has no such state.
 
 use crate::fields::{write_train, write_trains};
 use crate::meanings::write_meaning;
@@ -11,7 +11,11 @@ use refusal_lines::push_document;
 use std::alloc::{AllocError, Global};
 
 /// Why `ats` refuses a document: its line, and what that means.
-pub(crate) fn no_document_text(
+///
+/// # Errors
+///
+/// Out of memory.
+pub fn no_document_text(
     alloc: Global,
     document: &[u8],
     refused: &DocRefused,
@@ -32,7 +36,11 @@ fn refused_text(alloc: Global, document: &[u8], words: &str) -> Result<String, A
 }
 
 /// That the document has only this many tables.
-pub(crate) fn no_table_text(alloc: Global, table: u32, tables: u32) -> Result<String, AllocError> {
+///
+/// # Errors
+///
+/// Out of memory.
+pub fn no_table_text(alloc: Global, table: u32, tables: u32) -> Result<String, AllocError> {
     let mut text = Text::new(alloc);
     text.say("There is no table ");
     text.say_number(u64::from(table));
@@ -47,7 +55,11 @@ pub(crate) fn no_table_text(alloc: Global, table: u32, tables: u32) -> Result<St
 }
 
 /// Why places are no legal state of a table of a document.
-pub(crate) fn not_legal_text(
+///
+/// # Errors
+///
+/// Out of memory.
+pub fn not_legal_text(
     alloc: Global,
     document: &[u8],
     table: u32,

@@ -1,0 +1,15 @@
+//! What each refusal of `ats` means for a document, where it is, and what to do about it: sentences with the document's names.
+#![tactic(auto)]
+
+mod faults;
+mod fields;
+mod lines;
+mod meanings;
+mod names;
+mod refusals;
+mod section_points;
+mod shapes;
+mod text;
+
+pub use faults::{no_document_text, no_table_text, not_legal_text};
+pub use meanings::meaning_of;
