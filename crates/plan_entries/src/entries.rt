@@ -56,7 +56,7 @@ impl Kind {
 }
 
 /// The first value that isn't a text.
-pub(crate) fn first_other(values: &[Value]) -> Option<&Value>
+pub fn first_other(values: &[Value]) -> Option<&Value>
     ensures { is_none result ≡ spec.are_names (items_view values.now) }
 {
     for value in values {

@@ -5,7 +5,8 @@ ghost use Rattle.plan_reading.specs.Said.{IsPlanRead, IsReading};
 
 use crate::agreement::agrees;
 use plan_document::Plan;
-use plan_entries::{Entry, Fault, Faults, Kind, check_types};
+use plan_entries::{Entry, Fault, Faults, Kind};
+use plan_keys::check_types;
 use plan_making::plan_of;
 use std::alloc::{AllocError, Global};
 use toml::Table;

@@ -1,6 +1,5 @@
 // All that is wrong with the shapes of entries: keys that are unknown or missing, and values of wrong types.
-use crate::entries::first_other;
-use crate::{Entry, Faults, Kind, Part};
+use plan_entries::{Entry, Faults, Kind, Part, first_other};
 use toml::{Table, Value};
 
 // What the value of a key is.
