@@ -4,8 +4,8 @@ ghost use Rattle.rail_model.specs.Table.{trains, last, limit, share};
 ghost use Rattle.order_sections.specs.Grids.{HasTrains, has_pair};
 ghost use Rattle.order_sections.specs.Orders.{FitTwo, OthersHaveNone, member};
 
-use crate::Grid;
 use crate::pairs::has_room;
+use order_search::Grid;
 use rail_model::{Table, last_of, share_at, trains_of};
 
 // Whether a train has no share of a section.

@@ -5,62 +5,11 @@ ghost use Rattle.order_sections.specs.Grids.{table_at};
 ghost use Rattle.order_sections.specs.Orders.{with_more};
 
 use crate::OrderRefused;
-use crate::chains::{Chain, LIMIT};
 use crate::pairs::table_in;
-use crate::search::last_in;
-use rail_model::{Changes, Section, Table, TryCopy, copy_all, copy_missions, trains_of};
+use order_search::{Chain, sections_of_chains};
+use rail_model::{Section, Table, TryCopy, copy_all, copy_missions};
 use section_marks::{Marks, connections, sections};
 use std::alloc::{AllocError, Global};
-
-// By how much a train's share changes at each place.
-fn changes_of(alloc: Global, shares: &[u32]) -> Result<Changes, AllocError> {
-    let mut changes = Vec::new(alloc);
-    let mut before: i32 = 0;
-    for share in shares {
-        let share = i32::try_from(*share).unwrap_or(0);
-        changes.push(share.saturating_sub(before))?;
-        before = share;
-    }
-    Ok(Changes::from(changes))
-}
-
-// A train's share of a section at each place.
-fn shares_in(
-    alloc: Global,
-    table: &Table,
-    chain: &Chain,
-    train: u32,
-) -> Result<Vec<u32>, AllocError> {
-    let own = chain.shares_of(train);
-    let mut shares = Vec::new(alloc);
-    for place in 0..=last_in(table, train) {
-        shares.push(own.get(place as usize).copied().unwrap_or(0))?;
-    }
-    Ok(shares)
-}
-
-// The section of a chain.
-fn section_of(alloc: Global, table: &Table, chain: &Chain) -> Result<Section, AllocError> {
-    let mut all = Vec::new(alloc);
-    for train in 0..trains_of(table) {
-        let shares = shares_in(alloc, table, chain, train)?;
-        all.push(changes_of(alloc, &shares)?)?;
-    }
-    Ok(Section::new(LIMIT, all))
-}
-
-// The sections of chains.
-fn sections_of_all(
-    alloc: Global,
-    table: &Table,
-    chains: &[Chain],
-) -> Result<Vec<Section>, AllocError> {
-    let mut sections = Vec::new(alloc);
-    for chain in chains {
-        sections.push(section_of(alloc, table, chain)?)?;
-    }
-    Ok(sections)
-}
 
 // Two lists of sections, one behind the other.
 fn joined(alloc: Global, own: &[Section], more: &[Section]) -> Result<Vec<Section>, AllocError>
@@ -98,7 +47,7 @@ fn add_extended(
     ensures { IfOk result (λ _. (x : TableValue) × (more : List SectionValue) × (made.new.items ≡ made.old.items ++ x ∷ [])
         × IsTable x × (x ≡ with_more table.now more)) }
 {
-    let sections = sections_of_all(alloc, table, chains)?;
+    let sections = sections_of_chains(alloc, table, chains)?;
     made.push(extended(alloc, table, &sections)?)?;
     Ok(())
 }

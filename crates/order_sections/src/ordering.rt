@@ -6,14 +6,11 @@ ghost use Rattle.order_sections.specs.Grids.{table_at};
 ghost use Rattle.order_sections.specs.Orders.{AddsOrders, with_more};
 ghost use Rattle.order_sections.specs.Whole.{AreWhole, has_order, without_order};
 
-use crate::chains::Chain;
-use crate::choosing::{Choice, Chosen, choose_orders};
+use crate::OrderRefused;
 use crate::making::all_extended;
 use crate::orders::{all_keep, are_orders};
-use crate::search::Two;
-use crate::visits::Visits;
 use crate::whole::all_are_whole;
-use crate::{Order, OrderRefused};
+use order_search::{Chain, Chosen, Order, Two, choose_orders};
 use rail_model::{Line, State, Table};
 use std::alloc::{AllocError, Global};
 
@@ -109,12 +106,12 @@ pub fn order(alloc: Global, tables: &[Table], start: &State) -> Result<Ordered, 
     ensures whole { IfOk result (λ made. AreWhole (length tables.now) made.tables.items made.orders.items) }
     ensures left_out { IfOk result (λ made. made.left_out.items ≡ without_order made.orders.items made.needed.items) }
 {
-    let Chosen { needed, choice } = choose_orders(alloc, tables, start, None)?;
-    let Choice {
+    let Chosen {
+        needed,
         orders,
         beside,
         chains,
-    } = choice;
+    } = choose_orders(alloc, tables, start, None)?;
     let left_out = left_of(alloc, &needed, &orders)?;
     let tables = tested(alloc, tables, start, &orders, &beside, &chains)?;
     Ok(Ordered {
@@ -147,13 +144,12 @@ pub fn order_by_run(
     ensures whole { IfOk result (λ made. AreWhole (length tables.now) made.tables.items made.orders.items) }
     ensures left_out { IfOk result (λ made. made.left_out.items ≡ without_order made.orders.items made.needed.items) }
 {
-    let visits = Visits::new(alloc, start, run)?;
-    let Chosen { needed, choice } = choose_orders(alloc, tables, start, Some(&visits))?;
-    let Choice {
+    let Chosen {
+        needed,
         orders,
         beside,
         chains,
-    } = choice;
+    } = choose_orders(alloc, tables, start, Some(run))?;
     let left_out = left_of(alloc, &needed, &orders)?;
     let tables = made_of(alloc, tables, &orders, &beside, &chains)?;
     Ok(Ordered {

@@ -5,10 +5,9 @@ ghost use Rattle.order_sections.specs.Found.{order_at};
 ghost use Rattle.order_sections.specs.Grids.{HasTrains, has_pair, pairs_of};
 ghost use Rattle.order_sections.specs.Whole.{AreWhole, KeepsWhole, NeverComes, Overfills};
 
-use crate::chains::Chain;
 use crate::making::chains_in;
 use crate::pairs::{has_room, table_in};
-use crate::{Grid, Order};
+use order_search::{Chain, Grid, Order};
 use rail_model::{Table, last_of, sections_of, trains_of};
 
 // Whether a pair of the set has the first train at a place, and the second at one from `from` to `last`.

@@ -12,7 +12,7 @@ use Rattle.order_sections.proofs.Reaching.{IsWithin, kept_reached, legal_with}
 use Rattle.order_sections.proofs.Sums.{two_le}
 use Rattle.order_sections.specs.Grids.{table_at}
 use Rattle.order_sections.specs.Orders.{AddsOrders}
-use Rattle.order_sections.specs.declared.search.Two.{Two}
+use Rattle.order_search.specs.declared.search.Two.{Two}
 use Rattle.reached_states.specs.Reached.{AreOffered, IsReached, offered}
 use Rattle.run_search.specs.Answered.{IsNotReached}
 use Rattle.run_sentences.specs.declared.known.Known.{Known}
