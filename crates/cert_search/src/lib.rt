@@ -2,21 +2,10 @@
 //! with a report of what was tried.
 #![tactic(auto)]
 
-mod board;
-mod choice;
-mod facts;
 mod finding;
 mod found;
-mod growth;
-mod numbers;
-mod peel;
-mod region;
-mod search;
-mod spelling;
 mod stuck;
-mod votes;
-mod watcher;
 
+pub use box_search::{Silent, Watcher};
 pub use finding::find;
 pub use found::{Effort, End, Found, Report, Searched, Way};
-pub use watcher::{Silent, Watcher};

@@ -14,24 +14,14 @@ pub(crate) fn put(numbers: &mut [u32], index: usize, number: u32) {
 
 /// Adds to the number at an index.
 pub(crate) fn add(numbers: &mut [u32], index: usize, more: u32) {
-    if let Some(slot) = numbers.get_mut(index) {
-        *slot = slot.saturating_add(more);
-    }
+    let sum = at(numbers, index).saturating_add(more);
+    put(numbers, index, sum);
 }
 
 /// Takes from the number at an index.
 pub(crate) fn take(numbers: &mut [u32], index: usize, less: u32) {
-    if let Some(slot) = numbers.get_mut(index) {
-        *slot = slot.saturating_sub(less);
-    }
-}
-
-/// The list at an index.
-pub(crate) fn list_at(lists: &[Vec<u32>], index: usize) -> &[u32] {
-    match lists.get(index) {
-        Some(list) => list.as_slice(),
-        None => &[],
-    }
+    let rest = at(numbers, index).saturating_sub(less);
+    put(numbers, index, rest);
 }
 
 /// Where the number of a train at a place is.
