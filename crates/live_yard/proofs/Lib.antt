@@ -6,9 +6,11 @@ pub mod Following
 pub mod Forgetting
 pub mod Granting
 pub mod Holding
+pub mod Indexing
 pub mod Once
 pub mod PassedPlaces
 pub mod PassedPoints
+pub mod Passing
 pub mod Plainly
 pub mod Repeating
 pub mod RightLines

@@ -7,6 +7,7 @@ mod beginning;
 mod granted_lines;
 mod laws;
 mod live;
+mod passed_places;
 mod queue;
 mod reported;
 mod requests;

@@ -8,7 +8,7 @@ use Rattle.live_yard.proofs.reported.ReportedYard.line_of.Goals as goal
 
 pub answer_of-requires-clause-there : goal.answer_of-requires-clause-there
 answer_of-requires-clause-there g c =
-    let keeps = c.self.invariant.keeps in
+    let keeps = c.self.invariant.0.keeps in
     let done = ap (λ (y : Yard). y.tried) keeps.reached in
     let last = ap (λ (v : Reported). v.run.yard.tried) c.self.view_is in
     subst (λ (lines : List Line). (n : ℕ) × WasTried lines c.args.table n) (sym c.lines.ensures)
