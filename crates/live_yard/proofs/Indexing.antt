@@ -65,7 +65,7 @@ pub next_room : (v : Reported) (next : PlainRun) (i : ℕ) (ways : List Passed) 
     → i * 128 + place next.yard.positions i < length ways
 next_room v next i ways is are within may next_is table =
     let here : i < length (positions_of v) = omega (arith, within, is.behind.one_each) in
-    omega (arith, here, moved_there v next i next_is here, few_moved v next i may next_is table here, are.rows)
+    omega (arith, here, moved_there v next i next_is here, few_moved v next i may next_is table here, are.size)
 
 -- a train was granted its next place
 pub indexed_grant : (v : Reported) (next : PlainRun) (i : ℕ) (ways longer : List Passed) → IsReported v

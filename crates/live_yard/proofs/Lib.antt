@@ -1,5 +1,6 @@
 pub mod Adding
 pub mod Changing
+pub mod Filling
 pub mod Firing
 pub mod FirstReports
 pub mod Following

@@ -1,5 +1,5 @@
 -- The index of how trains came to places, after one more line.
-use Rattle.std.proofs.Common.{◌≡◌, ◌≢◌, ℕ, ◌+◌, ◌-◌, ◌*◌, ◌/◌, ◌%◌, ◌<◌, ◌≤◌, List, [], ◌∷◌, ◌++◌, length, cond, drop, get_or, Some}
+use Rattle.std.proofs.Common.{◌≡◌, ◌≢◌, ℕ, ◌+◌, ◌-◌, ◌*◌, ◌<◌, ◌≤◌, List, [], ◌∷◌, ◌++◌, length, cond, drop, get_or, Some}
 use Rattle.std.proofs.Common.{Bool, true, false, sym, ap, subst, ◌∙◌, arith, length-append, inl, inr}
 use Rattle.std.specs.Prelude.{slice_get, slice_set}
 use Rattle.std.proofs.lemmas.Bool.{cases_eq}
@@ -16,15 +16,8 @@ use Rattle.live_yard.specs.PassedPlaces.{ArePassed}
 use Rattle.live_yard.specs.declared.granted_lines.Passed.{Passed}
 use Rattle.live_yard.specs.declared.granted_lines.Passed.TheVariants.{Begun, Granted}
 
--- the row of an index, and what it is in the row
-pub row_of : (i k : ℕ) → k < 128 → (i * 128 + k) / 128 ≡ i
-row_of i k few = omega arith
-
-pub column_of : (i k : ℕ) → k < 128 → (i * 128 + k) % 128 ≡ k
-column_of i k few = omega arith
-
 -- rows have no index in common
-apart_rows : (i j k m : ℕ) → k < 128 → m < 128 → j ≢ i → j * 128 + k ≢ i * 128 + m
+pub apart_rows : (i j k m : ℕ) → k < 128 → m < 128 → j ≢ i → j * 128 + k ≢ i * 128 + m
 apart_rows i j k m few small other = λ same. other (omega arith)
 
 -- how many moves a train has with one more line
@@ -94,7 +87,7 @@ mover lines p ways i l are within room is k few low =
           let entry : get_or (with_grant lines p ways i) (i * 128 + k) (Begun 0) ≡ Granted (length lines + 1) =
           ap (λ (n : ℕ). get_or (with_grant lines p ways i) (i * 128 + n) (Begun 0)) new
           ∙ get_or-set_same ways (i * 128 + (at + 1)) (Granted (length lines + 1)) (Begun 0)
-          (omega (arith, are.rows, within, room)) in
+          (omega (arith, are.size, within, room)) in
           subst (λ (how : Passed). IsPassed (lines ++ l ∷ []) (at + 1) i k how) (sym entry)
           (subst (λ (n : ℕ). WasGranted (lines ++ l ∷ []) n i k (length lines + 1)) new (granted-last lines l i k is))
       | inr old ↦
@@ -103,7 +96,7 @@ mover lines p ways i l are within room is k few low =
           (λ same. old (omega arith)) in
           subst (λ (how : Passed). IsPassed (lines ++ l ∷ []) (at + 1) i k how) (sym entry)
           (passed-more lines l at (at + 1) i k (get_or ways (i * 128 + k) (Begun 0)) (omega (arith, one))
-          (are.passed i k within few (omega (arith, low, there, old))))
+          (are.rows i within k few (omega (arith, low, there, old))))
     ])
 
 -- of each other train
@@ -120,7 +113,7 @@ other_train lines p ways i j l are within room other none k few low =
     (apart_rows i j k (place p i + 1) few room other) in
     subst (λ (how : Passed). IsPassed (lines ++ l ∷ []) (place (advance p i) j) j k how) (sym entry)
     (passed-more lines l (place p j) (place (advance p i) j) j k (get_or ways (j * 128 + k) (Begun 0))
-    (omega (arith, zero, there)) (are.passed j k within few (omega (arith, low, there))))
+    (omega (arith, zero, there)) (are.rows j within k few (omega (arith, low, there))))
 
 -- a train was granted its next place
 pub are_passed_moved : (lines : List Line) (p : List ℕ) (ways : List Passed) (i : ℕ) (l : Line) → ArePassed lines p ways
@@ -129,9 +122,9 @@ pub are_passed_moved : (lines : List Line) (p : List ℕ) (ways : List Passed) (
 are_passed_moved lines p ways i l are within room is others =
     let size = length-set p i (place p i + 1) in
     record {
-      rows = length-set ways (i * 128 + (place p i + 1)) (Granted (length lines + 1)) ∙ are.rows
+      size = length-set ways (i * 128 + (place p i + 1)) (Granted (length lines + 1)) ∙ are.size
           ∙ ap (λ (n : ℕ). n * 128) (sym size);
-      passed = λ j k there few. elim (cases_eq j i) [
+      rows = λ j there k few. elim (cases_eq j i) [
         | inl same ↦
             subst (λ (m : ℕ). k ≤ place (advance p i) m
             → IsPassed (lines ++ l ∷ []) (place (advance p i) m) m k
@@ -145,9 +138,9 @@ are_passed_moved lines p ways i l are within room is others =
 pub are_passed_same : (lines : List Line) (p : List ℕ) (ways : List Passed) (l : Line) → ArePassed lines p ways
     → ((j : ℕ) → moves j l ≡ false) → ArePassed (lines ++ l ∷ []) p ways
 are_passed_same lines p ways l are none = record {
-  rows = are.rows;
-  passed = λ i k within few low.
+  size = are.size;
+  rows = λ i within k few low.
       passed-more lines l (place p i) (place p i) i k (get_or ways (i * 128 + k) (Begun 0))
       (let one : ◌≡◌ {A = ℕ} (cond (moves i l) 1 0) 0 = ap (λ (b : Bool). cond b 1 0) (none i) in omega (arith, one))
-      (are.passed i k within few low);
+      (are.rows i within k few low);
 }

@@ -59,7 +59,7 @@ impl<'a, A: CheckedTable> ReportedYard<'a, A> {
     {
         let trains = trains_of(run.live_in_force());
         let there = first_places(alloc, trains, run.lines(), run.yard().positions(), reports)?;
-        let passed = PassedPlaces::of_lines(alloc, run.lines(), run.yard().positions())?;
+        let passed = PassedPlaces::of_lines(alloc, trains, run.lines(), run.yard().positions())?;
         Ok(ReportedYard {
             run,
             there,
