@@ -1,4 +1,5 @@
 pub mod Adding
+pub mod Answered
 pub mod Changing
 pub mod Filling
 pub mod Firing

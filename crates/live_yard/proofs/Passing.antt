@@ -26,7 +26,7 @@ moves_of-more : (i : ℕ) (lines : List Line) (l : Line)
 moves_of-more i lines l = omega (arith, sum_by-append (λ (m : Line). cond (moves i m) 1 0) lines (l ∷ []))
 
 -- the lines before are as they were
-before-more : (lines : List Line) (l m : Line) (n : ℕ) → slice_get lines n ≡ Some m
+pub before-more : (lines : List Line) (l m : Line) (n : ℕ) → slice_get lines n ≡ Some m
     → slice_get (lines ++ l ∷ []) n ≡ Some m
 before-more lines l m n at =
     let within = slice_get_within lines n m at in
@@ -47,21 +47,22 @@ passed-more lines l at next i k (Granted n) on was = record {
 }
 passed-more lines l at next i k (Begun start) on was = (omega (arith, moves_of-more i lines l, was.0, on), was.1)
 
+-- the line that was added
+pub last_line : (lines : List Line) (l : Line) → slice_get (lines ++ l ∷ []) (length lines + 1 - 1) ≡ Some l
+last_line lines l =
+    let last : length lines + 1 - 1 ≡ length lines = omega arith in
+    let longer : length lines + 1 - 1 < length (lines ++ l ∷ []) = omega (arith, length-append lines (l ∷ [])) in
+    slice_get-get_or (lines ++ l ∷ []) (length lines + 1 - 1) l longer
+    ∙ ap (λ (x : Line). Some x)
+    (ap (λ (n : ℕ). get_or (lines ++ l ∷ []) n l) last ∙ get_or-append_seam lines l [] l)
+
 -- the last line, where it is a move of the train, granted it the place where it is then
 granted-last : (lines : List Line) (l : Line) (i k : ℕ) → moves i l ≡ true
     → WasGranted (lines ++ l ∷ []) k i k (length lines + 1)
 granted-last lines l i k is = record {
   counted = omega arith;
   within = omega (arith, length-append lines (l ∷ []));
-  line =
-      let last : length lines + 1 - 1 ≡ length lines = omega arith in
-      let longer : length lines + 1 - 1 < length (lines ++ l ∷ []) = omega (arith, length-append lines (l ∷ [])) in (
-        l,
-        slice_get-get_or (lines ++ l ∷ []) (length lines + 1 - 1) l longer
-            ∙ ap (λ (x : Line). Some x)
-            (ap (λ (n : ℕ). get_or (lines ++ l ∷ []) n l) last ∙ get_or-append_seam lines l [] l),
-        is,
-      );
+  line = (l, last_line lines l, is);
   later =
       let none : drop (length lines + 1) (lines ++ l ∷ []) ≡ [] = drop-append-add lines (l ∷ []) 1 in
       omega (arith, ap (λ (ls : List Line). moves_of i ls) none);

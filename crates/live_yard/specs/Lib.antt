@@ -4,5 +4,6 @@ pub mod GrantedLines
 pub mod PassedPlaces
 pub mod Reported
 pub mod Sessions
+pub mod TableLines
 pub mod Telling
 pub mod Wants

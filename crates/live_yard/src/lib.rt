@@ -13,6 +13,7 @@ mod reported;
 mod requests;
 mod serving;
 mod settling;
+mod table_lines;
 mod telling;
 mod told;
 

@@ -11,7 +11,8 @@ ghost use Rattle.live_yard.specs.Reported.{stepped};
 
 use crate::beginning::first_places;
 use crate::passed_places::PassedPlaces;
-use crate::{Elsewhere, Told, answer_of, tell};
+use crate::table_lines::TableLines;
+use crate::{Elsewhere, Told, tell};
 use plain_yard::{CheckedTable, PlainYard};
 use rail_model::{Ask, State, Tried, last_of, trains_of};
 use std::alloc::{AllocError, Global};
@@ -25,18 +26,21 @@ pub struct ReportedYard<'a, A: CheckedTable> {
     there: State,
     reports: bool,
     passed: PassedPlaces,
+    answered: TableLines,
 }
 
 impl<'a, A: CheckedTable> Model for ReportedYard<'a, A> {
     ghost use Rattle.live_yard.specs.PassedPlaces.{ArePassed};
     ghost use Rattle.live_yard.specs.Reported.{Reported, IsReported};
+    ghost use Rattle.live_yard.specs.TableLines.{AreAnswered};
 
     ghost Value = { Reported };
 
     ghost view = { λ s. record { run = s.run; there = s.there; reports = s.reports } };
 
     ghost invariant = { λ s. IsReported (record { run = s.run; there = s.there; reports = s.reports })
-        × ArePassed s.run.lines s.run.yard.positions s.passed.ways.items };
+        × ArePassed s.run.lines s.run.yard.positions s.passed.ways.items
+        × AreAnswered s.run.lines s.run.yard.tried s.answered.numbers };
 }
 
 impl<'a, A: CheckedTable> ReportedYard<'a, A> {
@@ -60,11 +64,13 @@ impl<'a, A: CheckedTable> ReportedYard<'a, A> {
         let trains = trains_of(run.live_in_force());
         let there = first_places(alloc, trains, run.lines(), run.yard().positions(), reports)?;
         let passed = PassedPlaces::of_lines(alloc, trains, run.lines(), run.yard().positions())?;
+        let answered = TableLines::of_run(&run);
         Ok(ReportedYard {
             run,
             there,
             reports,
             passed,
+            answered,
         })
     }
 
@@ -153,6 +159,7 @@ impl<'a, A: CheckedTable> ReportedYard<'a, A> {
         ensures answer { Tries self.old.run.tables self.old.run.yard result }
         ensures after { self.new ≡ after_table self.old result }
     {
+        self.answered.expect_next(&self.run);
         self.run.try_table()
     }
 
@@ -182,7 +189,7 @@ impl<'a, A: CheckedTable> ReportedYard<'a, A> {
         requires tried { table ≤ self.now.run.yard.tried }
         ensures { WasTried self.now.run.lines table result }
     {
-        answer_of(self.run.lines(), table)
+        self.answered.line_of(table)
     }
 }
 

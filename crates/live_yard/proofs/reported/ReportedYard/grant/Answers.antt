@@ -2,6 +2,7 @@ use Rattle.std.proofs.Common.{◌∙◌, ◌<◌, ap, sym, subst, length}
 use Rattle.rail_model.specs.Move.{Move, advance}
 use Rattle.live_yard.specs.Reported.{MayGoOn, Reported, granted, positions_of, table_of}
 use Rattle.live_yard.proofs.Following.{granted_is, has_room, keeps_granted}
+use Rattle.live_yard.proofs.Answered.{answered_grant}
 use Rattle.live_yard.proofs.Indexing.{indexed_grant, next_room, next_within}
 use Rattle.live_yard.proofs.reported.ReportedYard.grant.Goals as goal
 
@@ -41,6 +42,7 @@ invariant_of-self g c =
       indexed_grant _ _ c.args.train _ _ c.self.invariant.0 c.self.invariant.1 within
           (subst (λ (v : Reported). MayGoOn v c.args.train) (sym c.self.view_is) c.requires.may)
           c.move_train.ensures.moved c.move_train.ensures.formed c.note_grant.ensures,
+      answered_grant _ _ c.args.train _ c.self.invariant.2 c.move_train.ensures.moved,
     )
 
 pub returns : goal.returns
