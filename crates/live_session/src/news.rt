@@ -1,10 +1,10 @@
 // What is told beside the answers.
-ghost use Rattle.std.specs.Prelude.{◌≡◌, ◌++◌, OnOk};
-ghost use Rattle.live_session.specs.News.{done_text, due_text, news_text};
+ghost use Rattle.std.specs.Prelude.{◌≡◌, ◌≤◌, ◌++◌, length, OnOk};
+ghost use Rattle.live_session.specs.News.{done_text, due_text, exchanges, news_text};
 
-use crate::status::Status;
+use crate::status::{Status, exchanges_of};
 use live_lines::{Event, push_event};
-use rail_model::Names;
+use rail_model::{Line, Names};
 use std::alloc::{AllocError, Global};
 
 /// Adds that a table is due which wasn't due before.
@@ -26,7 +26,7 @@ pub(crate) fn push_due(
     }
 }
 
-// Adds that all is done which wasn't done before.
+// Adds that all is done which wasn't done before; only then are the lines looked through.
 fn push_done(
     alloc: Global,
     out: &mut Vec<u8>,
@@ -34,11 +34,14 @@ fn push_done(
     before: bool,
     now: bool,
     moves: u32,
-    tables: u32,
+    lines: &[Line],
 ) -> Result<(), AllocError>
-    ensures { OnOk result (out.new.items ≡ out.old.items ++ done_text names.now before now moves tables) }
+    requires { length lines.now ≤ 4079 }
+    ensures { OnOk result (out.new.items ≡ out.old.items
+        ++ done_text names.now before now moves (exchanges lines.now)) }
 {
     if now && !before {
+        let tables = exchanges_of(lines) as u32;
         push_event(alloc, out, b"", names, Event::Done { moves, tables })
     } else {
         Ok(())
@@ -53,10 +56,12 @@ pub(crate) fn push_news(
     before: Status,
     now: Status,
     moves: u32,
-    tables: u32,
+    lines: &[Line],
 ) -> Result<(), AllocError>
-    ensures { OnOk result (out.new.items ≡ out.old.items ++ news_text names.now before now moves tables) }
+    requires { length lines.now ≤ 4079 }
+    ensures { OnOk result (out.new.items ≡ out.old.items
+        ++ news_text names.now before now moves (exchanges lines.now)) }
 {
     push_due(alloc, out, names, before.due, now.due)?;
-    push_done(alloc, out, names, before.done, now.done, moves, tables)
+    push_done(alloc, out, names, before.done, now.done, moves, lines)
 }

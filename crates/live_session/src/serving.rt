@@ -10,7 +10,7 @@ use crate::answers::answer_of;
 use crate::lines::{Journal, push_lines};
 use crate::news::push_news;
 use crate::start::{Start, start_of, train_of};
-use crate::status::{Status, exchanges_of};
+use crate::status::Status;
 use crate::tags::keep_tag;
 use live_answers::push_told;
 use live_lines::push_answer;
@@ -67,9 +67,16 @@ impl<'a, A: CheckedTable> Session<'a, A> {
         ensures { OnOk result (Says (IsNews self.now before) text.old.items text.new.items) }
     {
         let moves = self.yard.yard().run().yard().moves();
-        let tables = exchanges_of(self.lines()) as u32;
         let now = self.status();
-        push_news(self.alloc, text, self.names, before, now, moves, tables)
+        push_news(
+            self.alloc,
+            text,
+            self.names,
+            before,
+            now,
+            moves,
+            self.lines(),
+        )
     }
 
     // Adds the text of a request that was served.

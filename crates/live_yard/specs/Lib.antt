@@ -1,7 +1,9 @@
 pub mod Answers
 pub mod Firing
 pub mod GrantedLines
+pub mod PassedPlaces
 pub mod Reported
 pub mod Sessions
+pub mod TableLines
 pub mod Telling
 pub mod Wants

@@ -16,8 +16,8 @@ pub enum Passed {
     Begun { start: u32 },
 }
 
-// Whether a line is a move of a train.
-fn is_move_of(line: Line, train: u32) -> bool
+/// Whether a line is a move of a train.
+pub(crate) fn is_move_of(line: Line, train: u32) -> bool
     ensures { result ≡ moves train line }
 {
     matches!(line, Line::Move { train: other, .. } if other == train)

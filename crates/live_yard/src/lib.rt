@@ -7,11 +7,13 @@ mod beginning;
 mod granted_lines;
 mod laws;
 mod live;
+mod passed_places;
 mod queue;
 mod reported;
 mod requests;
 mod serving;
 mod settling;
+mod table_lines;
 mod telling;
 mod told;
 

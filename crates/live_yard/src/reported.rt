@@ -1,14 +1,18 @@
 // A run with the places that its trains have reported.
-ghost use Rattle.std.specs.Prelude.{◌≡◌, ◌^◌, ◌<◌, ◌≤◌, length, slice_index, true, if◌then◌else◌, MatchOption};
+ghost use Rattle.std.specs.Prelude.{◌≡◌, ◌+◌, ◌*◌, ◌^◌, ◌<◌, ◌≤◌, length, slice_index, slice_set, true};
+ghost use Rattle.std.specs.Prelude.{if◌then◌else◌, MatchOption};
 ghost use Rattle.rail_model.specs.Move.{Live, Move, advance};
-ghost use Rattle.rail_model.specs.Table.{IsTable};
+ghost use Rattle.rail_model.specs.Table.{IsTable, place};
 ghost use Rattle.rail_model.specs.Yard.{in_force, Tries};
 ghost use Rattle.plain_yard.specs.Keeps.{Keeps};
 ghost use Rattle.plain_yard.specs.Lines.{most_lines};
+ghost use Rattle.live_yard.specs.declared.granted_lines.Passed.TheVariants.{Granted};
 ghost use Rattle.live_yard.specs.Reported.{stepped};
 
 use crate::beginning::first_places;
-use crate::{Elsewhere, Told, answer_of, passed_place, tell};
+use crate::passed_places::PassedPlaces;
+use crate::table_lines::TableLines;
+use crate::{Elsewhere, Told, tell};
 use plain_yard::{CheckedTable, PlainYard};
 use rail_model::{Ask, State, Tried, last_of, trains_of};
 use std::alloc::{AllocError, Global};
@@ -21,16 +25,22 @@ pub struct ReportedYard<'a, A: CheckedTable> {
     run: PlainYard<'a, A>,
     there: State,
     reports: bool,
+    passed: PassedPlaces,
+    answered: TableLines,
 }
 
 impl<'a, A: CheckedTable> Model for ReportedYard<'a, A> {
+    ghost use Rattle.live_yard.specs.PassedPlaces.{ArePassed};
     ghost use Rattle.live_yard.specs.Reported.{Reported, IsReported};
+    ghost use Rattle.live_yard.specs.TableLines.{AreAnswered};
 
     ghost Value = { Reported };
 
     ghost view = { λ s. record { run = s.run; there = s.there; reports = s.reports } };
 
-    ghost invariant = { λ s. IsReported (record { run = s.run; there = s.there; reports = s.reports }) };
+    ghost invariant = { λ s. IsReported (record { run = s.run; there = s.there; reports = s.reports })
+        × ArePassed s.run.lines s.run.yard.positions s.passed.ways.items
+        × AreAnswered s.run.lines s.run.yard.tried s.answered.numbers };
 }
 
 impl<'a, A: CheckedTable> ReportedYard<'a, A> {
@@ -53,10 +63,14 @@ impl<'a, A: CheckedTable> ReportedYard<'a, A> {
     {
         let trains = trains_of(run.live_in_force());
         let there = first_places(alloc, trains, run.lines(), run.yard().positions(), reports)?;
+        let passed = PassedPlaces::of_lines(alloc, trains, run.lines(), run.yard().positions())?;
+        let answered = TableLines::of_run(&run);
         Ok(ReportedYard {
             run,
             there,
             reports,
+            passed,
+            answered,
         })
     }
 
@@ -103,6 +117,7 @@ impl<'a, A: CheckedTable> ReportedYard<'a, A> {
     {
         move_train(&mut self.run, train);
         arrive(&mut self.there, self.reports, train);
+        note_grant(&mut self.passed, &self.run, train);
     }
 
     /// Asks for a train: where it may go on, it is granted its next place.
@@ -144,6 +159,7 @@ impl<'a, A: CheckedTable> ReportedYard<'a, A> {
         ensures answer { Tries self.old.run.tables self.old.run.yard result }
         ensures after { self.new ≡ after_table self.old result }
     {
+        self.answered.expect_next(&self.run);
         self.run.try_table()
     }
 
@@ -158,7 +174,7 @@ impl<'a, A: CheckedTable> ReportedYard<'a, A> {
         }
         let at = self.run.yard().positions().place(train);
         if place <= at {
-            let how = passed_place(self.run.lines(), train, place, at);
+            let how = self.passed.way(train, place);
             return Some(Elsewhere::Before { how });
         }
         if at + 1 < place {
@@ -173,7 +189,7 @@ impl<'a, A: CheckedTable> ReportedYard<'a, A> {
         requires tried { table ≤ self.now.run.yard.tried }
         ensures { WasTried self.now.run.lines table result }
     {
-        answer_of(self.run.lines(), table)
+        self.answered.line_of(table)
     }
 }
 
@@ -190,6 +206,19 @@ fn move_train<A: CheckedTable>(run: &mut PlainYard<'_, A>, train: u32)
         Ask::Yes => {}
         _ => unreachable!(),
     }
+}
+
+// The last line has granted a train the place where it is.
+fn note_grant<A: CheckedTable>(passed: &mut PassedPlaces, run: &PlainYard<'_, A>, train: u32)
+    requires few { length run.now.lines ≤ most_lines }
+    requires train { train < length run.now.yard.positions }
+    requires room { train * 128 + place run.now.yard.positions train < length passed.old.ways.items }
+    ensures { passed.new.ways.items ≡ slice_set passed.old.ways.items (train * 128 + place run.now.yard.positions train)
+        (Granted (length run.now.lines)) }
+{
+    let place = run.yard().positions().place(train);
+    let line = run.lines().len() as u32;
+    passed.grant(train, place, line);
 }
 
 // Where trains don't report, one that moves is there at once.

@@ -6,16 +6,16 @@ use Rattle.live_yard.proofs.reported.ReportedYard.told.Goals as goal
 
 pub tell-requires-clause-legal : goal.tell-requires-clause-legal
 tell-requires-clause-legal g c =
-    legal_at _ _ _ c.self.invariant c.live_in_force-table.ensures.given
+    legal_at _ _ _ c.self.invariant.0 c.live_in_force-table.ensures.given
     (c.positions-state.ensures ∙ ap (λ (y : Yard). y.positions) c.yard.ensures.yard)
 
 pub tell-requires-clause-reports : goal.tell-requires-clause-reports
 tell-requires-clause-reports g c =
-    reports_at _ _ c.self.invariant (c.positions-state.ensures ∙ ap (λ (y : Yard). y.positions) c.yard.ensures.yard)
+    reports_at _ _ c.self.invariant.0 (c.positions-state.ensures ∙ ap (λ (y : Yard). y.positions) c.yard.ensures.yard)
 
 pub tell-requires-clause-train : goal.tell-requires-clause-train
 tell-requires-clause-train g c =
-    train_at _ _ _ c.self.invariant c.live_in_force-table.ensures.given
+    train_at _ _ _ c.self.invariant.0 c.live_in_force-table.ensures.given
     (subst (λ (v : Reported). c.args.train < length v.there) (sym c.self.view_is) c.requires)
 
 pub returns-clause-told : goal.returns-clause-told
