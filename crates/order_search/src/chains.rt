@@ -18,18 +18,17 @@ pub struct Link {
     pub steps: Vec<Step>,
 }
 
-/// The trains of a chain, and their shares, train by train and place by place.
-#[derive(Drop)]
-pub(crate) struct Members {
-    pub(crate) trains: Vec<u32>,
-    pub(crate) shares: Vec<u32>,
-}
-
 /// Trains that a section keeps one behind the other: the first one leads, and each further one follows the one before. They alone have
 /// shares of the section, and for each two neighbours there is a link.
 #[derive(Drop)]
 pub struct Chain {
-    pub(crate) members: Members,
+    pub(crate) trains: Vec<u32>,
+    /// Train by train, and place by place.
+    pub(crate) shares: Vec<u32>,
+    /// The place from which on the first train hasn't the whole limit, if it comes there.
+    pub(crate) falls: u32,
+    /// The place from which on the last train has the whole limit, if it comes there.
+    pub(crate) rises: u32,
     pub links: Vec<Link>,
 }
 
@@ -38,7 +37,17 @@ pub(crate) fn share_at(shares: &[u32], place: u32) -> u32 {
     shares.get(place as usize).copied().unwrap_or(0)
 }
 
-impl Members {
+/// The train with a number in a list, or one that no table has.
+pub(crate) fn train_at(trains: &[u32], number: usize) -> u32 {
+    trains.get(number).copied().unwrap_or(u32::MAX)
+}
+
+impl Chain {
+    /// The trains, the one that leads first.
+    pub fn trains(&self) -> &[u32] {
+        &self.trains
+    }
+
     /// The shares of the train with a number in the chain.
     pub(crate) fn shares_at(&self, number: usize) -> &[u32] {
         let from = number.saturating_mul(SHARES);
@@ -57,24 +66,16 @@ impl Members {
         }
         &[]
     }
-}
-
-impl Chain {
-    /// The trains, the one that leads first.
-    pub fn trains(&self) -> &[u32] {
-        &self.members.trains
-    }
 
     /// Whether the trains of an order have shares.
     pub(crate) fn has_both(&self, order: &Order) -> bool {
-        let trains = &self.members.trains;
-        trains.contains(&order.first()) && trains.contains(&order.second())
+        self.trains.contains(&order.first()) && self.trains.contains(&order.second())
     }
 
     /// Whether the section keeps the order with a number.
     pub fn keeps(&self, order: usize) -> bool {
-        for link in &self.links {
-            if link.order == order {
+        for number in 0..self.links.len() {
+            if self.links[number].order == order {
                 return true;
             }
         }
@@ -113,6 +114,22 @@ fn shares_of_two(alloc: Global, last: Two, steps: &[Step]) -> Result<Vec<u32>, A
     Ok(shares)
 }
 
+// The place of the train that leads at the step with a number, or one that it doesn't come to.
+fn leader_at(steps: &[Step], number: usize) -> u32 {
+    match steps.get(number) {
+        Some(step) => step.leader,
+        None => PLACES,
+    }
+}
+
+// The same of the train that follows.
+fn follower_at(steps: &[Step], number: usize) -> u32 {
+    match steps.get(number) {
+        Some(step) => step.follower,
+        None => PLACES,
+    }
+}
+
 // The chain of two trains that takes some steps of the order with a number.
 fn chain_of_two(
     alloc: Global,
@@ -128,14 +145,17 @@ fn chain_of_two(
     };
     let trains = vec![in alloc; first, second]?;
     let shares = shares_of_two(alloc, last, steps)?;
-    let steps = Vec::from_slice(alloc, steps)?;
-    let link = Link {
+    let mut links = Vec::new(alloc);
+    links.push(Link {
         order: number,
-        steps,
-    };
+        steps: Vec::from_slice(alloc, steps)?,
+    })?;
     Ok(Chain {
-        members: Members { trains, shares },
-        links: vec![in alloc; link]?,
+        trains,
+        shares,
+        falls: leader_at(steps, 0),
+        rises: follower_at(steps, STEPS - 1),
+        links,
     })
 }
 
@@ -158,7 +178,7 @@ fn add_chains(
     chains: &mut Vec<Chain>,
 ) -> Result<(), AllocError> {
     let steps = order.steps(alloc, table_number, last_in(table, order.second()))?;
-    for part in 0..order.count(table_number) {
+    for part in 0..order.count(table, table_number) {
         let some = steps_from(&steps, part.saturating_mul(STEPS));
         chains.push(chain_of_two(alloc, table, order, number, some)?)?;
     }
@@ -193,7 +213,7 @@ fn changes_of(
     chain: &Chain,
     train: u32,
 ) -> Result<Changes, AllocError> {
-    let shares = chain.members.shares_of(train);
+    let shares = chain.shares_of(train);
     let mut changes = Vec::new(alloc);
     let mut before: i32 = 0;
     for place in 0..=last_in(table, train) {

@@ -1,8 +1,8 @@
 // Which orders get sections: those that don't follow from two others, as long as there is room.
 use crate::Order;
-use crate::chains::{Chain, chains_of_two};
+use crate::chains::Chain;
 use crate::order::add_order;
-use crate::packing::packed;
+use crate::packing::chains_of;
 use crate::search::{Sought, Two};
 use crate::visits::Visits;
 use rail_model::{Line, State, Table, sections_of, trains_of};
@@ -74,7 +74,8 @@ fn add_orders_of(
 
 // Whether an order follows from one with the same leader and some other.
 fn follows_from(order: &Order, leading: &Order, orders: &[Order]) -> bool {
-    for following in orders {
+    for number in 0..orders.len() {
+        let following = &orders[number];
         if following.first() == leading.second()
             && following.second() == order.second()
             && order.follows(leading, following)
@@ -85,12 +86,10 @@ fn follows_from(order: &Order, leading: &Order, orders: &[Order]) -> bool {
     false
 }
 
-// Whether the order with a number doesn't follow from two others.
-fn is_needed(orders: &[Order], number: usize) -> bool {
-    let Some(order) = orders.get(number) else {
-        return false;
-    };
-    for leading in orders {
+// Whether an order doesn't follow from two others.
+fn is_needed(orders: &[Order], order: &Order) -> bool {
+    for number in 0..orders.len() {
+        let leading = &orders[number];
         if leading.first() == order.first()
             && leading.second() != order.second()
             && follows_from(order, leading, orders)
@@ -101,16 +100,24 @@ fn is_needed(orders: &[Order], number: usize) -> bool {
     true
 }
 
+// Marks an order or not.
+fn mark(orders: &mut [Order], number: usize, is_marked: bool) {
+    if let Some(order) = orders.get_mut(number) {
+        order.is_marked = is_marked;
+    }
+}
+
+// Marks the orders that don't follow from two others.
 fn mark_needed(orders: &mut [Order]) {
     for number in 0..orders.len() {
-        let is_needed = is_needed(orders, number);
-        if let Some(order) = orders.get_mut(number) {
-            order.is_needed = is_needed;
+        if let Some(order) = orders.get(number) {
+            let is_marked = is_needed(orders, order);
+            mark(orders, number, is_marked);
         }
     }
 }
 
-// All orders: first those that don't follow from two others, and of these the strongest first.
+// All orders, the strongest first, of which those are marked that don't follow from two others.
 fn all_orders(alloc: Global, sought: Sought<'_>) -> Result<Vec<Order>, AllocError> {
     let mut orders = Vec::new(alloc);
     let trains = match sought.tables.first() {
@@ -121,40 +128,59 @@ fn all_orders(alloc: Global, sought: Sought<'_>) -> Result<Vec<Order>, AllocErro
         add_orders_of(alloc, sought, second, &mut orders)?;
     }
     mark_needed(&mut orders);
-    orders.sort_by_key(|order| (!order.is_needed, u32::MAX - order.weight()))?;
     Ok(orders)
 }
 
-// The trains of the orders that don't follow from two others.
-fn needed_of(alloc: Global, orders: &[Order]) -> Result<Vec<Two>, AllocError> {
-    let mut needed = Vec::new(alloc);
-    for order in orders {
-        if order.is_needed {
-            let (first, second) = (order.first(), order.second());
-            needed.push(Two { first, second })?;
-        }
+fn is_marked(orders: &[Order], number: usize) -> bool {
+    match orders.get(number) {
+        Some(order) => order.is_marked,
+        None => false,
     }
-    Ok(needed)
 }
 
-// How many sections the orders that are kept have in a table.
-fn sections_in(orders: &[Order], table: usize) -> usize {
+// The orders of a list that aren't marked, which it loses.
+fn taken_out(alloc: Global, orders: &mut Vec<Order>) -> Result<Vec<Order>, AllocError> {
+    let mut taken = Vec::new(alloc);
+    let mut number: usize = 0;
+    for _ in 0..orders.len() {
+        if is_marked(orders, number) {
+            number = number.saturating_add(1);
+        } else if number < orders.len() {
+            taken.push(orders.remove(number))?;
+        }
+    }
+    Ok(taken)
+}
+
+// The trains of orders.
+fn trains_of_all(alloc: Global, orders: &[Order]) -> Result<Vec<Two>, AllocError> {
+    let mut trains = Vec::new(alloc);
+    for number in 0..orders.len() {
+        let order = &orders[number];
+        let (first, second) = (order.first(), order.second());
+        trains.push(Two { first, second })?;
+    }
+    Ok(trains)
+}
+
+// How many sections the first orders of a list that are marked have in a table, if each section keeps two trains.
+fn sections_in(orders: &[Order], before: usize, table: &Table, table_number: usize) -> usize {
     let mut sections: usize = 0;
-    for order in orders {
-        if order.is_kept {
-            sections = sections.saturating_add(order.count(table));
+    for number in 0..orders.len() {
+        let order = &orders[number];
+        if number < before && order.is_marked {
+            sections = sections.saturating_add(order.count(table, table_number));
         }
     }
     sections
 }
 
-// Whether each table has room for an order beside those that are kept, if each section keeps two trains.
-fn has_room(tables: &[Table], orders: &[Order], order: &Order) -> bool {
-    for (number, table) in tables.iter().enumerate() {
-        let own = sections_of(table) as usize;
-        let more = order.count(number);
-        let sections = own
-            .saturating_add(sections_in(orders, number))
+// Whether each table has room for an order beside those before it that are marked.
+fn has_room(tables: &[Table], orders: &[Order], number: usize, order: &Order) -> bool {
+    for k in 0..tables.len() {
+        let more = order.count(&tables[k], k);
+        let sections = (sections_of(&tables[k]) as usize)
+            .saturating_add(sections_in(orders, number, &tables[k], k))
             .saturating_add(more);
         if sections > MOST_SECTIONS && more > 0 {
             return false;
@@ -167,63 +193,47 @@ fn has_room(tables: &[Table], orders: &[Order], order: &Order) -> bool {
 fn mark_kept(tables: &[Table], orders: &mut [Order]) -> usize {
     let mut kept: usize = 0;
     for number in 0..orders.len() {
-        let is_kept = match orders.get(number) {
-            Some(order) => has_room(tables, orders, order),
-            None => false,
-        };
-        if let Some(order) = orders.get_mut(number) {
-            order.is_kept = is_kept;
-        }
-        if is_kept {
-            kept = kept.saturating_add(1);
+        if let Some(order) = orders.get(number) {
+            let is_kept = has_room(tables, orders, number, order);
+            mark(orders, number, is_kept);
+            kept = kept.saturating_add(is_kept as usize);
         }
     }
     kept
 }
 
-// The chains of two trains that keep orders, table by table.
-fn in_twos(
-    alloc: Global,
-    tables: &[Table],
-    orders: &[Order],
-) -> Result<Vec<Vec<Chain>>, AllocError> {
-    let mut chains = Vec::new(alloc);
-    for (number, table) in tables.iter().enumerate() {
-        chains.push(chains_of_two(alloc, table, number, orders)?)?;
-    }
-    Ok(chains)
-}
-
-// Packs the sections of orders in each table, as long as there is room, and says whether there is in all.
-fn add_packed(
+// Adds the chains that keep orders, table by table, as long as there is room for their sections, and says whether there is in all.
+fn add_chains(
     alloc: Global,
     tables: &[Table],
     orders: &[Order],
     others: &[Order],
+    are_joined: bool,
     chains: &mut Vec<Vec<Chain>>,
 ) -> Result<bool, AllocError> {
-    for (number, table) in tables.iter().enumerate() {
-        let own = sections_of(table) as usize;
-        let joined = packed(alloc, table, number, orders, others)?;
-        let more = joined.len();
-        chains.push(joined)?;
-        if more > 0 && own.saturating_add(more) > MOST_SECTIONS {
+    for number in 0..tables.len() {
+        let table = &tables[number];
+        let found = chains_of(alloc, table, number, orders, others, are_joined)?;
+        let more = found.len();
+        chains.push(found)?;
+        if more > 0 && (sections_of(table) as usize).saturating_add(more) > MOST_SECTIONS {
             return Ok(false);
         }
     }
     Ok(true)
 }
 
-// Puts packed chains in the place of others, if there is room.
-fn pack(
+// Puts the chains that keep orders in the place of others, if there is room for their sections.
+fn put_chains(
     alloc: Global,
     tables: &[Table],
     orders: &[Order],
     others: &[Order],
+    are_joined: bool,
     chains: &mut Vec<Vec<Chain>>,
 ) -> Result<bool, AllocError> {
     let mut found = Vec::new(alloc);
-    let has_room = add_packed(alloc, tables, orders, others, &mut found)?;
+    let has_room = add_chains(alloc, tables, orders, others, are_joined, &mut found)?;
     if has_room {
         *chains = found;
     }
@@ -251,61 +261,72 @@ fn most_packed(
     let mut tried = orders.len();
     let mut limit = tried.saturating_add(1);
     for _ in 0..MOST_TRIALS {
-        if tried <= most {
-            return Ok(most);
+        if tried > most {
+            if put_chains(alloc, tables, front(orders, tried), others, true, chains)? {
+                most = tried;
+            } else {
+                limit = tried;
+            }
+            tried = most.saturating_add(limit.saturating_sub(most) / 2);
         }
-        if pack(alloc, tables, front(orders, tried), others, chains)? {
-            most = tried;
-        } else {
-            limit = tried;
-        }
-        tried = most.saturating_add(limit.saturating_sub(most) / 2);
     }
     Ok(most)
 }
 
-// Whether a chain of a table has the trains of an order.
-fn has_both(chains: &[Vec<Chain>], order: &Order) -> bool {
-    for chains in chains {
-        for chain in chains {
-            if chain.has_both(order) {
-                return true;
-            }
+// Whether one of some chains has the trains of an order.
+fn one_has_both(chains: &[Chain], order: &Order) -> bool {
+    for number in 0..chains.len() {
+        if chains[number].has_both(order) {
+            return true;
         }
     }
     false
 }
 
-// The chains of the strongest orders for which there is room. The other orders are taken out, and of those that follow from two others all
-// that no chain has. Sections are packed only if there is no room for all orders as they are.
+// Whether a chain of a table has the trains of an order.
+fn has_both(chains: &[Vec<Chain>], order: &Order) -> bool {
+    for number in 0..chains.len() {
+        if one_has_both(&chains[number], order) {
+            return true;
+        }
+    }
+    false
+}
+
+// Marks the orders whose trains a chain has.
+fn mark_beside(chains: &[Vec<Chain>], orders: &mut [Order]) {
+    for number in 0..orders.len() {
+        if let Some(order) = orders.get(number) {
+            let is_marked = has_both(chains, order);
+            mark(orders, number, is_marked);
+        }
+    }
+}
+
+// Puts the chains of the strongest orders for which there is room into a list. The other orders are taken out, and of those that follow from
+// two others all whose trains no chain has. Sections are packed only if there is no room for all orders as they are.
 fn choose(
     alloc: Global,
     tables: &[Table],
     orders: &mut Vec<Order>,
     beside: &mut Vec<Order>,
-) -> Result<Vec<Vec<Chain>>, AllocError> {
+    chains: &mut Vec<Vec<Chain>>,
+) -> Result<(), AllocError> {
     let kept = mark_kept(tables, orders);
+    let mut count = kept;
     if kept < orders.len() {
-        let mut chains = Vec::new(alloc);
-        let count = most_packed(alloc, tables, orders, beside, kept, &mut chains)?;
-        if count > kept {
-            orders.truncate(count);
-            beside.retain(|order| has_both(&chains, order));
-            return Ok(chains);
-        }
-        orders.retain(|order| order.is_kept);
+        count = most_packed(alloc, tables, orders, beside, kept, chains)?;
     }
-    beside.truncate(0);
-    in_twos(alloc, tables, orders)
-}
-
-// The orders of a list from a number on, which it loses.
-fn rest_of(alloc: Global, orders: &mut Vec<Order>, from: usize) -> Result<Vec<Order>, AllocError> {
-    if from <= orders.len() {
-        orders.split_off(from)
+    if count > kept {
+        orders.truncate(count);
     } else {
-        Ok(Vec::new(alloc))
+        taken_out(alloc, orders)?;
+        put_chains(alloc, tables, orders, &[], false, chains)?;
+        beside.truncate(0);
     }
+    mark_beside(chains, beside);
+    taken_out(alloc, beside)?;
+    Ok(())
 }
 
 // What is chosen of the orders that are sought.
@@ -316,9 +337,10 @@ fn choice_of<'a>(
     run: Option<&'a Visits>,
 ) -> Result<Chosen, AllocError> {
     let mut orders = all_orders(alloc, Sought { tables, start, run })?;
-    let needed = needed_of(alloc, &orders)?;
-    let mut beside = rest_of(alloc, &mut orders, needed.len())?;
-    let chains = choose(alloc, tables, &mut orders, &mut beside)?;
+    let mut beside = taken_out(alloc, &mut orders)?;
+    let needed = trains_of_all(alloc, &orders)?;
+    let mut chains = Vec::new(alloc);
+    choose(alloc, tables, &mut orders, &mut beside, &mut chains)?;
     Ok(Chosen {
         needed,
         orders,

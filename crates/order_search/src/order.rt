@@ -1,5 +1,5 @@
 // Orders of two trains.
-ghost use Rattle.std.specs.Prelude.{◌≡◌};
+ghost use Rattle.std.specs.Prelude.{◌≡◌, ◌≤◌, length};
 
 use crate::Grid;
 use crate::search::{PLACES, Sought, Two, grids_of, last_in};
@@ -26,11 +26,11 @@ pub struct Order {
     // Table by table, for each place of the train that follows, from the greatest down: the least place of the one that leads at which the
     // first can be there or beyond.
     stairs: Vec<u32>,
-    // How many sections of two trains keep the order in each table.
-    counts: Vec<usize>,
+    // The sum of these places: the greater, the more the order forbids.
+    weight: u32,
     of_run: bool,
-    pub(crate) is_needed: bool,
-    pub(crate) is_kept: bool,
+    /// Whether it is one of those that are looked for, of a list of orders.
+    pub(crate) is_marked: bool,
 }
 
 impl Model for Order {
@@ -68,19 +68,22 @@ impl Order {
         self.of_run
     }
 
-    /// How many sections of two trains keep the order in a table.
-    pub(crate) fn count(&self, table: usize) -> usize {
-        self.counts.get(table).copied().unwrap_or(0)
-    }
-
-    // Whether a section keeps the order.
-    fn has_sections(&self) -> bool {
-        self.counts.iter().any(|count| *count > 0)
+    /// How many sections of two trains keep the order in the table with a number.
+    pub(crate) fn count(&self, table: &Table, number: usize) -> usize {
+        let mut steps: usize = 0;
+        for before in 0..last_in(table, self.second) {
+            if self.stair(number, before.saturating_add(1)) > self.stair(number, before) {
+                steps = steps.saturating_add(1);
+            }
+        }
+        steps.saturating_add(STEPS - 1) / STEPS
     }
 
     // How far the train that leads must be for a place of the other.
     fn stair(&self, table: usize, follower: u32) -> u32 {
-        stair(&self.stairs, table, follower)
+        let back = (PLACES - 1).saturating_sub(follower) as usize;
+        let number = table.saturating_mul(128).saturating_add(back);
+        self.stairs.get(number).copied().unwrap_or(PLACES)
     }
 
     /// Where it must be further than for the place before, up to the last place of the train that follows.
@@ -99,15 +102,6 @@ impl Order {
             }
         }
         Ok(steps)
-    }
-
-    /// The sum of these places: the greater, the more the order forbids.
-    pub(crate) fn weight(&self) -> u32 {
-        let mut weight: u32 = 0;
-        for least in &self.stairs {
-            weight = weight.saturating_add(*least);
-        }
-        weight
     }
 
     // Whether the order follows in a table from that of the leader and a train between, and that of this train and the follower.
@@ -138,12 +132,6 @@ impl Order {
     }
 }
 
-fn stair(stairs: &[u32], table: usize, follower: u32) -> u32 {
-    let back = (PLACES - 1).saturating_sub(follower) as usize;
-    let number = table.saturating_mul(128).saturating_add(back);
-    stairs.get(number).copied().unwrap_or(PLACES)
-}
-
 // The least place of the train that leads in a pair with a place of the other.
 fn least_leader(grid: &Grid, follower: u32) -> u32 {
     for place in 0..PLACES {
@@ -154,68 +142,66 @@ fn least_leader(grid: &Grid, follower: u32) -> u32 {
     PLACES
 }
 
-// Adds the staircase of a set.
-fn add_stairs(stairs: &mut Vec<u32>, grid: &Grid) -> Result<(), AllocError> {
+// Adds the staircase of a set to a list, and its places to their sum.
+fn add_stairs(stairs: &mut Vec<u32>, grid: &Grid, weight: &mut u32) -> Result<(), AllocError> {
     let mut so_far = PLACES;
     for back in 0..PLACES {
         so_far = so_far.min(least_leader(grid, PLACES - 1 - back));
+        *weight = weight.saturating_add(so_far);
         stairs.push(so_far)?;
     }
     Ok(())
 }
 
-fn stairs_of(alloc: Global, grids: &[Grid]) -> Result<Vec<u32>, AllocError> {
+// The staircases of sets, and the sum of their places.
+fn stairs_of(alloc: Global, grids: &[Grid], weight: &mut u32) -> Result<Vec<u32>, AllocError> {
     let mut stairs = Vec::new(alloc);
     for grid in grids {
-        add_stairs(&mut stairs, grid)?;
+        add_stairs(&mut stairs, grid, weight)?;
     }
     Ok(stairs)
 }
 
-// How many steps a staircase has up to the last place of the train that follows.
-fn count_steps(stairs: &[u32], table: usize, last: u32) -> usize {
-    let mut count: usize = 0;
-    for before in 0..last {
-        if stair(stairs, table, before.saturating_add(1)) > stair(stairs, table, before) {
-            count = count.saturating_add(1);
-        }
-    }
-    count
-}
-
-// How many sections of two trains keep an order, table by table.
-fn counts_of(
-    alloc: Global,
-    tables: &[Table],
-    stairs: &[u32],
-    second: u32,
-) -> Result<Vec<usize>, AllocError> {
-    let mut counts = Vec::new(alloc);
-    for (number, table) in tables.iter().enumerate() {
-        let steps = count_steps(stairs, number, last_in(table, second));
-        counts.push(steps.saturating_add(STEPS - 1) / STEPS)?;
-    }
-    Ok(counts)
-}
-
 // The order of a train that leads and one that follows.
 fn order_of(alloc: Global, sought: Sought<'_>, trains: Two) -> Result<Order, AllocError> {
+    let mut weight = 0;
     let grids = grids_of(alloc, sought, trains)?;
-    let stairs = stairs_of(alloc, &grids)?;
-    let counts = counts_of(alloc, sought.tables, &stairs, trains.second)?;
+    let stairs = stairs_of(alloc, &grids, &mut weight)?;
     Ok(Order {
         first: trains.first,
         second: trains.second,
         grids,
         stairs,
-        counts,
+        weight,
         of_run: sought.run.is_some(),
-        is_needed: false,
-        is_kept: false,
+        is_marked: false,
     })
 }
 
-/// Adds the order of a train that leads and one that follows, if the tracks or the run force one.
+// Whether an order has a section in some table.
+fn has_sections(tables: &[Table], order: &Order) -> bool {
+    for number in 0..tables.len() {
+        if order.count(&tables[number], number) > 0 {
+            return true;
+        }
+    }
+    false
+}
+
+// The number in a list, the strongest orders first, before which an order stands: behind all that are no weaker.
+fn place_among(orders: &[Order], order: &Order) -> usize
+    ensures { result ≤ length orders.now }
+{
+    for number in 0..orders.len() {
+        let other = &orders[number];
+        if other.weight < order.weight {
+            return number;
+        }
+    }
+    orders.len()
+}
+
+/// Adds the order of a train that leads and one that follows to a list, the strongest orders first, if the tracks or the run force one.
 pub(crate) fn add_order(
     alloc: Global,
     sought: Sought<'_>,
@@ -223,8 +209,9 @@ pub(crate) fn add_order(
     orders: &mut Vec<Order>,
 ) -> Result<(), AllocError> {
     let order = order_of(alloc, sought, trains)?;
-    if order.has_sections() {
-        orders.push(order)?;
+    if has_sections(sought.tables, &order) {
+        let place = place_among(orders, &order);
+        orders.insert(place, order)?;
     }
     Ok(())
 }

@@ -1,12 +1,10 @@
 // Chains that are joined, so that fewer sections keep the same orders. A join is taken only if trains that aren't neighbours in the chain
 // never have shares at one time, and all that the orders forbid stays forbidden. Shares only get less, so neighbours stay within the limit.
-use crate::chains::{Chain, LIMIT, Link, Members, SHARES, chains_of_two, share_at};
-use crate::order::STEPS;
-use crate::search::{PLACES, Two};
+use crate::chains::{Chain, LIMIT, Link, SHARES, chains_of_two, share_at, train_at};
+use crate::search::PLACES;
 use crate::{Grid, Order};
 use rail_model::Table;
 use std::alloc::{AllocError, Global};
-use std::mem;
 
 // Of more sections of a table than these it isn't tried to pack them.
 const MOST_UNPACKED: usize = 256;
@@ -20,16 +18,6 @@ struct Kept<'a> {
     number: usize,
     orders: &'a [Order],
     others: &'a [Order],
-}
-
-// The order of two trains.
-fn order_of(orders: &[Order], trains: Two) -> Option<&Order> {
-    for order in orders {
-        if order.first() == trains.first && order.second() == trains.second {
-            return Some(order);
-        }
-    }
-    None
 }
 
 // Whether a train has no share in any pair of a set with a place of another.
@@ -52,29 +40,33 @@ fn shares_fit(first: &[u32], second: &[u32], grid: &Grid) -> bool {
     true
 }
 
-// The pairs that were found of two trains of a chain, the second one behind the first.
-fn grid_of<'a>(kept: Kept<'a>, chain: &Members, first: usize, second: usize) -> Option<&'a Grid> {
-    let trains = Two {
-        first: *chain.trains.get(first)?,
-        second: *chain.trains.get(second)?,
-    };
-    let order = match order_of(kept.orders, trains) {
-        Some(order) => order,
-        None => order_of(kept.others, trains)?,
-    };
-    order.grids().get(kept.number)
+// Whether one of some orders is that of two trains of a chain, the second one behind the first, and at each of its pairs one of them has no
+// share.
+fn fit_one(orders: &[Order], table: usize, chain: &Chain, first: usize, second: usize) -> bool {
+    let (leader, follower) = (
+        train_at(&chain.trains, first),
+        train_at(&chain.trains, second),
+    );
+    for number in 0..orders.len() {
+        let order = &orders[number];
+        if order.first() == leader && order.second() == follower {
+            return match order.grids().get(table) {
+                Some(grid) => shares_fit(chain.shares_at(first), chain.shares_at(second), grid),
+                None => false,
+            };
+        }
+    }
+    false
 }
 
-// Whether at each of these pairs one of the two trains has no share.
-fn two_fit(kept: Kept<'_>, chain: &Members, first: usize, second: usize) -> bool {
-    match grid_of(kept, chain, first, second) {
-        Some(grid) => shares_fit(chain.shares_at(first), chain.shares_at(second), grid),
-        None => false,
-    }
+// Whether one of all orders is.
+fn two_fit(kept: Kept<'_>, chain: &Chain, first: usize, second: usize) -> bool {
+    fit_one(kept.orders, kept.number, chain, first, second)
+        || fit_one(kept.others, kept.number, chain, first, second)
 }
 
 // Whether the shares of a train of a chain fit those of the trains from a place in it on.
-fn train_fits(kept: Kept<'_>, chain: &Members, first: usize, from: usize) -> bool {
+fn train_fits(kept: Kept<'_>, chain: &Chain, first: usize, from: usize) -> bool {
     for second in from..chain.trains.len() {
         if !two_fit(kept, chain, first, second) {
             return false;
@@ -84,7 +76,7 @@ fn train_fits(kept: Kept<'_>, chain: &Members, first: usize, from: usize) -> boo
 }
 
 // Whether the shares of the trains before a place of a chain fit those of the trains behind it. They aren't neighbours.
-fn fits(kept: Kept<'_>, chain: &Members, place: usize) -> bool {
+fn fits(kept: Kept<'_>, chain: &Chain, place: usize) -> bool {
     for first in 0..place {
         if !train_fits(kept, chain, first, place.saturating_add(1)) {
             return false;
@@ -101,7 +93,7 @@ struct Shares<'a> {
 }
 
 impl<'a> Shares<'a> {
-    fn of(chain: &'a Members, order: &Order) -> Shares<'a> {
+    fn of(chain: &'a Chain, order: &Order) -> Shares<'a> {
         Shares {
             leader: chain.shares_of(order.first()),
             follower: chain.shares_of(order.second()),
@@ -116,8 +108,8 @@ impl<'a> Shares<'a> {
 
 // Whether one of some chains forbids two trains to be at these places.
 fn one_forbids(chains: &[Shares<'_>], leader: u32, follower: u32) -> bool {
-    for shares in chains {
-        if shares.forbid(leader, follower) {
+    for number in 0..chains.len() {
+        if chains[number].forbid(leader, follower) {
             return true;
         }
     }
@@ -153,7 +145,7 @@ struct Join<'a> {
     chains: &'a [Chain],
     first: usize,
     second: usize,
-    joined: &'a Members,
+    joined: &'a Chain,
 }
 
 impl<'a> Join<'a> {
@@ -165,71 +157,53 @@ impl<'a> Join<'a> {
         order: &Order,
     ) -> Result<Vec<Shares<'a>>, AllocError> {
         let mut elsewhere = Vec::new(alloc);
-        for (k, chain) in self.chains.iter().enumerate() {
+        for k in 0..self.chains.len() {
+            let chain = &self.chains[k];
             if k != self.first && k != self.second && chain.keeps(number) {
-                elsewhere.push(Shares::of(&chain.members, order))?;
+                elsewhere.push(Shares::of(chain, order))?;
             }
         }
         Ok(elsewhere)
     }
 }
 
-// Whether all that a chain forbids by a link of it stays forbidden after a join.
-fn link_stays(
+// Whether all that a chain forbids by the order with a number stays forbidden after a join.
+fn order_stays(
     alloc: Global,
     kept: Kept<'_>,
     join: Join<'_>,
     before: &Chain,
-    link: Option<&Link>,
+    number: usize,
 ) -> Result<bool, AllocError> {
-    let Some(link) = link else {
-        return Ok(false);
-    };
-    let Some(order) = kept.orders.get(link.order) else {
-        return Ok(false);
-    };
-    let elsewhere = join.elsewhere(alloc, link.order, order)?;
-    let before = Shares::of(&before.members, order);
-    let after = Shares::of(join.joined, order);
-    Ok(all_stays(before, after, &elsewhere))
+    match kept.orders.get(number) {
+        Some(order) => {
+            let elsewhere = join.elsewhere(alloc, number, order)?;
+            let after = Shares::of(join.joined, order);
+            Ok(all_stays(Shares::of(before, order), after, &elsewhere))
+        }
+        None => Ok(false),
+    }
 }
 
 // Whether two chains have no train in common but the one at which they are joined.
 fn are_disjoint(first: &[u32], second: &[u32]) -> bool {
     let mut common: u32 = 0;
-    for train in first {
-        if second.contains(train) {
+    for number in 0..first.len() {
+        if second.contains(&first[number]) {
             common = common.saturating_add(1);
         }
     }
     common == 1
 }
 
-// The place from which on the last train of a chain has the whole limit: where it passes the last of four steps.
-fn rises_at(chain: &Chain) -> Option<u32> {
-    let step = chain.links.last()?.steps.get(STEPS - 1)?;
-    Some(step.follower)
-}
-
-// The place from which on the first train of a chain hasn't the whole limit, if it comes there.
-fn falls_at(chain: &Chain) -> Option<u32> {
-    let step = chain.links.first()?.steps.first()?;
-    if step.leader < PLACES {
-        Some(step.leader)
-    } else {
-        None
-    }
-}
-
 // The place where the share of a train falls for its follower, if it stands last in one chain and first in another, and rises for its leader
-// before that.
-fn meets_at(first: &Chain, second: &Chain) -> Option<u32> {
-    let rises = rises_at(first)?;
-    let falls = falls_at(second)?;
-    let meets = first.trains().last() == second.trains().first()
-        && rises < falls
-        && are_disjoint(first.trains(), second.trains());
-    if meets { Some(falls) } else { None }
+// before that; else one that no train comes to.
+fn meets_at(first: &Chain, second: &Chain) -> u32 {
+    let last = train_at(&first.trains, first.trains.len().saturating_sub(1));
+    let meets = first.rises < second.falls
+        && last == train_at(&second.trains, 0)
+        && are_disjoint(&first.trains, &second.trains);
+    if meets { second.falls } else { PLACES }
 }
 
 // A list from a number on.
@@ -250,15 +224,35 @@ fn lessen(shares: &mut [u32], from: usize, others: &[u32]) {
     }
 }
 
-// Two chains one behind the other: the last train of the first one is the first of the second, with the lesser of its shares.
-fn join_of(alloc: Global, first: &Members, second: &Members) -> Result<Members, AllocError> {
-    let mut trains = Vec::from_slice(alloc, &first.trains)?;
-    trains.extend_from_slice(tail(&second.trains, 1))?;
-    let mut shares = Vec::from_slice(alloc, &first.shares)?;
+// Two lists, one behind the other.
+fn both(alloc: Global, first: &[u32], second: &[u32]) -> Result<Vec<u32>, AllocError> {
+    let mut list = Vec::from_slice(alloc, first)?;
+    list.extend_from_slice(second)?;
+    Ok(list)
+}
+
+// Two chains one behind the other, without their links: the last train of the first one is the first of the second, with the lesser of its
+// shares.
+fn join_of(alloc: Global, first: &Chain, second: &Chain) -> Result<Chain, AllocError> {
+    let trains = both(alloc, &first.trains, tail(&second.trains, 1))?;
+    let mut shares = both(alloc, &first.shares, tail(&second.shares, SHARES))?;
     let from = first.shares.len().saturating_sub(SHARES);
     lessen(&mut shares, from, &second.shares);
-    shares.extend_from_slice(tail(&second.shares, SHARES))?;
-    Ok(Members { trains, shares })
+    Ok(Chain {
+        trains,
+        shares,
+        falls: first.falls,
+        rises: second.rises,
+        links: Vec::new(alloc),
+    })
+}
+
+// The numbers of the orders of the last link of one chain, and of the first link of another.
+fn joined_orders(first: &Chain, second: &Chain) -> (usize, usize) {
+    match (first.links.last(), second.links.first()) {
+        (Some(last), Some(link)) => (last.order, link.order),
+        _ => (usize::MAX, usize::MAX),
+    }
 }
 
 // Whether a join is permitted. Only the train at which the chains are joined has lesser shares than before.
@@ -266,28 +260,58 @@ fn is_permitted(
     alloc: Global,
     kept: Kept<'_>,
     join: Join<'_>,
-    leading: &Chain,
-    following: &Chain,
+    first: &Chain,
+    second: &Chain,
 ) -> Result<bool, AllocError> {
+    let (last, next) = joined_orders(first, second);
     Ok(
-        fits(kept, join.joined, leading.links.len())
-            && link_stays(alloc, kept, join, leading, leading.links.last())?
-            && link_stays(alloc, kept, join, following, following.links.first())?,
+        fits(kept, join.joined, first.links.len())
+            && order_stays(alloc, kept, join, first, last)?
+            && order_stays(alloc, kept, join, second, next)?,
     )
 }
 
-// A chain with another one behind it, if the join is permitted.
+// Moves the links of the chain with a number to a list, and leaves it without trains.
+fn take_links(
+    chains: &mut [Chain],
+    number: usize,
+    links: &mut Vec<Link>,
+) -> Result<(), AllocError> {
+    if let Some(chain) = chains.get_mut(number) {
+        links.append(&mut chain.links)?;
+        chain.trains.truncate(0);
+    }
+    Ok(())
+}
+
+// Puts joined chains in the place of the first of them, and leaves one without trains in the place of the second.
+fn put_joined(
+    chains: &mut [Chain],
+    first: usize,
+    second: usize,
+    joined: Chain,
+) -> Result<(), AllocError> {
+    let mut joined = joined;
+    take_links(chains, first, &mut joined.links)?;
+    take_links(chains, second, &mut joined.links)?;
+    if let Some(chain) = chains.get_mut(first) {
+        *chain = joined;
+    }
+    Ok(())
+}
+
+// Two chains of a list one behind the other, without their links, if the join is permitted.
 fn permitted(
     alloc: Global,
     kept: Kept<'_>,
     chains: &[Chain],
     first: usize,
     second: usize,
-) -> Result<Option<Members>, AllocError> {
+) -> Result<Option<Chain>, AllocError> {
     let (Some(leading), Some(following)) = (chains.get(first), chains.get(second)) else {
         return Ok(None);
     };
-    let joined = join_of(alloc, &leading.members, &following.members)?;
+    let joined = join_of(alloc, leading, following)?;
     let join = Join {
         chains,
         first,
@@ -301,36 +325,17 @@ fn permitted(
     }
 }
 
-// Puts joined chains in the place of the first of them, and leaves one without links in the place of the second.
-fn put_joined(
-    alloc: Global,
-    chains: &mut Vec<Chain>,
-    first: usize,
-    second: usize,
-    joined: Members,
-) -> Result<(), AllocError> {
-    let mut links = match chains.get_mut(second) {
-        Some(following) => mem::replace(&mut following.links, Vec::new(alloc)),
-        None => Vec::new(alloc),
-    };
-    if let Some(leading) = chains.get_mut(first) {
-        leading.members = joined;
-        leading.links.append(&mut links)?;
-    }
-    Ok(())
-}
-
 // Joins a chain with another one behind it, if that is permitted.
 fn join_two(
     alloc: Global,
     kept: Kept<'_>,
-    chains: &mut Vec<Chain>,
+    chains: &mut [Chain],
     first: usize,
     second: usize,
 ) -> Result<bool, AllocError> {
     match permitted(alloc, kept, chains, first, second)? {
         Some(joined) => {
-            put_joined(alloc, chains, first, second, joined)?;
+            put_joined(chains, first, second, joined)?;
             Ok(true)
         }
         None => Ok(false),
@@ -341,7 +346,7 @@ fn join_two(
 #[derive(Clone, Copy)]
 struct Candidate {
     second: usize,
-    meets: usize,
+    meets: u32,
 }
 
 impl Candidate {
@@ -351,33 +356,29 @@ impl Candidate {
     }
 }
 
-// The first chain that may be joined behind one and is tried later than some other.
-fn next_candidate(chains: &[Chain], leading: &Chain, tried: Candidate) -> Option<Candidate> {
+// The first chain that may be joined behind one and is tried later than some other; one that meets it nowhere, if there is none.
+fn next_candidate(chains: &[Chain], first: usize, tried: Candidate) -> Candidate {
     let mut next = Candidate {
-        second: chains.len(),
-        meets: SHARES,
+        second: 0,
+        meets: PLACES,
     };
-    for (second, following) in chains.iter().enumerate() {
-        if let Some(meets) = meets_at(leading, following) {
-            let meets = meets as usize;
+    for second in 0..chains.len() {
+        if first < chains.len() {
+            let meets = meets_at(&chains[first], &chains[second]);
             let found = Candidate { second, meets };
             if tried.is_before(found) && found.is_before(next) {
                 next = found;
             }
         }
     }
-    if next.meets < SHARES {
-        Some(next)
-    } else {
-        None
-    }
+    next
 }
 
 // Joins a chain with the first of those behind it with which that is permitted. Each try is counted.
 fn extend(
     alloc: Global,
     kept: Kept<'_>,
-    chains: &mut Vec<Chain>,
+    chains: &mut [Chain],
     first: usize,
     tries: &mut usize,
 ) -> Result<bool, AllocError> {
@@ -386,30 +387,23 @@ fn extend(
         meets: 0,
     };
     for _ in 0..chains.len() {
-        let Some(next) = candidate_behind(chains, first, tried) else {
-            return Ok(false);
-        };
-        if *tries >= MOST_TRIES {
+        tried = next_candidate(chains, first, tried);
+        if tried.meets >= PLACES || *tries >= MOST_TRIES {
             return Ok(false);
         }
         *tries += 1;
-        if join_two(alloc, kept, chains, first, next.second)? {
+        if join_two(alloc, kept, chains, first, tried.second)? {
             return Ok(true);
         }
-        tried = next;
     }
     Ok(false)
-}
-
-fn candidate_behind(chains: &[Chain], first: usize, tried: Candidate) -> Option<Candidate> {
-    next_candidate(chains, chains.get(first)?, tried)
 }
 
 // Joins a chain with those behind it.
 fn extend_all(
     alloc: Global,
     kept: Kept<'_>,
-    chains: &mut Vec<Chain>,
+    chains: &mut [Chain],
     first: usize,
     tries: &mut usize,
 ) -> Result<(), AllocError> {
@@ -422,7 +416,7 @@ fn extend_all(
 }
 
 // Joins all chains with those behind them.
-fn join_all(alloc: Global, kept: Kept<'_>, chains: &mut Vec<Chain>) -> Result<(), AllocError> {
+fn join_all(alloc: Global, kept: Kept<'_>, chains: &mut [Chain]) -> Result<(), AllocError> {
     let mut tries = 0;
     for first in 0..chains.len() {
         extend_all(alloc, kept, chains, first, &mut tries)?;
@@ -430,13 +424,26 @@ fn join_all(alloc: Global, kept: Kept<'_>, chains: &mut Vec<Chain>) -> Result<()
     Ok(())
 }
 
-/// The chains that keep orders in the table with a number, joined if they aren't too many.
-pub(crate) fn packed(
+// Takes out the chains without trains.
+fn drop_empty(chains: &mut Vec<Chain>) {
+    let mut number: usize = 0;
+    for _ in 0..chains.len() {
+        if number < chains.len() && chains[number].trains.is_empty() {
+            chains.remove(number);
+        } else {
+            number = number.saturating_add(1);
+        }
+    }
+}
+
+/// The chains that keep orders in the table with a number; joined, if that is wanted and they aren't too many.
+pub(crate) fn chains_of(
     alloc: Global,
     table: &Table,
     number: usize,
     orders: &[Order],
     others: &[Order],
+    are_joined: bool,
 ) -> Result<Vec<Chain>, AllocError> {
     let kept = Kept {
         number,
@@ -444,9 +451,9 @@ pub(crate) fn packed(
         others,
     };
     let mut chains = chains_of_two(alloc, table, number, orders)?;
-    if chains.len() <= MOST_UNPACKED {
+    if are_joined && chains.len() <= MOST_UNPACKED {
         join_all(alloc, kept, &mut chains)?;
-        chains.retain(|chain| !chain.links.is_empty());
+        drop_empty(&mut chains);
     }
     Ok(chains)
 }

@@ -1,59 +1,70 @@
 // When the trains of a run came to their places, and what that says of two of them.
 use crate::grid::set;
-use crate::search::{Two, last_in, point_in};
+use crate::search::{PLACES, Two, last_in, point_in};
 use rail_model::{Line, State, Table};
 use std::alloc::{AllocError, Global};
 
 // No line of a run.
 const NEVER: u32 = u32::MAX;
 
-/// For each train, the lines of a run by which it came to its places, one after the other. To those up to its start it came before the first
+/// For each train, the lines of a run by which it came to its places, 128 of each train. To those up to its start it came before the first
 /// line.
 #[derive(Drop)]
 pub(crate) struct Visits {
-    lines: Vec<Vec<u32>>,
+    lines: Vec<u32>,
 }
 
-// A train that comes to the places up to its start before the first line.
-fn begun_at(alloc: Global, place: u32) -> Result<Vec<u32>, AllocError> {
-    let mut lines = Vec::new(alloc);
-    for _ in 0..=place {
-        lines.push(0)?;
+// The number of a train's place in such a list.
+fn number_of(train: u32, place: u32) -> usize {
+    train as usize * 128 + place as usize
+}
+
+// Notes by which line a train comes to its next place.
+fn note(lines: &mut [u32], train: u32, line: u32) {
+    for place in 0..PLACES {
+        if let Some(reached) = lines.get_mut(number_of(train, place)) {
+            if *reached == NEVER {
+                *reached = line;
+                return;
+            }
+        }
     }
-    Ok(lines)
+}
+
+// Notes that a train comes to the places up to its start before the first line.
+fn note_start(lines: &mut [u32], train: u32, place: u32) {
+    for _ in 0..=place {
+        note(lines, train, 0);
+    }
 }
 
 impl Visits {
     /// The visits of a run from a start.
     pub(crate) fn new(alloc: Global, start: &State, run: &[Line]) -> Result<Visits, AllocError> {
-        let mut lines = Vec::new(alloc);
+        let trains = start.as_slice().len();
+        let mut lines = vec![in alloc; NEVER; trains.saturating_mul(128)]?;
+        let mut train: u32 = 0;
         for place in start.as_slice() {
-            lines.push(begun_at(alloc, *place)?)?;
+            note_start(&mut lines, train, *place);
+            train = train.saturating_add(1);
         }
-        let mut visits = Visits { lines };
         let mut number: u32 = 0;
         for line in run {
             number = number.saturating_add(1);
-            visits.note(number, line)?;
-        }
-        Ok(visits)
-    }
-
-    // Notes the line with a number.
-    fn note(&mut self, number: u32, line: &Line) -> Result<(), AllocError> {
-        if let Line::Move { train, .. } = *line {
-            if let Some(lines) = self.lines.get_mut(train as usize) {
-                lines.push(number)?;
+            if let Line::Move { train, .. } = *line {
+                note(&mut lines, train, number);
             }
         }
-        Ok(())
+        Ok(Visits { lines })
     }
 
     // The line by which a train came to a place.
     fn reached(&self, train: u32, place: u32) -> u32 {
-        match self.lines.get(train as usize) {
-            Some(lines) => lines.get(place as usize).copied().unwrap_or(NEVER),
-            None => NEVER,
+        if place < PLACES {
+            let number = number_of(train, place);
+            self.lines.get(number).copied().unwrap_or(NEVER)
+        } else {
+            NEVER
         }
     }
 
