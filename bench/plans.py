@@ -148,7 +148,8 @@ def lengths():
         for leaves in ({}, {"exit": False}, {"exit": True}):
             fits = is_right and places + leaves.get("exit", False) <= 128
             yield {"train": [{**train, **leaves}]}, fits
-            yield {"train": [{"name": "T0", "route": ["A"]}], "table": [{"after": 1, "train": [{**train, **leaves}]}]}, fits
+            table = {"after": 1, "train": [{**train, **leaves}]}
+            yield {"train": [{"name": "T0", "route": ["A"]}], "table": [table]}, fits
 
 
 def numbers():
@@ -158,7 +159,8 @@ def numbers():
     zoned = {"train": [{"name": "T0", "route": [f"P{k}" for k in range(16)]}], "zones": {str(k): [f"P{k}"] for k in range(16)}}
     ranges = [(("section", 3, "limit"), 0, 128), (("section", 3, "weight"), 0, 4), (("section", 3, "weight", "T0"), 0, 4)]
     ranges += [(("section", 3, "weight", ""), 0, 4), (("train", 1, "times"), 1, 1000), (("train", 0, "times", "default"), 1, 1000)]
-    ranges += [(("train", 0, "times", "L1 S"), 1, 1000), (("table", 0, "train", 0, "times"), 1, 1000), (("table", 0, "after"), 0, 1_000_000)]
+    ranges += [(("train", 0, "times", "L1 S"), 1, 1000), (("table", 0, "train", 0, "times"), 1, 1000)]
+    ranges += [(("table", 0, "after"), 0, 1_000_000)]
     for path, least, most in ranges:
         if path[:3] == ("section", 3, "weight"):
             plan["section"][3]["weight"] = {}

@@ -32,12 +32,13 @@ SECTION = {"limit": 1, "changes": [[0, 1, -1]]}
 SHAPE = re.compile(
     r'" takes .*, and this is of type |"zones" takes a table|" is missing$|: no key "|: this is no table of keys$|: the route is empty$|'
     r"a (time|limit|weight) is \d+ to \d+, and this is |a table is due after 0 to 1000000 moves, and this is |: there is no train$|"
-    r'" is no (name: 1 to 16|zone: they are|link: two points)|^line \d+: train .*: the route has \d+ places|one (train|section|connection|table) too many'
+    r'" is no (name: 1 to 16|zone: they are|link: two points)|^line \d+: train .*: the route has \d+ places|'
+    r"one (train|section|connection|table) too many"
 )
 MEANING = re.compile(
     r': no (point|train) "|" is no step of the route$|" is not on the route of train "|" comes more than once on the route of train "|'
     r'" comes twice in a row$|" is the name of an earlier train too$|: starts at "|: without an exit it ends at "|" is never left: |'
-    r'" is changed twice by this table$|: a train doesn\'t wait for itself$|: no train of this section comes to "|" alone takes \d+ of \d+$|'
+    r'" is changed twice by this table$|: a train doesn\'t wait for itself$|: no train of this section comes to "| alone takes \d+ of \d+$|'
     r": at the start \d+ of \d+ are taken, |: no line goes from \"|\" is in a zone already$|: zone \d+ has no point, and zone \d+ has$|"
     r"table \d+, train .*: the route has \d+ places|: there are more faults than these$"
 )
@@ -147,7 +148,7 @@ class Plans:
         if verdict == "taken" and not takes:
             error = next(self.validator.iter_errors(plan))
             self.tell(text, f"planner takes it, the schema doesn't: {error.json_path}: {error.message[:120]}")
-        if verdict == "shape" and takes or verdict == "float" and takes and not has_whole_float(plan):
+        if takes and (verdict == "shape" or verdict == "float" and not has_whole_float(plan)):
             self.tell(text, "planner refuses its shape, the schema takes it")
         if is_right is not None and is_right != (verdict == "taken"):
             self.tell(text, f"planner should {'take' if is_right else 'refuse'} it")
