@@ -155,7 +155,7 @@ def lengths():
 def numbers():
     """Plans with numbers and names in range and out of it, and whether they may be there."""
     plan = tomllib.loads(EVERY_KEY)
-    plan["section"].append({"limit": 128, "points": []})
+    plan["section"].append({"limit": 4, "points": []})
     zoned = {"train": [{"name": "T0", "route": [f"P{k}" for k in range(16)]}], "zones": {str(k): [f"P{k}"] for k in range(16)}}
     ranges = [(("section", 3, "limit"), 0, 128), (("section", 3, "weight"), 0, 4), (("section", 3, "weight", "T0"), 0, 4)]
     ranges += [(("section", 3, "weight", ""), 0, 4), (("train", 1, "times"), 1, 1000), (("train", 0, "times", "default"), 1, 1000)]

@@ -187,7 +187,7 @@ def main():
     number, faults = documents_told(command_of(asked.ats, "ats"))
     print(f"{number} documents, {len(faults)} faults")
     told = plans_told(command_of(asked.planner, "planner"), asked.cases)
-    print("\n".join(faults + told.faults[:20]), end="\n" if faults or told.faults else "")
+    print("\n".join(faults + told.faults[:5]), end="\n" if faults or told.faults else "")
     print("; ".join(f"{words}: {count}" for words, count in sorted(told.counts.items())))
     print(f"{sum(told.counts.values())} plans, {len(told.faults)} faults")
     return 1 if faults or told.faults else 0
