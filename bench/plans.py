@@ -96,8 +96,8 @@ def toml_of(plan):
 
 
 def rows_of_the_tests():
-    """The plans in the rows of planner_tests."""
-    for file in sorted((ROOT / "crates" / "planner_tests" / "src").glob("*.rt")):
+    """The plans in the rows of call_tests."""
+    for file in sorted((ROOT / "crates" / "call_tests" / "src").glob("planner_*.rt")):
         for name, text in re.findall(r'const (\w+): &str =\s*r##"(.*?)"##;', file.read_text(), re.DOTALL):
             if name == "CORRIDOR":
                 corridor = text.split("\n")
@@ -109,7 +109,7 @@ def rows_of_the_tests():
 
 
 def changed(lines, changes):
-    """The corridor of planner_tests with some of its lines changed, as a row there says it."""
+    """The corridor of call_tests with some of its lines changed, as a row there says it."""
     lines = dict(enumerate(lines, 1))
     for change in changes.split(";"):
         number, _, line = change.partition(":")

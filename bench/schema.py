@@ -7,7 +7,7 @@
 docs/document.schema.json has to take each example, and to refuse documents that `ats` refuses too. docs/plan.schema.json has to take each
 plan that `planner plan` takes, and to refuse each that it refuses for its shape: for a key that is unknown or missing, a value of a wrong
 type, or a name, a number or a length out of range. A plan that is refused for its meaning alone it may take: what a name stands for no
-schema knows. The plans are those of plans.py: the examples, those of planner_tests, some at the limits, and mutations of these, which are
+schema knows. The plans are those of plans.py: the examples, those of call_tests, some at the limits, and mutations of these, which are
 the same at each call. It ends with 1 if there is a fault.
 """
 import argparse
