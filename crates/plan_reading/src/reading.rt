@@ -90,7 +90,7 @@ fn read_table(alloc: Global, text: &str, table: &Table) -> Result<PlanRead, Allo
     let mut faults = Faults::new(alloc, text)?;
     let top = Entry::part(Kind::Top, Some(table));
     check_types(&mut faults, &top);
-    let plan = plan_of(alloc, &mut faults, &top)?;
+    let plan = plan_of(&mut faults, &top);
     if faults.is_empty() && agrees(alloc, table, &plan)? {
         return Ok(PlanRead::Plan(plan));
     }
