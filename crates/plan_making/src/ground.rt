@@ -119,7 +119,7 @@ fn has_point(zones: &[Option<u32>], number: u32) -> bool {
 
 // Tells that a zone has no point, though a greater one has.
 fn tell_gap(faults: &mut Faults, zone: u32, most: u32) {
-    let parts = [Part::Number(i64::from(zone)), Part::Number(i64::from(most))];
+    let parts = [Part::Number(zone as i64), Part::Number(most as i64)];
     let form = "zone {} has no point, and zone {} has";
     faults.tell(&Entry::part(Kind::Zones, None), form, &parts);
 }
@@ -264,16 +264,18 @@ impl<'t> Ground<'t> {
     fn add_routes(&mut self, faults: &mut Faults, trains: &Entries<'t>) {
         for index in 0..trains.values.len() {
             let train = trains.entry(index);
-            let route = train.names("route").unwrap_or(&[]);
-            self.add_chain(faults, &train, "route", route);
+            if let Some(route) = train.names("route") {
+                self.add_chain(faults, &train, "route", route);
+            }
         }
     }
 
     // Adds the points and links of the lines of a plan.
     fn add_lines(&mut self, faults: &mut Faults, top: &Entry<'t>) {
         for line in top.values("lines") {
-            let points = names_of(line).unwrap_or(&[]);
-            self.add_chain(faults, top, "lines", points);
+            if let Some(points) = names_of(line) {
+                self.add_chain(faults, top, "lines", points);
+            }
         }
     }
 
@@ -299,11 +301,14 @@ impl<'t> Ground<'t> {
         }
     }
 
-    // Puts points into the zone that is the key.
-    fn put_all<'x>(&mut self, faults: &mut Faults, at: &Entry<'x>, points: &'x [Value]) {
-        if let Some(zone) = zone_of(faults, at) {
+    // Puts the points that a value names into the zone that is its key.
+    fn put_all<'x>(&mut self, faults: &mut Faults, key: &'x str, value: &'x Value) {
+        let at = Entry::part(Kind::Zones, None).at(key);
+        if let Some(points) = names_of(value)
+            && let Some(zone) = zone_of(faults, &at)
+        {
             for point in points {
-                self.put_one(faults, at, text_of(point), zone);
+                self.put_one(faults, &at, text_of(point), zone);
             }
         }
     }
@@ -312,10 +317,7 @@ impl<'t> Ground<'t> {
     pub fn add_zones(&mut self, faults: &mut Faults, top: &Entry) {
         if let Some(Value::Table(zones)) = top.value("zones") {
             for (zone, value) in zones {
-                if let Some(points) = names_of(value) {
-                    let at = Entry::part(Kind::Zones, None).at(zone.as_str());
-                    self.put_all(faults, &at, points);
-                }
+                self.put_all(faults, zone.as_str(), value);
             }
         }
         if faults.is_empty() {

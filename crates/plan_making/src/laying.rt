@@ -31,8 +31,9 @@ pub(crate) fn add_lines(faults: &mut Faults, top: &Entry, plan: &mut Plan) {
         let points = copied(faults, names_of(line).unwrap_or(&[]));
         push(faults, &mut plan.lines, points);
     }
-    let switches = top.names("switches").unwrap_or(&[]);
-    push_names(faults, &mut plan.switches, switches);
+    if let Some(switches) = top.names("switches") {
+        push_names(faults, &mut plan.switches, switches);
+    }
 }
 
 // Tells that a train would pass a switch as no line does.

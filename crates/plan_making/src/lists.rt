@@ -29,6 +29,13 @@ pub(crate) fn push_name(faults: &mut Faults, names: &mut Vec<String>, name: &str
 }
 
 /// Adds names.
+pub(crate) fn push_all(faults: &mut Faults, names: &mut Vec<String>, all: &[&str]) {
+    for name in all {
+        push_name(faults, names, name);
+    }
+}
+
+/// Adds the names that are these values.
 pub(crate) fn push_names(faults: &mut Faults, names: &mut Vec<String>, values: &[Value]) {
     for value in values {
         push_name(faults, names, text_of(value));

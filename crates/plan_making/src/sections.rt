@@ -1,5 +1,5 @@
 // The sections of a table.
-use crate::lists::{push, push_name, push_names};
+use crate::lists::{push, push_all, push_names};
 use crate::names::{check_count, check_names, find, is_known, tell_of, text_of};
 use crate::ranges::Range;
 use crate::routes::{
@@ -36,9 +36,7 @@ fn add_points(faults: &mut Faults, entry: &Entry, scope: &Scope, plan: &mut Sect
     match entry.names("points") {
         Some(points) => push_names(faults, &mut plan.points, points),
         None => if entry.has_places("from") || entry.has_places("to") {
-            for point in scope.points {
-                push_name(faults, &mut plan.points, point);
-            }
+            push_all(faults, &mut plan.points, scope.points);
         },
     }
 }
@@ -65,17 +63,22 @@ fn check_section_weight(faults: &mut Faults, entry: &Entry, trains: &[&str]) {
     }
 }
 
-// Whether a section concerns a train.
-fn is_concerned(entry: &Entry, train: &str) -> bool {
-    let Some(only) = entry.names("only") else {
-        return true;
-    };
-    for name in only {
+// Whether one of these names is that of a train.
+fn has_train(names: &[Value], train: &str) -> bool {
+    for name in names {
         if text_of(name) == train {
             return true;
         }
     }
     false
+}
+
+// Whether a section concerns a train.
+fn is_concerned(entry: &Entry, train: &str) -> bool {
+    match entry.names("only") {
+        Some(only) => has_train(only, train),
+        None => true,
+    }
 }
 
 // The weight for all trains: 1, if none is given.
@@ -213,8 +216,8 @@ fn most_share(section: &SectionPlan, route: &[String], train: usize) -> u8 {
 fn tell_alone(faults: &mut Faults, entry: &Entry, train: &str, share: u32, limit: u32) {
     let parts = [
         Part::Name(train),
-        Part::Number(i64::from(share)),
-        Part::Number(i64::from(limit)),
+        Part::Number(share as i64),
+        Part::Number(limit as i64),
     ];
     faults.tell(&entry.at("limit"), "train {} alone takes {} of {}", &parts);
 }
@@ -314,8 +317,8 @@ fn push_taken(
 // Tells that a section is over its limit where the trains start.
 fn tell_taken(faults: &mut Faults, entry: &Entry, taken: u32, limit: u32, shares: &str) {
     let parts = [
-        Part::Number(i64::from(taken)),
-        Part::Number(i64::from(limit)),
+        Part::Number(taken as i64),
+        Part::Number(limit as i64),
         Part::Words(shares),
     ];
     let form = "at the start {} of {} are taken{}";

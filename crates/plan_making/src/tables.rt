@@ -2,7 +2,7 @@
 use crate::connections::{number, waits_of};
 use crate::ground::{Ground, greatest};
 use crate::laying::{add_lines, check_laid};
-use crate::lists::{owned, push, push_name};
+use crate::lists::{owned, push, push_all};
 use crate::names::check_count;
 use crate::ranges::Range;
 use crate::routes::Scope;
@@ -126,9 +126,7 @@ fn add_starts(faults: &mut Faults, top: &Entry, ground: &Ground, plan: &mut Plan
 
 // Adds what is named.
 fn add_names(faults: &mut Faults, ground: &Ground, plan: &mut Plan) {
-    for train in &ground.trains {
-        push_name(faults, &mut plan.trains, train);
-    }
+    push_all(faults, &mut plan.trains, &ground.trains);
     for (index, point) in ground.points.iter().enumerate() {
         let point = (owned(faults, point), ground.zone(index));
         push(faults, &mut plan.points, point);

@@ -13,20 +13,15 @@ const TIMES: Range = Range {
     form: "a time is 1 to 1000, and this is {}",
 };
 
-// Whether these are the two points of a step.
-fn is_step(pair: &[Value], one: &str, other: &str) -> bool {
-    match pair {
-        [from, to] => text_of(from) == one && text_of(to) == other,
-        _ => false,
-    }
-}
-
 // Whether a route goes from one point to another in one step.
 fn has_step(route: &[Value], one: &str, other: &str) -> bool {
-    for pair in route.windows(2) {
-        if is_step(pair, one, other) {
+    let mut is_after = false;
+    for value in route {
+        let name = text_of(value);
+        if is_after && name == other {
             return true;
         }
+        is_after = name == one;
     }
     false
 }

@@ -117,33 +117,41 @@ fn check_length(faults: &mut Faults, entry: &Entry, places: usize) {
     }
 }
 
-// Tells a route that is empty or too long.
-fn check_route(faults: &mut Faults, entry: &Entry, service: &Service) {
-    let length = service.route().len();
-    if length == 0 && service.first.names("route").is_some() {
+// Tells a route that is empty.
+fn check_empty(faults: &mut Faults, entry: &Entry, service: &Service) {
+    if service.first.names("route").is_some() {
         tell_key(faults, entry, "route", "the route is empty");
     }
-    let places = length.saturating_add(usize::from(service.exits()));
-    check_length(faults, entry, places);
 }
 
-// Adds to a table what it says of a train.
-fn add_train(faults: &mut Faults, service: &Service, plan: &mut TablePlan) {
+// Tells what is wrong with what a table says of a train.
+fn check_train(
+    faults: &mut Faults,
+    service: &Service,
+    points: &[&str],
+    route: &[Value],
+    exits: bool,
+) {
+    let entry = service.entry();
+    if route.is_empty() {
+        check_empty(faults, &entry, service);
+    }
+    check_length(faults, &entry, route.len().saturating_add(exits as usize));
+    check_times(faults, &entry, points, route);
+}
+
+// Adds to a table what it says of a train; what is wrong with it is reported.
+fn add_train(faults: &mut Faults, service: &Service, points: &[&str], plan: &mut TablePlan) {
+    let route = service.route();
     let exits = service.exits();
-    let route = copied(faults, service.route());
+    check_train(faults, service, points, route, exits);
+    let route = copied(faults, route);
     match times_of(faults.alloc(), service.times(), &route, exits) {
         Ok(times) => push(faults, &mut plan.times, times),
         Err(AllocError) => faults.lose(),
     }
     push(faults, &mut plan.routes, route);
     push(faults, &mut plan.exits, exits);
-}
-
-// Tells what is wrong with what a table says of a train.
-fn check_train(faults: &mut Faults, service: &Service, points: &[&str]) {
-    let entry = service.entry();
-    check_route(faults, &entry, service);
-    check_times(faults, &entry, points, service.route());
 }
 
 /// Adds to a table what it says of the trains; what is wrong with it is reported.
@@ -155,9 +163,7 @@ pub(crate) fn add_trains(
 ) {
     roster.check_changes(faults, &ground.trains);
     for train in 0..ground.trains.len() {
-        let service = roster.service(train);
-        check_train(faults, &service, &ground.points);
-        add_train(faults, &service, plan);
+        add_train(faults, &roster.service(train), &ground.points, plan);
     }
 }
 
