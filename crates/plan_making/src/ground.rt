@@ -117,19 +117,14 @@ fn has_point(zones: &[Option<u32>], number: u32) -> bool {
     false
 }
 
-// Tells that a zone has no point, though a greater one has.
-fn tell_gap(faults: &mut Faults, zone: u32, most: u32) {
-    let parts = [Part::Number(zone as i64), Part::Number(most as i64)];
-    let form = "zone {} has no point, and zone {} has";
-    faults.tell(&Entry::part(Kind::Zones, None), form, &parts);
-}
-
 // Tells each zone that has no point, of those below the greatest.
 fn check_gaps(faults: &mut Faults, zones: &[Option<u32>]) {
     let most = greatest(zones);
     for zone in 0..most.min(MOST_ZONES) {
         if !has_point(zones, zone) {
-            tell_gap(faults, zone, most);
+            let parts = [Part::Number(zone as i64), Part::Number(most as i64)];
+            let form = "zone {} has no point, and zone {} has";
+            faults.tell(&Entry::part(Kind::Zones, None), form, &parts);
         }
     }
 }
@@ -207,26 +202,8 @@ impl<'t> Ground<'t> {
         push(faults, &mut self.zones, None);
     }
 
-    // Adds a link that isn't there.
-    fn add_link(
-        &mut self,
-        faults: &mut Faults,
-        entry: &Entry<'t>,
-        key: &'static str,
-        link: Link<'t>,
-    ) {
-        let count = self.links.len();
-        if count <= MOST_LINKS {
-            if count == MOST_LINKS {
-                let form = "{} has one link too many: 2048 are the most";
-                tell_of(faults, entry, key, link.other, form);
-            }
-            push(faults, &mut self.links, link);
-        }
-    }
-
     // Adds the link to a point from the one before it, unless it is there.
-    fn add_step(
+    fn add_link(
         &mut self,
         faults: &mut Faults,
         entry: &Entry<'t>,
@@ -234,10 +211,15 @@ impl<'t> Ground<'t> {
         one: &'t str,
         other: &'t str,
     ) {
+        let count = self.links.len();
         if one == other {
             tell_of(faults, entry, key, other, "{} comes twice in a row");
-        } else if !is_linked(&self.links, one, other) {
-            self.add_link(faults, entry, key, Link { one, other });
+        } else if count <= MOST_LINKS && !is_linked(&self.links, one, other) {
+            if count == MOST_LINKS {
+                let form = "{} has one link too many: 2048 are the most";
+                tell_of(faults, entry, key, other, form);
+            }
+            push(faults, &mut self.links, Link { one, other });
         }
     }
 
@@ -254,7 +236,7 @@ impl<'t> Ground<'t> {
             let name = text_of(value);
             self.add_point(faults, entry, key, name);
             if let Some(before) = before {
-                self.add_step(faults, entry, key, before, name);
+                self.add_link(faults, entry, key, before, name);
             }
             before = Some(name);
         }

@@ -69,28 +69,23 @@ pub(crate) fn is_place_name(name: &str) -> bool {
     }
 }
 
-// The place at which a point comes for this time, counted from 1.
-fn counted_place(route: &[String], point: &str, count: &str) -> Spot {
-    match count_of(count) {
-        Some(count) => match nth_place(route, point, count.saturating_sub(1)) {
-            Some(place) => Spot::At(place),
-            None => Spot::Nowhere,
-        },
-        None => Spot::Nowhere,
-    }
-}
-
 /// Where a name is on a route: a point, or with `#2` after it the second time that it comes.
 pub(crate) fn find_place(route: &[String], name: &str) -> Spot {
-    if let Some((point, count)) = name.split_once("#") {
-        return counted_place(route, point, count);
-    }
-    match nth_place(route, name, 0) {
-        None => Spot::Nowhere,
-        Some(place) => match nth_place(route, name, 1) {
-            None => Spot::At(place),
-            Some(_) => Spot::Several,
-        },
+    let Some((point, count)) = name.split_once("#") else {
+        return match nth_place(route, name, 0) {
+            Some(place) => match nth_place(route, name, 1) {
+                None => Spot::At(place),
+                Some(_) => Spot::Several,
+            },
+            None => Spot::Nowhere,
+        };
+    };
+    if let Some(count) = count_of(count)
+        && let Some(place) = nth_place(route, point, count.saturating_sub(1))
+    {
+        Spot::At(place)
+    } else {
+        Spot::Nowhere
     }
 }
 

@@ -63,22 +63,17 @@ fn check_section_weight(faults: &mut Faults, entry: &Entry, trains: &[&str]) {
     }
 }
 
-// Whether one of these names is that of a train.
-fn has_train(names: &[Value], train: &str) -> bool {
-    for name in names {
+// Whether a section concerns a train.
+fn is_concerned(entry: &Entry, train: &str) -> bool {
+    let Some(only) = entry.names("only") else {
+        return true;
+    };
+    for name in only {
         if text_of(name) == train {
             return true;
         }
     }
     false
-}
-
-// Whether a section concerns a train.
-fn is_concerned(entry: &Entry, train: &str) -> bool {
-    match entry.names("only") {
-        Some(only) => has_train(only, train),
-        None => true,
-    }
 }
 
 // The weight for all trains: 1, if none is given.

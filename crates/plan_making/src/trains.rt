@@ -117,13 +117,6 @@ fn check_length(faults: &mut Faults, entry: &Entry, places: usize) {
     }
 }
 
-// Tells a route that is empty.
-fn check_empty(faults: &mut Faults, entry: &Entry, service: &Service) {
-    if service.first.names("route").is_some() {
-        tell_key(faults, entry, "route", "the route is empty");
-    }
-}
-
 // Tells what is wrong with what a table says of a train.
 fn check_train(
     faults: &mut Faults,
@@ -133,8 +126,8 @@ fn check_train(
     exits: bool,
 ) {
     let entry = service.entry();
-    if route.is_empty() {
-        check_empty(faults, &entry, service);
+    if route.is_empty() && service.first.names("route").is_some() {
+        tell_key(faults, &entry, "route", "the route is empty");
     }
     check_length(faults, &entry, route.len().saturating_add(exits as usize));
     check_times(faults, &entry, points, route);
