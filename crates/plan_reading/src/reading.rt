@@ -1,5 +1,6 @@
 // A plan from its text.
 ghost use Rattle.std.specs.Prelude.{◌<◌, IfOk, IsTrue, vec_len};
+ghost use Rattle.toml.specs.Data.{Members};
 ghost use Rattle.toml.specs.View.{table_view};
 ghost use Rattle.plan_reading.specs.Said.{IsPlanOf, IsPlanRead, IsReading};
 
@@ -89,6 +90,13 @@ fn all_faults(alloc: Global, faults: Faults) -> Result<Vec<Fault>, AllocError>
     Ok(list)
 }
 
+// What a text with these faults is as a plan.
+fn read_faults(alloc: Global, faults: Faults) -> Result<PlanRead, AllocError>
+    ensures { IfOk result (λ read. (text : Members) → IsReading text read) }
+{
+    Ok(PlanRead::Faults(all_faults(alloc, faults)?))
+}
+
 // Whether no fault was found, and a plan is what its text says.
 fn is_right(alloc: Global, faults: &Faults, table: &Table, plan: &Plan) -> Result<bool, AllocError>
     ensures { IfOk result (λ right. IsTrue right → IsPlanOf (table_view table.now) plan.now) }
@@ -111,7 +119,7 @@ fn read_made(
     if is_right(alloc, &faults, table, &plan)? {
         return Ok(PlanRead::Plan(plan));
     }
-    Ok(PlanRead::Faults(all_faults(alloc, faults)?))
+    read_faults(alloc, faults)
 }
 
 // What a table of keys is as a plan.
