@@ -1,9 +1,10 @@
 // The trains and points of a plan and what links the points, in the order in which they are first named, and zones.
 use crate::laying::lines_of;
-use crate::names::{find, is_known, is_name, text_of};
+use crate::lists::push;
+use crate::names::{check_count, is_known, is_name, number_of, tell_no, tell_of, text_of};
 use crate::routes::count_of;
 use plan_entries::{Entries, Entry, Faults, Kind, Part, names_of};
-use std::alloc::{AllocError, Global};
+use std::alloc::Global;
 use toml::Value;
 
 // How many trains a plan may have.
@@ -49,41 +50,43 @@ pub(crate) struct Ground<'t> {
 // Whether there is a link between two points.
 fn is_linked(links: &[Link<'_>], one: &str, other: &str) -> bool {
     for link in links {
-        if (link.one == one && link.other == other) || (link.one == other && link.other == one) {
+        if link.beyond(one) == Some(other) {
             return true;
         }
     }
     false
 }
 
-// Tells something of the name that a fault is about.
-fn tell_of(faults: &mut Faults, at: &Entry, form: &'static str) {
-    faults.tell(at, form, &[Part::Name(at.name)]);
-}
-
 // Tells what isn't a name.
-fn check_name(faults: &mut Faults, at: &Entry) {
-    if !is_name(at.name) {
-        tell_of(faults, at, "{} is no name: 1 to 16 of A-Z, a-z, 0-9 and _");
+fn check_name<'x>(faults: &mut Faults, entry: &Entry<'x>, key: &'static str, name: &'x str) {
+    if !is_name(name) {
+        let form = "{} is no name: 1 to 16 of A-Z, a-z, 0-9 and _";
+        tell_of(faults, entry, key, name, form);
     }
 }
 
 // The zone whose number is this text.
 fn zone_named(text: &str) -> Option<u32> {
-    let number = if text == "0" { 0 } else { count_of(text)? };
-    match u32::try_from(number) {
-        Ok(zone) if zone < MOST_ZONES => Some(zone),
+    let number = if text == "0" { Some(0) } else { count_of(text) };
+    match number {
+        Some(zone) if zone < MOST_ZONES as usize => Some(zone as u32),
         _ => None,
     }
 }
 
+// Tells something of a name, which stands at the key of a zone.
+fn tell_in<'x>(faults: &mut Faults, zone: &Entry<'x>, name: &'x str, form: &'static str) {
+    faults.tell(&zone.of(name), form, &[Part::Name(name)]);
+}
+
 // The zone whose number is the key; a key that is the number of none is reported.
-fn zone_of(faults: &mut Faults, at: &Entry) -> Option<u32> {
-    let zone = zone_named(at.key);
-    if zone.is_none() {
-        tell_of(faults, at, "{} is no zone: they are numbered from 0 to 15");
+fn zone_of(faults: &mut Faults, zone: &Entry) -> Option<u32> {
+    let found = zone_named(zone.key);
+    if found.is_none() {
+        let form = "{} is no zone: they are numbered from 0 to 15";
+        tell_in(faults, zone, zone.key, form);
     }
-    zone
+    found
 }
 
 // Puts a point into a zone, if it is in none.
@@ -114,19 +117,14 @@ fn has_point(zones: &[Option<u32>], number: u32) -> bool {
     false
 }
 
-// Tells that a zone has no point, though a greater one has.
-fn tell_gap(faults: &mut Faults, zone: u32, most: u32) {
-    let parts = [Part::Number(i64::from(zone)), Part::Number(i64::from(most))];
-    let form = "zone {} has no point, and zone {} has";
-    faults.tell(&Entry::part(Kind::Zones, None), form, &parts);
-}
-
 // Tells each zone that has no point, of those below the greatest.
 fn check_gaps(faults: &mut Faults, zones: &[Option<u32>]) {
     let most = greatest(zones);
     for zone in 0..most.min(MOST_ZONES) {
         if !has_point(zones, zone) {
-            tell_gap(faults, zone, most);
+            let parts = [Part::Number(zone as i64), Part::Number(most as i64)];
+            let form = "zone {} has no point, and zone {} has";
+            faults.tell(&Entry::part(Kind::Zones, None), form, &parts);
         }
     }
 }
@@ -142,169 +140,170 @@ impl<'t> Ground<'t> {
         }
     }
 
-    // Tells a train whose name is none, or is taken.
-    fn check_train(&self, faults: &mut Faults, at: &Entry) {
-        if is_name(at.name) && is_known(&self.trains, at.name) {
-            tell_of(faults, at, "{} is the name of an earlier train too");
+    /// The zone of a point: 0, if it is put into none.
+    pub fn zone(&self, point: usize) -> u32 {
+        match self.zones.get(point) {
+            Some(Some(zone)) => *zone,
+            _ => 0,
         }
-        check_name(faults, at);
+    }
+
+    // Tells a train whose name is none, or is taken.
+    fn check_train<'x>(&self, faults: &mut Faults, train: &Entry<'x>, name: &'x str) {
+        if is_name(name) && is_known(&self.trains, name) {
+            let form = "{} is the name of an earlier train too";
+            tell_of(faults, train, "name", name, form);
+        }
+        check_name(faults, train, "name", name);
     }
 
     // Adds the name of a train; empty for one that has none.
-    fn add_train(&mut self, faults: &mut Faults, train: &Entry<'t>) -> Result<(), AllocError> {
-        let name = train.text("name");
-        if let Some(name) = name {
-            self.check_train(faults, &train.at("name").of(name));
+    fn add_train(&mut self, faults: &mut Faults, train: &Entry<'t>) {
+        match train.text("name") {
+            Some(name) => {
+                self.check_train(faults, train, name);
+                push(faults, &mut self.trains, name);
+            }
+            None => push(faults, &mut self.trains, ""),
         }
-        self.trains.push(name.unwrap_or(""))?;
-        Ok(())
     }
 
     /// Adds the names of the trains.
-    pub fn add_trains(
-        &mut self,
-        faults: &mut Faults,
-        trains: &Entries<'t>,
-    ) -> Result<(), AllocError> {
+    pub fn add_trains(&mut self, faults: &mut Faults, trains: &Entries<'t>) {
         let count = trains.values.len();
         for index in 0..count.min(MOST_TRAINS) {
-            self.add_train(faults, &trains.entry(index))?;
+            self.add_train(faults, &trains.entry(index));
         }
         if count == 0 && faults.is_empty() {
             faults.tell(&Entry::part(Kind::Top, None), "there is no train", &[]);
         }
-        if MOST_TRAINS < count {
-            let form = "this is one train too many: 32 are the most";
-            faults.tell(&trains.entry(MOST_TRAINS), form, &[]);
-        }
-        Ok(())
+        let form = "this is one train too many: 32 are the most";
+        check_count(faults, trains, MOST_TRAINS, form);
     }
 
-    // Adds a point, unless it is there.
-    fn add_point(&mut self, faults: &mut Faults, at: &Entry<'t>) -> Result<(), AllocError> {
+    // Adds a point, in no zone, unless it is there.
+    fn add_point(
+        &mut self,
+        faults: &mut Faults,
+        entry: &Entry<'t>,
+        key: &'static str,
+        name: &'t str,
+    ) {
         let count = self.points.len();
-        if is_known(&self.points, at.name) || KEPT_POINTS <= count {
-            return Ok(());
+        if is_known(&self.points, name) || KEPT_POINTS <= count {
+            return;
         }
-        check_name(faults, at);
+        check_name(faults, entry, key, name);
         if count == MOST_POINTS {
-            tell_of(faults, at, "{} is one point too many: 512 are the most");
+            let form = "{} is one point too many: 512 are the most";
+            tell_of(faults, entry, key, name, form);
         }
-        self.points.push(at.name)?;
-        Ok(())
+        push(faults, &mut self.points, name);
+        push(faults, &mut self.zones, None);
     }
 
     // Adds the link to a point from the one before it, unless it is there.
     fn add_link(
         &mut self,
         faults: &mut Faults,
-        at: &Entry<'t>,
-        before: &'t str,
-    ) -> Result<(), AllocError> {
+        entry: &Entry<'t>,
+        key: &'static str,
+        one: &'t str,
+        other: &'t str,
+    ) {
         let count = self.links.len();
-        if before == at.name {
-            tell_of(faults, at, "{} comes twice in a row");
-        } else if count <= MOST_LINKS && !is_linked(&self.links, before, at.name) {
+        if one == other {
+            tell_of(faults, entry, key, other, "{} comes twice in a row");
+        } else if count <= MOST_LINKS && !is_linked(&self.links, one, other) {
             if count == MOST_LINKS {
-                tell_of(faults, at, "{} has one link too many: 2048 are the most");
+                let form = "{} has one link too many: 2048 are the most";
+                tell_of(faults, entry, key, other, form);
             }
-            self.links.push(Link {
-                one: before,
-                other: at.name,
-            })?;
+            push(faults, &mut self.links, Link { one, other });
         }
-        Ok(())
     }
 
     // Adds points, and the links of each to the next.
     fn add_chain(
         &mut self,
         faults: &mut Faults,
-        at: &Entry<'t>,
+        entry: &Entry<'t>,
+        key: &'static str,
         chain: &'t [Value],
-    ) -> Result<(), AllocError> {
-        for (index, value) in chain.iter().enumerate() {
-            let at = at.of(text_of(value));
-            self.add_point(faults, &at)?;
-            if 0 < index
-                && let Some(before) = chain.get(index.saturating_sub(1))
-            {
-                self.add_link(faults, &at, text_of(before))?;
+    ) {
+        let mut before = None;
+        for value in chain {
+            let name = text_of(value);
+            self.add_point(faults, entry, key, name);
+            if let Some(before) = before {
+                self.add_link(faults, entry, key, before, name);
             }
+            before = Some(name);
         }
-        Ok(())
     }
 
     // Adds the points and links of the routes of some trains.
-    fn add_routes(&mut self, faults: &mut Faults, trains: &Entries<'t>) -> Result<(), AllocError> {
+    fn add_routes(&mut self, faults: &mut Faults, trains: &Entries<'t>) {
         for index in 0..trains.values.len() {
             let train = trains.entry(index);
-            let route = train.names("route").unwrap_or(&[]);
-            self.add_chain(faults, &train.at("route"), route)?;
+            if let Some(route) = train.names("route") {
+                self.add_chain(faults, &train, "route", route);
+            }
         }
-        Ok(())
     }
 
     // Adds the points and links of the lines of a plan.
-    fn add_lines(&mut self, faults: &mut Faults, top: &Entry<'t>) -> Result<(), AllocError> {
+    fn add_lines(&mut self, faults: &mut Faults, top: &Entry<'t>) {
         for line in top.values("lines") {
-            let points = names_of(line).unwrap_or(&[]);
-            self.add_chain(faults, &top.at("lines"), points)?;
+            if let Some(points) = names_of(line) {
+                self.add_chain(faults, top, "lines", points);
+            }
         }
-        Ok(())
     }
 
     /// Adds the points and links of a plan: those of its lines, and then those of its routes, unless these have to keep to the lines.
-    pub fn add_points(&mut self, faults: &mut Faults, top: &Entry<'t>) -> Result<(), AllocError> {
-        self.add_lines(faults, top)?;
-        if !lines_of(top).is_empty() {
-            return Ok(());
+    pub fn add_points(&mut self, faults: &mut Faults, top: &Entry<'t>) {
+        self.add_lines(faults, top);
+        if lines_of(top).is_empty() {
+            self.add_routes(faults, &top.list(Kind::Train));
+            let tables = top.list(Kind::Table);
+            for index in 0..tables.values.len() {
+                self.add_routes(faults, &tables.entry(index).list(Kind::Train));
+            }
         }
-        self.add_routes(faults, &top.list(Kind::Train))?;
-        let tables = top.list(Kind::Table);
-        for index in 0..tables.values.len() {
-            self.add_routes(faults, &tables.entry(index).list(Kind::Train))?;
-        }
-        Ok(())
     }
 
-    // Puts a point into a zone; one that is in a zone already is reported.
-    fn put_one(&mut self, faults: &mut Faults, at: &Entry, zone: u32) {
-        if let Some(place) = find(faults, at, "point", &self.points)
-            && !put(&mut self.zones, place, zone)
+    // Puts a point into the zone at whose key it stands; one that is in a zone already is reported.
+    fn put_one<'x>(&mut self, faults: &mut Faults, at: &Entry<'x>, name: &'x str, zone: u32) {
+        match number_of(&self.points, name) {
+            Some(place) => if !put(&mut self.zones, place, zone) {
+                tell_in(faults, at, name, "{} is in a zone already");
+            },
+            None => tell_no(faults, &at.of(name), "point", name, &self.points),
+        }
+    }
+
+    // Puts the points that a value names into the zone that is its key.
+    fn put_all<'x>(&mut self, faults: &mut Faults, key: &'x str, value: &'x Value) {
+        let at = Entry::part(Kind::Zones, None).at(key);
+        if let Some(points) = names_of(value)
+            && let Some(zone) = zone_of(faults, &at)
         {
-            tell_of(faults, at, "{} is in a zone already");
-        }
-    }
-
-    // Puts points into the zone that is the key.
-    fn put_all<'x>(&mut self, faults: &mut Faults, at: &Entry<'x>, points: &'x [Value]) {
-        if let Some(zone) = zone_of(faults, &at.of(at.key)) {
             for point in points {
-                self.put_one(faults, &at.of(text_of(point)), zone);
+                self.put_one(faults, &at, text_of(point), zone);
             }
         }
     }
 
     /// Puts the points into their zones. Those that the plan puts into none are in zone 0.
-    pub fn add_zones(&mut self, faults: &mut Faults, top: &Entry) -> Result<(), AllocError> {
-        for _ in 0..self.points.len() {
-            self.zones.push(None)?;
-        }
+    pub fn add_zones(&mut self, faults: &mut Faults, top: &Entry) {
         if let Some(Value::Table(zones)) = top.value("zones") {
             for (zone, value) in zones {
-                if let Some(points) = names_of(value) {
-                    self.put_all(
-                        faults,
-                        &Entry::part(Kind::Zones, None).at(zone.as_str()),
-                        points,
-                    );
-                }
+                self.put_all(faults, zone.as_str(), value);
             }
         }
         if faults.is_empty() {
             check_gaps(faults, &self.zones);
         }
-        Ok(())
     }
 }

@@ -1,11 +1,10 @@
 // The lines of a plan, and routes that don't keep to them.
 use crate::ground::{Ground, Link};
+use crate::lists::{copied, push, push_names};
 use crate::names::{check_names, find, is_known};
 use crate::tables::Layer;
-use crate::trains::{copied, push_names};
 use plan_document::{Plan, TablePlan, before, behind, goes, is_among, is_linked};
 use plan_entries::{Entry, Faults, Part, names_of};
-use std::alloc::{AllocError, Global};
 use toml::Value;
 
 // The tracks to which routes have to keep.
@@ -27,43 +26,47 @@ pub(crate) fn lines_of<'t>(top: &Entry<'t>) -> &'t [Value] {
 }
 
 /// Adds the lines to which routes have to keep, and the switches.
-pub(crate) fn add_lines(alloc: Global, top: &Entry, plan: &mut Plan) -> Result<(), AllocError> {
+pub(crate) fn add_lines(faults: &mut Faults, top: &Entry, plan: &mut Plan) {
     for line in lines_of(top) {
-        let points = names_of(line).unwrap_or(&[]);
-        plan.lines.push(copied(alloc, points)?)?;
+        let points = copied(faults, names_of(line).unwrap_or(&[]));
+        push(faults, &mut plan.lines, points);
     }
-    let switches = top.names("switches").unwrap_or(&[]);
-    push_names(&mut plan.switches, alloc, switches)
+    if let Some(switches) = top.names("switches") {
+        push_names(faults, &mut plan.switches, switches);
+    }
 }
 
 // Tells that a train would pass a switch as no line does.
-fn tell_no_way<'x>(faults: &mut Faults, at: &Entry<'x>, one: &'x str, other: &'x str) {
-    let parts = [Part::Name(one), Part::Name(at.name), Part::Name(other)];
+fn tell_no_way<'x>(
+    faults: &mut Faults,
+    train: &Entry<'x>,
+    one: &'x str,
+    here: &'x str,
+    other: &'x str,
+) {
+    let parts = [Part::Name(one), Part::Name(here), Part::Name(other)];
     let form = "no line goes from {} over {}, a switch, to {}";
-    faults.tell(at, form, &parts);
+    faults.tell(&train.at("route").of(here), form, &parts);
 }
 
 impl<'x> Tracks<'x> {
     // The points to which lines go from a point.
-    fn linked_to(&self, alloc: Global, point: &str) -> Result<Vec<&'x str>, AllocError> {
-        let mut found = Vec::new(alloc);
+    fn linked_to(&self, faults: &mut Faults, point: &str) -> Vec<&'x str> {
+        let mut found = Vec::new(faults.alloc());
         for link in self.links {
             if let Some(other) = link.beyond(point) {
-                found.push(other)?;
+                push(faults, &mut found, other);
             }
         }
-        Ok(found)
+        found
     }
 
     // Tells that no line goes from one point to another, and where lines go from there.
-    fn tell_no_link(&self, faults: &mut Faults, at: &Entry<'x>, one: &'x str) {
-        match self.linked_to(faults.alloc(), one) {
-            Ok(others) => {
-                let parts = [Part::Name(one), Part::Name(at.name), Part::List(&others)];
-                faults.tell(at, "no line goes from {} to {}, but to {}", &parts);
-            }
-            Err(AllocError) => faults.lose(),
-        }
+    fn tell_no_link(&self, faults: &mut Faults, train: &Entry<'x>, one: &'x str, here: &'x str) {
+        let others = self.linked_to(faults, one);
+        let parts = [Part::Name(one), Part::Name(here), Part::List(&others)];
+        let form = "no line goes from {} to {}, but to {}";
+        faults.tell(&train.at("route").of(here), form, &parts);
     }
 
     // Tells that no line goes from one point to another, or goes on from there over a switch as a route does. A point that
@@ -71,40 +74,46 @@ impl<'x> Tracks<'x> {
     fn check_step(
         &self,
         faults: &mut Faults,
-        at: &Entry<'x>,
+        train: &Entry<'x>,
         one: &'x str,
+        here: &'x str,
         other: Option<&'x String>,
     ) {
-        if !is_linked(self.lines, one, at.name) {
-            self.tell_no_link(faults, at, one);
-        } else if is_among(self.switches, at.name)
+        if !is_linked(self.lines, one, here) {
+            self.tell_no_link(faults, train, one, here);
+        } else if is_among(self.switches, here)
             && let Some(other) = other
             && is_known(self.points, other.as_str())
-            && !goes(self.lines, one, at.name, other.as_str())
+            && !goes(self.lines, one, here, other.as_str())
         {
-            tell_no_way(faults, at, one, other.as_str());
+            tell_no_way(faults, train, one, here, other.as_str());
         }
     }
 
     // Tells what no line has at a place of a route.
-    fn check_place(&self, faults: &mut Faults, at: &Entry<'x>, route: &'x [String], place: usize) {
+    fn check_place(
+        &self,
+        faults: &mut Faults,
+        train: &Entry<'x>,
+        route: &'x [String],
+        place: usize,
+    ) {
         let Some(here) = route.get(place) else {
             return;
         };
-        let at = at.of(here.as_str());
-        if find(faults, &at, "point", self.points).is_some()
+        let here = here.as_str();
+        if find(faults, train, "route", here, "point", self.points).is_some()
             && let Some(one) = before(route, place)
             && is_known(self.points, one.as_str())
         {
-            self.check_step(faults, &at, one.as_str(), behind(route, place));
+            self.check_step(faults, train, one.as_str(), here, behind(route, place));
         }
     }
 
     // Tells where the route of a train doesn't keep to the lines.
     fn check_route(&self, faults: &mut Faults, train: &Entry<'x>, route: &'x [String]) {
-        let at = train.at("route");
         for place in 0..route.len() {
-            self.check_place(faults, &at, route, place);
+            self.check_place(faults, train, route, place);
         }
     }
 
@@ -117,24 +126,8 @@ impl<'x> Tracks<'x> {
     }
 }
 
-/// Tells switches that aren't points, and where the routes of a plan don't keep to its lines, if they have to.
-pub(crate) fn check_laid<'x>(
-    faults: &mut Faults,
-    top: &Entry<'x>,
-    ground: &'x Ground<'x>,
-    plan: &'x Plan,
-) {
-    let switches = top.names("switches").unwrap_or(&[]);
-    check_names(
-        faults,
-        &top.at("switches"),
-        switches,
-        "point",
-        &ground.points,
-    );
-    if plan.lines.is_empty() {
-        return;
-    }
+// Tells where the routes of a plan don't keep to its lines.
+fn check_tables<'x>(faults: &mut Faults, top: &Entry<'x>, ground: &'x Ground<'x>, plan: &'x Plan) {
     let tracks = Tracks {
         lines: &plan.lines,
         switches: &plan.switches,
@@ -143,5 +136,13 @@ pub(crate) fn check_laid<'x>(
     };
     for (number, table) in plan.tables.iter().enumerate() {
         tracks.check_table(faults, &Layer::of(top, number), table);
+    }
+}
+
+/// Tells switches that aren't points, and where the routes of a plan don't keep to its lines, if they have to.
+pub(crate) fn check_laid(faults: &mut Faults, top: &Entry, ground: &Ground, plan: &Plan) {
+    check_names(faults, top, "switches", "point", &ground.points);
+    if !plan.lines.is_empty() {
+        check_tables(faults, top, ground, plan);
     }
 }

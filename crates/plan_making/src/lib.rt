@@ -5,6 +5,7 @@
 mod connections;
 mod ground;
 mod laying;
+mod lists;
 mod names;
 mod ranges;
 mod routes;

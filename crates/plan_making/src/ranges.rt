@@ -18,17 +18,35 @@ impl Range {
         }
     }
 
-    /// Tells a number that doesn't lie in the range.
-    pub fn check(self, faults: &mut Faults, at: &Entry, number: i64) {
+    /// Tells a number that doesn't lie in the range: that at a key, or at a name below it.
+    pub fn check<'x>(
+        self,
+        faults: &mut Faults,
+        entry: &Entry<'x>,
+        key: &'static str,
+        name: &'x str,
+        number: i64,
+    ) {
         if self.number(number).is_none() {
-            faults.tell(at, self.form, &[Part::Number(number)]);
+            let at = entry.at(key).of(name);
+            faults.tell(&at, self.form, &[Part::Number(number)]);
         }
     }
 
-    /// The number at a key of an entry, if it lies in the range; one that doesn't is reported.
-    pub fn number_at(self, faults: &mut Faults, entry: &Entry, key: &'static str) -> Option<u32> {
-        let number = entry.number(key)?;
-        self.check(faults, &entry.at(key), number);
-        self.number(number)
+    /// The number at a key of an entry, if it lies in the range, else another; one that doesn't lie there is reported.
+    pub fn number_or(
+        self,
+        faults: &mut Faults,
+        entry: &Entry,
+        key: &'static str,
+        otherwise: u32,
+    ) -> u32 {
+        match entry.number(key) {
+            Some(number) => {
+                self.check(faults, entry, key, "", number);
+                self.number(number).unwrap_or(otherwise)
+            }
+            None => otherwise,
+        }
     }
 }

@@ -1,14 +1,15 @@
 // Places on routes, by the names of their points.
 use crate::names::find;
+use plan_document::TablePlan;
 use plan_entries::{Entry, Faults, Part};
 
-/// What the names in a table stand for: points, trains, and the route of each train under the table.
+/// What the names in a table stand for: points, trains, and what the table says of the trains.
 #[derive(Clone, Copy)]
 pub(crate) struct Scope<'a> {
     pub points: &'a [&'a str],
     pub trains: &'a [&'a str],
-    pub routes: &'a [Vec<String>],
-    pub exits: &'a [bool],
+    pub plan: &'a TablePlan,
+    // Counted from 0.
     pub table: usize,
 }
 
@@ -27,19 +28,6 @@ impl<'a> Scope<'a> {
             Some(name) => name,
             None => "",
         }
-    }
-
-    /// The route of a train; empty for one that isn't there.
-    pub fn route(&self, train: usize) -> &'a [String] {
-        match self.routes.get(train) {
-            Some(route) => route.as_slice(),
-            None => &[],
-        }
-    }
-
-    /// Whether a train exits after its route.
-    pub fn exits(&self, train: usize) -> bool {
-        self.exits.get(train).copied().unwrap_or(false)
     }
 }
 
@@ -81,88 +69,90 @@ pub(crate) fn is_place_name(name: &str) -> bool {
     }
 }
 
-// The place at which a point comes for this time, counted from 1.
-fn counted_place(route: &[String], point: &str, count: &str) -> Spot {
-    match count_of(count) {
-        Some(count) => match nth_place(route, point, count.saturating_sub(1)) {
-            Some(place) => Spot::At(place),
-            None => Spot::Nowhere,
-        },
-        None => Spot::Nowhere,
-    }
-}
-
 /// Where a name is on a route: a point, or with `#2` after it the second time that it comes.
 pub(crate) fn find_place(route: &[String], name: &str) -> Spot {
-    if let Some((point, count)) = name.split_once("#") {
-        return counted_place(route, point, count);
-    }
-    match nth_place(route, name, 0) {
-        None => Spot::Nowhere,
-        Some(place) => match nth_place(route, name, 1) {
-            None => Spot::At(place),
-            Some(_) => Spot::Several,
-        },
+    let Some((point, count)) = name.split_once("#") else {
+        return match nth_place(route, name, 0) {
+            Some(place) => match nth_place(route, name, 1) {
+                None => Spot::At(place),
+                Some(_) => Spot::Several,
+            },
+            None => Spot::Nowhere,
+        };
+    };
+    if let Some(count) = count_of(count)
+        && let Some(place) = nth_place(route, point, count.saturating_sub(1))
+    {
+        Spot::At(place)
+    } else {
+        Spot::Nowhere
     }
 }
 
-// Tells something of a name and of a train's route.
+// Tells something of a name, which stands at a key, and of a train's route.
 fn tell_on<'x>(
     faults: &mut Faults,
-    at: &Entry<'x>,
+    at: &Entry,
+    name: &'x str,
     scope: &Scope<'x>,
     train: usize,
     form: &'static str,
 ) {
     let parts = [
-        Part::Name(at.name),
+        Part::Name(name),
         Part::Name(scope.train(train)),
         Part::InTable(scope.table),
     ];
     faults.tell(at, form, &parts);
 }
 
-/// Tells a name that is nowhere on a train's route.
+/// Tells a name, which stands at a key, that is nowhere on a train's route.
 pub(crate) fn check_comes<'x>(
     faults: &mut Faults,
-    at: &Entry<'x>,
-    scope: &Scope<'x>,
+    entry: &Entry<'x>,
+    key: &'static str,
+    name: &'x str,
+    scope: &Scope,
     train: usize,
 ) {
-    if matches!(find_place(scope.route(train), at.name), Spot::Nowhere)
-        && find(faults, &at.of(point_of(at.name)), "point", scope.points).is_some()
+    if matches!(find_place(scope.plan.route(train), name), Spot::Nowhere)
+        && find(faults, entry, key, point_of(name), "point", scope.points).is_some()
     {
         let form = "{} is not on the route of train {}{}";
-        tell_on(faults, at, scope, train, form);
+        tell_on(faults, &entry.at(key).of(name), name, scope, train, form);
     }
 }
 
-/// The place of a name on a train's route, if it is one; a point that comes more than once is reported.
+/// The place of a name, which stands at a key, on a train's route, if it is one; a point that comes more than once is reported.
 pub(crate) fn place_if_there<'x>(
     faults: &mut Faults,
-    at: &Entry<'x>,
-    scope: &Scope<'x>,
+    entry: &Entry<'x>,
+    key: &'static str,
+    name: &'x str,
+    scope: &Scope,
     train: usize,
 ) -> Option<usize> {
-    match find_place(scope.route(train), at.name) {
+    match find_place(scope.plan.route(train), name) {
         Spot::At(place) => Some(place),
         Spot::Nowhere => None,
         Spot::Several => {
             let form =
                 "{} comes more than once on the route of train {}{}: write #1, #2 .. behind it";
-            tell_on(faults, at, scope, train, form);
+            tell_on(faults, &entry.at(key).of(name), name, scope, train, form);
             None
         }
     }
 }
 
-/// The place of a name on a train's route; a name that isn't one place is reported.
+/// The place of a name, which stands at a key, on a train's route; a name that isn't one place is reported.
 pub(crate) fn place_of<'x>(
     faults: &mut Faults,
-    at: &Entry<'x>,
-    scope: &Scope<'x>,
+    entry: &Entry<'x>,
+    key: &'static str,
+    name: &'x str,
+    scope: &Scope,
     train: usize,
 ) -> Option<usize> {
-    check_comes(faults, at, scope, train);
-    place_if_there(faults, at, scope, train)
+    check_comes(faults, entry, key, name, scope, train);
+    place_if_there(faults, entry, key, name, scope, train)
 }

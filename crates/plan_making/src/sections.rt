@@ -1,13 +1,12 @@
 // The sections of a table.
-use crate::names::{check_names, find, is_known, text_of};
+use crate::lists::{push, push_all, push_names};
+use crate::names::{check_count, check_names, find, is_known, tell_of, text_of};
 use crate::ranges::Range;
 use crate::routes::{
     Scope, Spot, check_comes, find_place, is_place_name, place_if_there, point_of,
 };
-use crate::trains::{push_name, push_names};
 use plan_document::{Holding, SectionPlan, share_at};
 use plan_entries::{Entries, Entry, Faults, Part};
-use std::alloc::{AllocError, Global};
 use toml::{Table, Value};
 
 const MOST_SECTIONS: usize = 64;
@@ -32,44 +31,34 @@ const NOTHING: Holding = Holding {
 };
 
 // Adds the points of a section: all, if only its stretch is given.
-fn add_points(
-    alloc: Global,
-    faults: &mut Faults,
-    entry: &Entry,
-    scope: &Scope,
-    plan: &mut SectionPlan,
-) -> Result<(), AllocError> {
-    if let Some(points) = entry.names("points") {
-        check_names(faults, &entry.at("points"), points, "point", scope.points);
-        return push_names(&mut plan.points, alloc, points);
+fn add_points(faults: &mut Faults, entry: &Entry, scope: &Scope, plan: &mut SectionPlan) {
+    check_names(faults, entry, "points", "point", scope.points);
+    match entry.names("points") {
+        Some(points) => push_names(faults, &mut plan.points, points),
+        None => if entry.has_places("from") || entry.has_places("to") {
+            push_all(faults, &mut plan.points, scope.points);
+        },
     }
-    if entry.has_places("from") || entry.has_places("to") {
-        for point in scope.points {
-            push_name(&mut plan.points, alloc, point)?;
-        }
-    }
-    Ok(())
 }
 
 // Tells what is wrong with the weights of trains. A weight without a name is for all.
-fn check_weights<'x>(faults: &mut Faults, at: &Entry<'x>, weights: &'x Table, trains: &[&str]) {
+fn check_weights<'x>(faults: &mut Faults, entry: &Entry<'x>, weights: &'x Table, trains: &[&str]) {
     for (name, value) in weights {
         if let Some(number) = value.as_integer() {
-            let at = at.of(name.as_str());
+            let name = name.as_str();
             if !name.is_empty() {
-                find(faults, &at, "train", trains);
+                find(faults, entry, "weight", name, "train", trains);
             }
-            WEIGHTS.check(faults, &at, number);
+            WEIGHTS.check(faults, entry, "weight", name, number);
         }
     }
 }
 
 // Tells what is wrong with the weight of a section.
 fn check_section_weight(faults: &mut Faults, entry: &Entry, trains: &[&str]) {
-    let at = entry.at("weight");
     match entry.value("weight") {
-        Some(Value::Integer(number)) => WEIGHTS.check(faults, &at, *number),
-        Some(Value::Table(weights)) => check_weights(faults, &at, weights, trains),
+        Some(Value::Integer(number)) => WEIGHTS.check(faults, entry, "weight", "", *number),
+        Some(Value::Table(weights)) => check_weights(faults, entry, weights, trains),
         _ => {}
     }
 }
@@ -105,7 +94,7 @@ fn weight_of(entry: &Entry, train: &str) -> u8 {
 // Whether a train of the section comes to a place.
 fn has_comer(entry: &Entry, name: &str, scope: &Scope) -> bool {
     for train in 0..scope.trains.len() {
-        let comes = !matches!(find_place(scope.route(train), name), Spot::Nowhere);
+        let comes = !matches!(find_place(scope.plan.route(train), name), Spot::Nowhere);
         if comes && is_concerned(entry, scope.train(train)) {
             return true;
         }
@@ -114,45 +103,62 @@ fn has_comer(entry: &Entry, name: &str, scope: &Scope) -> bool {
 }
 
 // Tells an end of a stretch to which no train of the section comes.
-fn check_end(faults: &mut Faults, entry: &Entry, at: &Entry, scope: &Scope) {
-    let point = find(faults, &at.of(point_of(at.name)), "point", scope.points);
-    if point.is_some() && !has_comer(entry, at.name, scope) {
-        let form = "no train of this section comes to {}";
-        faults.tell(at, form, &[Part::Name(at.name)]);
+fn check_end<'x>(
+    faults: &mut Faults,
+    entry: &Entry<'x>,
+    key: &'static str,
+    name: &'x str,
+    scope: &Scope,
+) {
+    let point = find(faults, entry, key, point_of(name), "point", scope.points);
+    if point.is_some() && !has_comer(entry, name, scope) {
+        tell_of(
+            faults,
+            entry,
+            key,
+            name,
+            "no train of this section comes to {}",
+        );
     }
 }
 
 // Tells an end of one train's stretch to which it doesn't come. On its route of a further table it need not.
 fn check_own_end<'x>(
     faults: &mut Faults,
-    at: &Entry<'x>,
+    entry: &Entry<'x>,
+    key: &'static str,
     train: &'x str,
     place: &'x str,
     scope: &Scope,
 ) {
     let may_be_elsewhere = is_known(scope.points, point_of(place)) && is_place_name(place);
-    if let Some(train) = find(faults, &at.of(train), "train", scope.trains)
+    if let Some(train) = find(faults, entry, key, train, "train", scope.trains)
         && (scope.table == 0 || !may_be_elsewhere)
     {
-        check_comes(faults, &at.of(place), scope, train);
+        check_comes(faults, entry, key, place, scope, train);
     }
 }
 
 // Tells what is wrong with the ends of trains' stretches.
-fn check_own_ends<'x>(faults: &mut Faults, at: &Entry<'x>, ends: &'x Table, scope: &Scope) {
+fn check_own_ends<'x>(
+    faults: &mut Faults,
+    entry: &Entry<'x>,
+    key: &'static str,
+    ends: &'x Table,
+    scope: &Scope,
+) {
     for (train, value) in ends {
         if let Some(place) = value.as_str() {
-            check_own_end(faults, at, train.as_str(), place, scope);
+            check_own_end(faults, entry, key, train.as_str(), place, scope);
         }
     }
 }
 
 // Tells what is wrong with an end of the stretches of a section.
 fn check_ends(faults: &mut Faults, entry: &Entry, key: &'static str, scope: &Scope) {
-    let at = entry.at(key);
     match entry.value(key) {
-        Some(Value::String(name)) => check_end(faults, entry, &at.of(name.as_str()), scope),
-        Some(Value::Table(ends)) => check_own_ends(faults, &at, ends, scope),
+        Some(Value::String(name)) => check_end(faults, entry, key, name.as_str(), scope),
+        Some(Value::Table(ends)) => check_own_ends(faults, entry, key, ends, scope),
         _ => {}
     }
 }
@@ -165,8 +171,10 @@ fn end_of(
     scope: &Scope,
     train: usize,
 ) -> Option<usize> {
-    let place = entry.place_for(key, scope.train(train))?;
-    place_if_there(faults, &entry.at(key).of(place), scope, train)
+    match entry.place_for(key, scope.train(train)) {
+        Some(place) => place_if_there(faults, entry, key, place, scope, train),
+        None => None,
+    }
 }
 
 // What a train holds of a section. Its stretch goes from its place at `from` until before its place at
@@ -185,7 +193,7 @@ fn holding(faults: &mut Faults, entry: &Entry, scope: &Scope, train: usize) -> H
     Holding {
         weight: weight_of(entry, name),
         from: from.unwrap_or(0),
-        until: until.unwrap_or(scope.route(train).len()),
+        until: until.unwrap_or(scope.plan.route(train).len()),
     }
 }
 
@@ -200,94 +208,75 @@ fn most_share(section: &SectionPlan, route: &[String], train: usize) -> u8 {
 }
 
 // Tells that a train alone takes more of a section than its limit.
-fn tell_alone(faults: &mut Faults, at: &Entry, train: &str, share: u32, limit: u32) {
+fn tell_alone(faults: &mut Faults, entry: &Entry, train: &str, share: u32, limit: u32) {
     let parts = [
         Part::Name(train),
-        Part::Number(i64::from(share)),
-        Part::Number(i64::from(limit)),
+        Part::Number(share as i64),
+        Part::Number(limit as i64),
     ];
-    faults.tell(at, "train {} alone takes {} of {}", &parts);
+    faults.tell(&entry.at("limit"), "train {} alone takes {} of {}", &parts);
 }
 
 // Tells each train that alone takes more of a section than its limit.
-fn check_alone(faults: &mut Faults, at: &Entry, section: &SectionPlan, scope: &Scope) {
+fn check_alone(faults: &mut Faults, entry: &Entry, section: &SectionPlan, scope: &Scope) {
     for train in 0..scope.trains.len() {
-        let share = u32::from(most_share(section, scope.route(train), train));
+        let share = u32::from(most_share(section, scope.plan.route(train), train));
         if section.limit < share {
-            tell_alone(faults, at, scope.train(train), share, section.limit);
+            tell_alone(faults, entry, scope.train(train), share, section.limit);
         }
     }
 }
 
 // Fills in a section of a table; what is wrong with it is reported.
-fn fill(
-    alloc: Global,
-    faults: &mut Faults,
-    entry: &Entry,
-    scope: &Scope,
-    section: &mut SectionPlan,
-) -> Result<(), AllocError> {
+fn fill(faults: &mut Faults, entry: &Entry, scope: &Scope, section: &mut SectionPlan) {
     check_section_weight(faults, entry, scope.trains);
-    let only = entry.names("only").unwrap_or(&[]);
-    check_names(faults, &entry.at("only"), only, "train", scope.trains);
+    check_names(faults, entry, "only", "train", scope.trains);
     check_ends(faults, entry, "from", scope);
     check_ends(faults, entry, "to", scope);
-    section.limit = LIMITS
-        .number_at(faults, entry, "limit")
-        .unwrap_or(LIMITS.most);
-    add_points(alloc, faults, entry, scope, section)?;
+    section.limit = LIMITS.number_or(faults, entry, "limit", 128);
+    add_points(faults, entry, scope, section);
     for train in 0..scope.trains.len() {
-        section.holdings.push(holding(faults, entry, scope, train))?;
+        let holding = holding(faults, entry, scope, train);
+        push(faults, &mut section.holdings, holding);
     }
-    check_alone(faults, &entry.at("limit"), section, scope);
-    Ok(())
+    check_alone(faults, entry, section, scope);
 }
 
 // A section of a table; what is wrong with it is reported.
-fn section(
-    alloc: Global,
-    faults: &mut Faults,
-    entry: &Entry,
-    scope: &Scope,
-) -> Result<SectionPlan, AllocError> {
+fn section(faults: &mut Faults, entry: &Entry, scope: &Scope) -> SectionPlan {
     let mut section = SectionPlan {
         limit: 0,
-        points: Vec::new(alloc),
-        holdings: Vec::new(alloc),
+        points: Vec::new(faults.alloc()),
+        holdings: Vec::new(faults.alloc()),
     };
-    fill(alloc, faults, entry, scope, &mut section)?;
-    Ok(section)
+    fill(faults, entry, scope, &mut section);
+    section
 }
 
-/// Adds the sections of a table; what is wrong with them is reported.
-pub(crate) fn add_sections(
-    alloc: Global,
+/// The sections of a table; what is wrong with them is reported.
+pub(crate) fn sections_of(
     faults: &mut Faults,
     entries: &Entries,
     scope: &Scope,
-    sections: &mut Vec<SectionPlan>,
-) -> Result<(), AllocError> {
-    let count = entries.values.len();
-    for index in 0..count.min(MOST_SECTIONS) {
-        sections.push(section(alloc, faults, &entries.entry(index), scope)?)?;
+) -> Vec<SectionPlan> {
+    let mut sections = Vec::new(faults.alloc());
+    for index in 0..entries.values.len().min(MOST_SECTIONS) {
+        let section = section(faults, &entries.entry(index), scope);
+        push(faults, &mut sections, section);
     }
-    if MOST_SECTIONS < count {
-        let form = "this is one section too many: 64 are the most of a table";
-        faults.tell(&entries.entry(MOST_SECTIONS), form, &[]);
-    }
-    Ok(())
+    let form = "this is one section too many: 64 are the most of a table";
+    check_count(faults, entries, MOST_SECTIONS, form);
+    sections
 }
 
 // What a train takes of a section at its start.
 fn share_of(section: &SectionPlan, scope: &Scope, train: usize, starts: &[Option<usize>]) -> u8 {
-    match starts.get(train).copied().flatten() {
-        Some(start) => share_at(
-            &section.points,
-            &section.holding(train),
-            scope.route(train),
-            start,
-        ),
-        None => 0,
+    match starts.get(train) {
+        Some(Some(start)) => {
+            let route = scope.plan.route(train);
+            share_at(&section.points, &section.holding(train), route, *start)
+        }
+        _ => 0,
     }
 }
 
@@ -303,61 +292,58 @@ fn taken_at(section: &SectionPlan, scope: &Scope, starts: &[Option<usize>]) -> u
 
 // Adds what each train takes of a section at its start, in words.
 fn push_taken(
+    faults: &mut Faults,
     words: &mut String,
     section: &SectionPlan,
     scope: &Scope,
     starts: &[Option<usize>],
-) -> Result<(), AllocError> {
+) {
     for train in 0..scope.trains.len() {
         let share = share_of(section, scope, train, starts);
         if 0 < share {
             let name = scope.train(train);
-            write!(words, ", {name} {share}")?;
+            if write!(words, ", {name} {share}").is_err() {
+                faults.lose();
+            }
         }
     }
-    Ok(())
 }
 
 // Tells that a section is over its limit where the trains start.
-fn tell_taken(faults: &mut Faults, at: &Entry, taken: u32, limit: u32, shares: &str) {
+fn tell_taken(faults: &mut Faults, entry: &Entry, taken: u32, limit: u32, shares: &str) {
     let parts = [
-        Part::Number(i64::from(taken)),
-        Part::Number(i64::from(limit)),
+        Part::Number(taken as i64),
+        Part::Number(limit as i64),
         Part::Words(shares),
     ];
-    faults.tell(at, "at the start {} of {} are taken{}", &parts);
+    let form = "at the start {} of {} are taken{}";
+    faults.tell(&entry.at("limit"), form, &parts);
 }
 
 // Tells that a section is over its limit where the trains start, if it is.
 fn check_limit(
-    alloc: Global,
     faults: &mut Faults,
-    at: &Entry,
+    entry: &Entry,
     section: &SectionPlan,
     scope: &Scope,
     starts: &[Option<usize>],
-) -> Result<(), AllocError> {
+) {
     let taken = taken_at(section, scope, starts);
     if section.limit < taken {
-        let mut shares = String::new(alloc);
-        push_taken(&mut shares, section, scope, starts)?;
-        tell_taken(faults, at, taken, section.limit, shares.as_str());
+        let mut shares = String::new(faults.alloc());
+        push_taken(faults, &mut shares, section, scope, starts);
+        tell_taken(faults, entry, taken, section.limit, shares.as_str());
     }
-    Ok(())
 }
 
 /// Tells each section that is over its limit where the trains start.
 pub(crate) fn check_taken(
-    alloc: Global,
     faults: &mut Faults,
     entries: &Entries,
-    sections: &[SectionPlan],
     scope: &Scope,
     starts: &[Option<usize>],
-) -> Result<(), AllocError> {
-    for (index, section) in sections.iter().enumerate() {
-        let at = entries.entry(index).at("limit");
-        check_limit(alloc, faults, &at, section, scope, starts)?;
+) {
+    for (index, section) in scope.plan.sections.iter().enumerate() {
+        check_limit(faults, &entries.entry(index), section, scope, starts);
     }
-    Ok(())
 }

@@ -1,14 +1,15 @@
 // The tables of a plan, and the plan as a whole.
-use crate::connections::add_waits;
-use crate::ground::{Ground, Link, greatest};
+use crate::connections::{number, waits_of};
+use crate::ground::{Ground, greatest};
 use crate::laying::{add_lines, check_laid};
+use crate::lists::{owned, push, push_all};
+use crate::names::check_count;
 use crate::ranges::Range;
 use crate::routes::Scope;
-use crate::sections::{add_sections, check_taken};
-use crate::trains::{Roster, add_trains, check_ends, check_starts, push_name, starts};
+use crate::sections::{check_taken, sections_of};
+use crate::trains::{Roster, add_trains, check_ends, check_starts, starts};
 use plan_document::{Plan, TablePlan};
 use plan_entries::{Entries, Entry, Faults, Kind};
-use std::alloc::{AllocError, Global};
 use toml::Value;
 
 const MOST_TABLES: usize = 16;
@@ -59,39 +60,32 @@ impl<'t> Layer<'t> {
     }
 }
 
-// Fills in a table that has its trains; what is wrong with it is reported.
-fn fill_table(
-    alloc: Global,
-    faults: &mut Faults,
-    layer: &Layer,
-    ground: &Ground,
-    plan: &mut TablePlan,
-) -> Result<(), AllocError> {
-    let roster = layer.roster();
-    add_trains(alloc, faults, &roster, ground, plan)?;
-    let scope = Scope {
+// What the names in a table stand for.
+fn scope_of<'x>(ground: &'x Ground, plan: &'x TablePlan, table: usize) -> Scope<'x> {
+    Scope {
         points: &ground.points,
         trains: &ground.trains,
-        routes: &plan.routes,
-        exits: &plan.exits,
-        table: layer.number,
-    };
-    check_ends(faults, &roster, &scope);
-    let sections = layer.entries(Kind::Section);
-    add_sections(alloc, faults, &sections, &scope, &mut plan.sections)?;
-    let waits = layer.entries(Kind::Connection);
-    add_waits(faults, &waits, &scope, &mut plan.waits)?;
-    plan.after = AFTER.number_at(faults, &layer.own, "after").unwrap_or(0);
-    Ok(())
+        plan,
+        table,
+    }
 }
 
-// The plan of a table; what is wrong with it is reported.
-fn table_plan(
-    alloc: Global,
-    faults: &mut Faults,
-    layer: &Layer,
-    ground: &Ground,
-) -> Result<TablePlan, AllocError> {
+// Fills in a table; what is wrong with it is reported.
+fn fill_table(faults: &mut Faults, layer: &Layer, ground: &Ground, plan: &mut TablePlan) {
+    let roster = layer.roster();
+    add_trains(faults, &roster, ground, plan);
+    let scope = scope_of(ground, plan, layer.number);
+    check_ends(faults, &roster, &scope);
+    let sections = sections_of(faults, &layer.entries(Kind::Section), &scope);
+    let waits = waits_of(faults, &layer.entries(Kind::Connection), &scope);
+    plan.sections = sections;
+    plan.waits = waits;
+    plan.after = AFTER.number_or(faults, &layer.own, "after", 0);
+}
+
+// Adds the plan of a table; what is wrong with it is reported.
+fn add_table(faults: &mut Faults, layer: &Layer, ground: &Ground, tables: &mut Vec<TablePlan>) {
+    let alloc = faults.alloc();
     let mut plan = TablePlan {
         routes: Vec::new(alloc),
         exits: Vec::new(alloc),
@@ -100,131 +94,77 @@ fn table_plan(
         waits: Vec::new(alloc),
         after: 0,
     };
-    fill_table(alloc, faults, layer, ground, &mut plan)?;
-    Ok(plan)
+    fill_table(faults, layer, ground, &mut plan);
+    push(faults, tables, plan);
 }
 
 // Adds the plans of the tables after the first.
-fn add_tables(
-    alloc: Global,
-    faults: &mut Faults,
-    top: &Entry,
-    ground: &Ground,
-    plan: &mut Plan,
-) -> Result<(), AllocError> {
+fn add_tables(faults: &mut Faults, top: &Entry, ground: &Ground, plan: &mut Plan) {
     let tables = top.list(Kind::Table);
-    let count = tables.values.len();
-    for index in 0..count.min(MOST_TABLES - 1) {
+    for index in 0..tables.values.len().min(MOST_TABLES - 1) {
         let layer = Layer::of(top, index.saturating_add(1));
-        plan.tables
-            .push(table_plan(alloc, faults, &layer, ground)?)?;
+        add_table(faults, &layer, ground, &mut plan.tables);
     }
-    if MOST_TABLES <= count {
-        let form = "this is one table too many: 16 are the most, with the first";
-        faults.tell(&tables.entry(MOST_TABLES - 1), form, &[]);
-    }
-    Ok(())
-}
-
-// Adds places as a document has them: the first, in place of one that isn't right.
-fn push_starts(places: &mut Vec<u32>, starts: &[Option<usize>]) -> Result<(), AllocError> {
-    for start in starts {
-        places.push(u32::try_from(start.unwrap_or(0)).unwrap_or(0))?;
-    }
-    Ok(())
+    let form = "this is one table too many: 16 are the most, with the first";
+    check_count(faults, &tables, MOST_TABLES - 1, form);
 }
 
 // Adds where the trains start, under the first table, if it is there; what is wrong with it is reported.
-fn add_starts(
-    alloc: Global,
-    faults: &mut Faults,
-    top: &Entry,
-    ground: &Ground,
-    plan: &mut Plan,
-) -> Result<(), AllocError> {
+fn add_starts(faults: &mut Faults, top: &Entry, ground: &Ground, plan: &mut Plan) {
     let Some(first) = plan.tables.first() else {
-        return Ok(());
+        return;
     };
-    let scope = Scope {
-        points: &ground.points,
-        trains: &ground.trains,
-        routes: &first.routes,
-        exits: &first.exits,
-        table: 0,
-    };
+    let scope = scope_of(ground, first, 0);
     let trains = top.list(Kind::Train);
-    let starts = starts(alloc, faults, &trains, &scope)?;
+    let starts = starts(faults, &trains, &scope);
     check_starts(faults, &trains, &scope, &starts);
-    let sections = top.list(Kind::Section);
-    check_taken(alloc, faults, &sections, &first.sections, &scope, &starts)?;
-    push_starts(&mut plan.start, &starts)
+    check_taken(faults, &top.list(Kind::Section), &scope, &starts);
+    for start in &starts {
+        push(faults, &mut plan.start, number(*start));
+    }
 }
 
 // Adds what is named.
-fn add_names(alloc: Global, ground: &Ground, plan: &mut Plan) -> Result<(), AllocError> {
-    for train in &ground.trains {
-        push_name(&mut plan.trains, alloc, train)?;
-    }
+fn add_names(faults: &mut Faults, ground: &Ground, plan: &mut Plan) {
+    push_all(faults, &mut plan.trains, &ground.trains);
     for (index, point) in ground.points.iter().enumerate() {
-        let zone = ground.zones.get(index).copied().flatten().unwrap_or(0);
-        plan.points.push((String::from_str(alloc, point)?, zone))?;
+        let point = (owned(faults, point), ground.zone(index));
+        push(faults, &mut plan.points, point);
     }
-    Ok(())
-}
-
-// The names of two linked points.
-fn names_of(alloc: Global, link: &Link) -> Result<(String, String), AllocError> {
-    let one = String::from_str(alloc, link.one)?;
-    let other = String::from_str(alloc, link.other)?;
-    Ok((one, other))
 }
 
 // Adds the links, by the names of their points.
-fn add_links(alloc: Global, ground: &Ground, plan: &mut Plan) -> Result<(), AllocError> {
+fn add_links(faults: &mut Faults, ground: &Ground, plan: &mut Plan) {
     for link in &ground.links {
-        plan.links.push(names_of(alloc, link)?)?;
+        let link = (owned(faults, link.one), owned(faults, link.other));
+        push(faults, &mut plan.links, link);
     }
-    Ok(())
 }
 
 // Fills in a plan; what is wrong with it is reported.
-fn fill(
-    alloc: Global,
-    faults: &mut Faults,
-    top: &Entry,
-    ground: &Ground,
-    plan: &mut Plan,
-) -> Result<(), AllocError> {
+fn fill(faults: &mut Faults, top: &Entry, ground: &Ground, plan: &mut Plan) {
     let layer = Layer::of(top, 0);
-    plan.tables
-        .push(table_plan(alloc, faults, &layer, ground)?)?;
-    add_starts(alloc, faults, top, ground, plan)?;
-    add_tables(alloc, faults, top, ground, plan)?;
-    add_names(alloc, ground, plan)?;
-    add_links(alloc, ground, plan)?;
-    add_lines(alloc, top, plan)?;
+    add_table(faults, &layer, ground, &mut plan.tables);
+    add_starts(faults, top, ground, plan);
+    add_tables(faults, top, ground, plan);
+    add_lines(faults, top, plan);
     check_laid(faults, top, ground, plan);
-    Ok(())
+    add_names(faults, ground, plan);
+    add_links(faults, ground, plan);
 }
 
 // Adds what a plan names: its trains, points and links, and the zones of its points.
-fn fill_ground<'t>(
-    faults: &mut Faults,
-    top: &Entry<'t>,
-    ground: &mut Ground<'t>,
-) -> Result<(), AllocError> {
-    ground.add_trains(faults, &top.list(Kind::Train))?;
-    ground.add_points(faults, top)?;
-    ground.add_zones(faults, top)
+fn fill_ground<'t>(faults: &mut Faults, top: &Entry<'t>, ground: &mut Ground<'t>) {
+    ground.add_trains(faults, &top.list(Kind::Train));
+    ground.add_points(faults, top);
+    ground.add_zones(faults, top);
 }
 
-// The plan that a table of keys makes, where this is what it names; what is wrong with it is reported.
-fn plan_on(
-    alloc: Global,
-    faults: &mut Faults,
-    top: &Entry,
-    ground: &Ground,
-) -> Result<Plan, AllocError> {
+/// The plan that a table of keys makes; what is wrong with it is reported, and so is that there was no memory for a part of it.
+pub fn plan_of(faults: &mut Faults, top: &Entry) -> Plan {
+    let alloc = faults.alloc();
+    let mut ground = Ground::new(alloc);
+    fill_ground(faults, top, &mut ground);
     let mut plan = Plan {
         lines: Vec::new(alloc),
         switches: Vec::new(alloc),
@@ -235,13 +175,6 @@ fn plan_on(
         start: Vec::new(alloc),
         tables: Vec::new(alloc),
     };
-    fill(alloc, faults, top, ground, &mut plan)?;
-    Ok(plan)
-}
-
-/// The plan that a table of keys makes; what is wrong with it is reported.
-pub fn plan_of(alloc: Global, faults: &mut Faults, top: &Entry) -> Result<Plan, AllocError> {
-    let mut ground = Ground::new(alloc);
-    fill_ground(faults, top, &mut ground)?;
-    plan_on(alloc, faults, top, &ground)
+    fill(faults, top, &ground, &mut plan);
+    plan
 }

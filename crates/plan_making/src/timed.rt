@@ -17,11 +17,21 @@ fn link(alloc: Global, from: &String, to: &String) -> Result<String, AllocError>
     format!(in alloc; "{from} {to}")
 }
 
+// The number at a key of a table of numbers.
+fn number_at(said: &Value, key: &str) -> Option<i64>
+    ensures { result ≡ number_of key.now (view said.now) }
+{
+    said.get(key)?.as_integer()
+}
+
 // The number at a key, if a table of numbers is said.
 fn number_in(said: Option<&Value>, key: &str) -> Option<i64>
     ensures { result ≡ option_and_then (number_of key.now) (option_map (λ v. view v.now) said.entry) }
 {
-    said?.get(key)?.as_integer()
+    match said {
+        Some(said) => number_at(said, key),
+        None => None,
+    }
 }
 
 /// The number for all steps that have none of their own, if it is said.
@@ -30,7 +40,7 @@ pub(crate) fn default_in(said: &Value) -> Option<i64>
 {
     match said.as_integer() {
         Some(number) => Some(number),
-        None => said.get("default")?.as_integer(),
+        None => number_at(said, "default"),
     }
 }
 

@@ -1,8 +1,8 @@
 // Travel times, by the links of a route.
-use crate::names::{find, text_of};
+use crate::names::{find, tell_of, text_of};
 use crate::ranges::Range;
 use crate::timed::{default_in, times_said};
-use plan_entries::{Entry, Faults, Part};
+use plan_entries::{Entry, Faults};
 use rail_model::TrainTimes;
 use std::alloc::{AllocError, Global};
 use toml::{Table, Value};
@@ -13,42 +13,43 @@ const TIMES: Range = Range {
     form: "a time is 1 to 1000, and this is {}",
 };
 
-// Whether these are the two points of a step.
-fn is_step(pair: &[Value], one: &str, other: &str) -> bool {
-    match pair {
-        [from, to] => text_of(from) == one && text_of(to) == other,
-        _ => false,
-    }
-}
-
 // Whether a route goes from one point to another in one step.
 fn has_step(route: &[Value], one: &str, other: &str) -> bool {
-    for pair in route.windows(2) {
-        if is_step(pair, one, other) {
+    let mut is_after = false;
+    for value in route {
+        let name = text_of(value);
+        if is_after && name == other {
             return true;
         }
+        is_after = name == one;
     }
     false
 }
 
 // Tells the name of a link that a train's route doesn't have.
-fn check_link(faults: &mut Faults, at: &Entry, points: &[&str], route: &[Value]) {
-    let Some((one, other)) = at.name.split_once(" ") else {
+fn check_link<'x>(
+    faults: &mut Faults,
+    train: &Entry<'x>,
+    link: &'x str,
+    points: &[&str],
+    route: &[Value],
+) {
+    let Some((one, other)) = link.split_once(" ") else {
         let form = "{} is no link: two points with a space between them";
-        return faults.tell(at, form, &[Part::Name(at.name)]);
+        return tell_of(faults, train, "times", link, form);
     };
-    if find(faults, &at.of(one), "point", points).is_some()
-        && find(faults, &at.of(other), "point", points).is_some()
+    if find(faults, train, "times", one, "point", points).is_some()
+        && find(faults, train, "times", other, "point", points).is_some()
         && !has_step(route, one, other)
     {
-        faults.tell(at, "{} is no step of the route", &[Part::Name(at.name)]);
+        tell_of(faults, train, "times", link, "{} is no step of the route");
     }
 }
 
 // Tells what is wrong with a table of times.
 fn check_table<'x>(
     faults: &mut Faults,
-    at: &Entry<'x>,
+    train: &Entry<'x>,
     times: &'x Table,
     points: &[&str],
     route: &[Value],
@@ -57,24 +58,23 @@ fn check_table<'x>(
         if let Some(number) = value.as_integer()
             && link.as_str() != "default"
         {
-            let at = at.of(link.as_str());
-            check_link(faults, &at, points, route);
-            TIMES.check(faults, &at, number);
+            let link = link.as_str();
+            check_link(faults, train, link, points, route);
+            TIMES.check(faults, train, "times", link, number);
         }
     }
 }
 
 /// Tells what is wrong with the times of a train.
-pub(crate) fn check_times(faults: &mut Faults, entry: &Entry, points: &[&str], route: &[Value]) {
-    let Some(times) = entry.value("times") else {
+pub(crate) fn check_times(faults: &mut Faults, train: &Entry, points: &[&str], route: &[Value]) {
+    let Some(times) = train.value("times") else {
         return;
     };
-    let at = entry.at("times");
     if let Some(number) = default_in(times) {
-        TIMES.check(faults, &at, number);
+        TIMES.check(faults, &*train, "times", "", number);
     }
-    if let Value::Table(table) = times {
-        check_table(faults, &at, table, points, route);
+    if let Value::Table(times) = times {
+        check_table(faults, train, times, points, route);
     }
 }
 

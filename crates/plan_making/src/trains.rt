@@ -1,11 +1,12 @@
 // The trains of a plan under each of its tables.
 use crate::ground::Ground;
-use crate::names::{find, text_of};
+use crate::lists::{copied, push};
+use crate::names::{find, tell_key, tell_of};
 use crate::routes::{Scope, place_of};
 use crate::times::{check_times, times_of};
 use plan_document::TablePlan;
 use plan_entries::{Entries, Entry, Faults, Part};
-use std::alloc::{AllocError, Global};
+use std::alloc::AllocError;
 use toml::Value;
 
 const MOST_PLACES: usize = 128;
@@ -88,131 +89,103 @@ impl<'t> Roster<'t> {
         self.service(train).entry()
     }
 
+    // Whether this table says anything of a train.
+    fn is_changed(&self, train: usize) -> bool {
+        self.service(train).is_changed()
+    }
+
     /// Tells changes of trains that aren't there, or that are changed already.
     pub fn check_changes(&self, faults: &mut Faults, trains: &[&str]) {
         for index in 0..self.changes.values.len() {
             let change = self.changes.entry(index);
             if let Some(name) = change.text("name") {
-                let at = change.at("name").of(name);
-                find(faults, &at, "train", trains);
+                find(faults, &change, "name", name, "train", trains);
                 if change_of(&self.changes, name) < index {
-                    faults.tell(
-                        &at,
-                        "{} is changed twice by this table",
-                        &[Part::Name(name)],
-                    );
+                    let form = "{} is changed twice by this table";
+                    tell_of(faults, &change, "name", name, form);
                 }
             }
         }
     }
 }
 
-// Tells a route that is empty or too long.
-fn check_route(faults: &mut Faults, service: &Service) {
-    let length = service.route().len();
-    let at = service.entry().at("route");
-    if length == 0 && service.first.names("route").is_some() {
-        faults.tell(&at, "the route is empty", &[]);
-    }
-    let places = length.saturating_add(usize::from(service.exits()));
+// Tells a route that is too long.
+fn check_length(faults: &mut Faults, entry: &Entry, places: usize) {
     if MOST_PLACES < places {
         let form = "the route has {} places, with that behind an exit: 128 are the most";
-        faults.tell(&at, form, &[Part::Count(places)]);
+        faults.tell(&entry.at("route"), form, &[Part::Count(places)]);
     }
 }
 
-/// Adds a name.
-pub(crate) fn push_name(
-    names: &mut Vec<String>,
-    alloc: Global,
-    name: &str,
-) -> Result<(), AllocError> {
-    names.push(String::from_str(alloc, name)?)?;
-    Ok(())
-}
-
-/// Adds names.
-pub(crate) fn push_names(
-    names: &mut Vec<String>,
-    alloc: Global,
-    values: &[Value],
-) -> Result<(), AllocError> {
-    for value in values {
-        push_name(names, alloc, text_of(value))?;
-    }
-    Ok(())
-}
-
-/// Names again.
-pub(crate) fn copied(alloc: Global, values: &[Value]) -> Result<Vec<String>, AllocError> {
-    let mut names = Vec::new(alloc);
-    push_names(&mut names, alloc, values)?;
-    Ok(names)
-}
-
-// Adds to a table what it says of a train; what is wrong with it is reported.
-fn add_train(
-    alloc: Global,
+// Tells what is wrong with what a table says of a train.
+fn check_train(
     faults: &mut Faults,
     service: &Service,
     points: &[&str],
-    plan: &mut TablePlan,
-) -> Result<(), AllocError> {
-    check_route(faults, service);
-    let train = plan.routes.len();
+    route: &[Value],
+    exits: bool,
+) {
+    let entry = service.entry();
+    if route.is_empty() && service.first.names("route").is_some() {
+        tell_key(faults, &entry, "route", "the route is empty");
+    }
+    check_length(faults, &entry, route.len().saturating_add(exits as usize));
+    check_times(faults, &entry, points, route);
+}
+
+// Adds to a table what it says of a train; what is wrong with it is reported.
+fn add_train(faults: &mut Faults, service: &Service, points: &[&str], plan: &mut TablePlan) {
     let route = service.route();
     let exits = service.exits();
-    check_times(faults, &service.entry(), points, route);
-    plan.routes.push(copied(alloc, route)?)?;
-    plan.exits.push(exits)?;
-    let times = times_of(alloc, service.times(), plan.route(train), exits)?;
-    plan.times.push(times)?;
-    Ok(())
+    check_train(faults, service, points, route, exits);
+    let route = copied(faults, route);
+    match times_of(faults.alloc(), service.times(), &route, exits) {
+        Ok(times) => push(faults, &mut plan.times, times),
+        Err(AllocError) => faults.lose(),
+    }
+    push(faults, &mut plan.routes, route);
+    push(faults, &mut plan.exits, exits);
 }
 
 /// Adds to a table what it says of the trains; what is wrong with it is reported.
 pub(crate) fn add_trains(
-    alloc: Global,
     faults: &mut Faults,
     roster: &Roster,
     ground: &Ground,
     plan: &mut TablePlan,
-) -> Result<(), AllocError> {
+) {
     roster.check_changes(faults, &ground.trains);
     for train in 0..ground.trains.len() {
-        add_train(alloc, faults, &roster.service(train), &ground.points, plan)?;
+        add_train(faults, &roster.service(train), &ground.points, plan);
     }
-    Ok(())
 }
 
 // The place at which a train starts, if it is right.
 fn start_of(faults: &mut Faults, entry: &Entry, scope: &Scope, train: usize) -> Option<usize> {
     match entry.text("start") {
-        Some(name) => place_of(faults, &entry.at("start").of(name), scope, train),
+        Some(name) => place_of(faults, entry, "start", name, scope, train),
         None => Some(0),
     }
 }
 
 /// The places at which the trains start; none for one whose start isn't right.
-pub(crate) fn starts(
-    alloc: Global,
-    faults: &mut Faults,
-    trains: &Entries,
-    scope: &Scope,
-) -> Result<Vec<Option<usize>>, AllocError> {
-    let mut found = Vec::new(alloc);
+pub(crate) fn starts(faults: &mut Faults, trains: &Entries, scope: &Scope) -> Vec<Option<usize>> {
+    let mut found = Vec::new(faults.alloc());
     for train in 0..scope.trains.len() {
-        found.push(start_of(faults, &trains.entry(train), scope, train))?;
+        let start = start_of(faults, &trains.entry(train), scope, train);
+        push(faults, &mut found, start);
     }
-    Ok(found)
+    found
 }
 
 // The point of a train's place, if it has one there.
 fn point_at<'a>(scope: &Scope<'a>, train: usize, starts: &[Option<usize>]) -> Option<&'a str> {
-    let place = starts.get(train).copied().flatten()?;
-    match scope.route(train).get(place) {
-        Some(point) => Some(point.as_str()),
-        None => None,
+    if let Some(Some(place)) = starts.get(train)
+        && let Some(point) = scope.plan.route(train).get(*place)
+    {
+        Some(point.as_str())
+    } else {
+        None
     }
 }
 
@@ -234,7 +207,7 @@ fn check_start(
     for earlier in 0..later {
         if point_at(scope, earlier, starts) == Some(here) {
             let form = "starts at {}, as train {} does";
-            tell_same(faults, &entry.at(key), form, here, scope.train(earlier));
+            tell_same(faults, entry, key, form, here, scope.train(earlier));
         }
     }
 }
@@ -242,12 +215,17 @@ fn check_start(
 // Tells that a train is at the same point as another.
 fn tell_same<'x>(
     faults: &mut Faults,
-    at: &Entry,
+    entry: &Entry,
+    key: &'static str,
     form: &'static str,
     point: &'x str,
     other: &'x str,
 ) {
-    faults.tell(at, form, &[Part::Name(point), Part::Name(other)]);
+    faults.tell(
+        &entry.at(key),
+        form,
+        &[Part::Name(point), Part::Name(other)],
+    );
 }
 
 /// Tells each train that starts at the point of an earlier one.
@@ -264,10 +242,10 @@ pub(crate) fn check_starts(
 
 // The point at which a train ends for good: none, if it exits.
 fn end_of<'a>(scope: &Scope<'a>, train: usize) -> Option<&'a str> {
-    if scope.exits(train) {
+    if scope.plan.exits_at(train) {
         return None;
     }
-    match scope.route(train).last() {
+    match scope.plan.route(train).last() {
         Some(point) => Some(point.as_str()),
         None => None,
     }
@@ -278,15 +256,12 @@ fn check_end(faults: &mut Faults, roster: &Roster, later: usize, scope: &Scope) 
     let Some(here) = end_of(scope, later) else {
         return;
     };
-    let service = roster.service(later);
-    let at = service.entry().at("route");
-    let is_new = scope.table == 0 || service.is_changed();
+    let entry = roster.entry(later);
+    let is_new = scope.table == 0 || roster.is_changed(later);
     for earlier in 0..later {
-        if end_of(scope, earlier) == Some(here)
-            && (is_new || roster.service(earlier).is_changed())
-        {
+        if end_of(scope, earlier) == Some(here) && (is_new || roster.is_changed(earlier)) {
             let form = "without an exit it ends at {}, as train {} does";
-            tell_same(faults, &at, form, here, scope.train(earlier));
+            tell_same(faults, &entry, "route", form, here, scope.train(earlier));
         }
     }
 }

@@ -72,7 +72,10 @@ fn first_named<'t>(entries: &'t [Value], name: &String) -> Option<&'t Value>
 fn change_of<'t>(own: Option<&'t Value>, name: Option<&String>) -> Option<&'t Value>
     ensures { seen result ≡ spec.change_of (seen own.entry) (option_copied name.entry) }
 {
-    first_named(list_at(own, "train").unwrap_or(&[]), name?)
+    match name {
+        Some(name) => first_named(list_at(own, "train").unwrap_or(&[]), name),
+        None => None,
+    }
 }
 
 // What is said of a train at a key: what its table changes there, or else what its entry in the text has.
@@ -246,7 +249,10 @@ fn tables_as_said(
 fn start_said(entries: &[Value], train: usize) -> Option<&str>
     ensures { option_copied result ≡ option_and_then (text_of (codes "start")) (get_item train (items_view entries.now)) }
 {
-    text_at(entry_at(entries, train)?, "start")
+    match entry_at(entries, train) {
+        Some(entry) => text_at(entry, "start"),
+        None => None,
+    }
 }
 
 // Whether a train of a plan starts, under the first table, at the place that its entry says.

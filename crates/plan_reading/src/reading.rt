@@ -1,7 +1,8 @@
 // A plan from its text.
-ghost use Rattle.std.specs.Prelude.{◌<◌, IfOk, vec_len};
+ghost use Rattle.std.specs.Prelude.{◌<◌, IfOk, IsTrue, vec_len};
+ghost use Rattle.toml.specs.Data.{Members};
 ghost use Rattle.toml.specs.View.{table_view};
-ghost use Rattle.plan_reading.specs.Said.{IsPlanRead, IsReading};
+ghost use Rattle.plan_reading.specs.Said.{IsPlanOf, IsPlanRead, IsReading};
 
 use crate::agreement::agrees;
 use plan_document::Plan;
@@ -47,6 +48,14 @@ fn alone(alloc: Global, fault: Fault) -> Result<Vec<Fault>, AllocError>
     Ok(list)
 }
 
+// One fault in a line.
+fn told(alloc: Global, line: u32, what: &str, why: &str) -> Result<Vec<Fault>, AllocError>
+    ensures { IfOk result (λ list. 0 < vec_len list) }
+{
+    let words = joined(alloc, what, why)?;
+    alone(alloc, Fault { line, words })
+}
+
 // One fault, after the first bytes of a text.
 fn one_fault(
     alloc: Global,
@@ -57,9 +66,8 @@ fn one_fault(
 ) -> Result<PlanRead, AllocError>
     ensures { IfOk result (λ read. IsPlanRead text.now read) }
 {
-    let words = joined(alloc, what, why)?;
     let line = line_after(text.get(..at).unwrap_or(&[]));
-    Ok(PlanRead::Faults(alone(alloc, Fault { line, words })?))
+    Ok(PlanRead::Faults(told(alloc, line, what, why)?))
 }
 
 // What a text that isn't TOML is as a plan.
@@ -76,12 +84,43 @@ fn not_toml(alloc: Global, text: &[u8], error: &Error) -> Result<PlanRead, Alloc
 fn all_faults(alloc: Global, faults: Faults) -> Result<Vec<Fault>, AllocError>
     ensures { IfOk result (λ list. 0 < vec_len list) }
 {
-    let mut list = faults.into_list()?;
+    let list = faults.into_list()?;
     if list.is_empty() {
-        let words = String::from_str(alloc, "the plan isn't what its text says")?;
-        list.push(Fault { line: 1, words })?;
+        return told(alloc, 1, "the plan isn't what its text says", "");
     }
     Ok(list)
+}
+
+// What a text with these faults is as a plan.
+fn read_faults(alloc: Global, faults: Faults) -> Result<PlanRead, AllocError>
+    ensures { IfOk result (λ read. (text : Members) → IsReading text read) }
+{
+    Ok(PlanRead::Faults(all_faults(alloc, faults)?))
+}
+
+// Whether no fault was found, and a plan is what its text says.
+fn is_right(alloc: Global, faults: &Faults, table: &Table, plan: &Plan) -> Result<bool, AllocError>
+    ensures { IfOk result (λ right. IsTrue right → IsPlanOf (table_view table.now) plan.now) }
+{
+    if faults.is_empty() {
+        return agrees(alloc, table, plan);
+    }
+    Ok(false)
+}
+
+// What a table of keys is as a plan, if this is what was made of it, with these faults.
+fn read_made(
+    alloc: Global,
+    faults: Faults,
+    table: &Table,
+    plan: Plan,
+) -> Result<PlanRead, AllocError>
+    ensures { IfOk result (IsReading (table_view table.now)) }
+{
+    if is_right(alloc, &faults, table, &plan)? {
+        return Ok(PlanRead::Plan(plan));
+    }
+    read_faults(alloc, faults)
 }
 
 // What a table of keys is as a plan.
@@ -91,11 +130,8 @@ fn read_table(alloc: Global, text: &str, table: &Table) -> Result<PlanRead, Allo
     let mut faults = Faults::new(alloc, text)?;
     let top = Entry::part(Kind::Top, Some(table));
     check_types(&mut faults, &top);
-    let plan = plan_of(alloc, &mut faults, &top)?;
-    if faults.is_empty() && agrees(alloc, table, &plan)? {
-        return Ok(PlanRead::Plan(plan));
-    }
-    Ok(PlanRead::Faults(all_faults(alloc, faults)?))
+    let plan = plan_of(&mut faults, &top);
+    read_made(alloc, faults, table, plan)
 }
 
 /// Reads a plan in TOML. All that is wrong with it is reported, with lines and names.

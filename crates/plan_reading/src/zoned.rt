@@ -3,7 +3,7 @@ ghost use Rattle.std.specs.Prelude.{◌≡◌, ◌<◌, decimal, option_map};
 ghost use Rattle.toml.specs.View.{items_view, view};
 ghost use Rattle.plan_reading.specs.Zoned as spec;
 
-use crate::matching::has_name;
+use crate::matching::{has_name, list_at};
 use toml::Value;
 
 // The numbers of the zones, as they are written.
@@ -24,7 +24,7 @@ fn list_of(zones: Option<&Value>, zone: u32) -> Option<&[Value]>
     requires { zone < 16 }
     ensures { option_map (λ values. items_view values.now) result ≡ spec.list_of (option_map (λ v. view v.now) zones.entry) zone }
 {
-    Some(zones?.get(number_of(zone))?.as_array()?.as_slice())
+    list_at(zones, number_of(zone))
 }
 
 // Whether the list of a zone has a point.
