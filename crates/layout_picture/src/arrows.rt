@@ -2,8 +2,7 @@
 ghost use Rattle.std.specs.Prelude.{◌≡◌, ◌+ℤ◌, ◌-ℤ◌, IfOk};
 ghost use Rattle.layout_picture.specs.Arrows.{times as product, thousandths, sixths as sixths_of};
 
-use crate::frame::shifted;
-use crate::tracks::difference;
+use layout_frame::{difference, shifted};
 use std::alloc::{AllocError, Global};
 use svg_text::{Shape, Spot, polygon};
 

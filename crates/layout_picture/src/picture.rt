@@ -2,14 +2,14 @@
 ghost use Rattle.std.specs.Prelude.{◌≡◌, ◌++◌, ◌∷◌, [], IfOk, OnOk, length};
 ghost use Rattle.layout_picture.specs.Drawn.{AddsLayer, AreLayers, IsDrawn, IsLayer, ground_of};
 
-use crate::captions::{push_point_names, push_train_names};
-use crate::frame::{View, frame_of};
+use crate::circles::looks_of;
 use crate::layers::{LAYERS, Layer, class_of, title_of};
-use crate::legend::push_legend;
 use crate::sections::{push_areas, push_numbers};
-use crate::shapes::{push_label, push_shape};
 use crate::tracks::{push_dots, push_links};
 use crate::trains::{push_arrows, push_waits};
+use layout_frame::{
+    View, frame_of, push_label, push_legend, push_point_names, push_shape, push_train_names,
+};
 use rail_model::Layout;
 use state_sentences::Scene;
 use std::alloc::{AllocError, Global};
@@ -93,11 +93,13 @@ pub(crate) fn drawing(
 ) -> Result<Picture, AllocError>
     ensures { IfOk result (λ picture. IsDrawn layout.now scene.now.table.now scene.now.state.now picture.width picture.height picture.groups) }
 {
-    let frame = frame_of(alloc, layout, scene)?;
+    let looks = looks_of(scene);
+    let frame = frame_of(alloc, layout, scene, &looks)?;
     let view = View {
         alloc,
         layout,
         scene,
+        looks: &looks,
         frame: &frame,
         title,
     };

@@ -2,26 +2,17 @@
 ghost use Rattle.std.specs.Prelude.{◌≡◌, ◌<◌, ◌++◌, IfOk, OnOk, codes, decimal, length, flat_map, string_bytes};
 ghost use Rattle.state_sentences.specs.Explanation.{joined_below};
 ghost use Rattle.rail_model.specs.Checks.{below};
-ghost use Rattle.layout_picture.specs.Marks.{painted};
+ghost use Rattle.layout_frame.specs.Spots.{painted};
 ghost use Rattle.layout_picture.specs.Areas.{dot_words, line_words, way_over as words_over, way_of};
 ghost use Rattle.layout_picture.specs.Areas.{first_attribute, is_marked};
 ghost use Rattle.layout_picture.specs.Drawn.{AddsShapes, AreAreas, marks};
 
-use crate::frame::{View, shifted};
 use crate::insides::has_point;
-use crate::shapes::{path, push_label, push_shape, write_spot};
+use crate::shapes::{path, write_spot};
+use layout_frame::{View, area_colour, push_label, push_shape, shifted};
 use rail_model::{Link, points_of, sections_of};
 use std::alloc::{AllocError, Global};
 use svg_text::Shape;
-
-const COLOURS: [&str; 8] = [
-    "#e8b923", "#5aa9e6", "#63b76c", "#d66ba0", "#8f7be0", "#b08a5b", "#35b0ab", "#8d99a6",
-];
-
-/// The colour of a section.
-pub(crate) fn area_colour(section: u32) -> &'static str {
-    COLOURS[section as usize % 8]
-}
 
 // How wide the area of a section is. Sections that share points have areas of different width.
 fn area_width(across: u64, section: u32) -> u64 {

@@ -1,28 +1,17 @@
 // Trains as arrows toward their next points.
 ghost use Rattle.std.specs.Prelude.{◌≡◌, ◌+◌, ◌<◌, OnOk};
 ghost use Rattle.rail_model.specs.Table.{trains, point, place};
-ghost use Rattle.layout_picture.specs.Marks.{spot_at as spot_of};
+ghost use Rattle.layout_frame.specs.Spots.{spot_at as spot_of};
 ghost use Rattle.layout_picture.specs.Arrows.{IsMark, IsArrow, outline_of as train_outline};
 ghost use Rattle.layout_picture.specs.Drawn.{AddsShapes, AreLinkLines, AreOfTrains, IsWait, step_between};
 
 use crate::arrows::{ARROW, Heading, Outline, SQUARE};
 use crate::circles::{colour_of, is_in_circle};
-use crate::frame::View;
-use crate::shapes::push_painted;
 use crate::tracks::push_line;
+use layout_frame::{View, push_painted, spot_at};
 use rail_model::{last_of, point_of};
 use std::alloc::AllocError;
 use svg_text::{Shape, Spot};
-
-/// The spot of a train's point at a place.
-pub(crate) fn spot_at(view: &View, train: u32, place: u32) -> Option<Spot>
-    requires { train < trains view.now.scene.now.table.now }
-{
-    match point_of(view.scene.table, train, place) {
-        Some(point) => Some(view.frame.spot(point)),
-        None => None,
-    }
-}
 
 // A train's next point, if it has one.
 fn next_point(view: &View, train: u32) -> Option<u32>
