@@ -9,7 +9,7 @@ fn is_within(number: u64, a: u64, b: u64) -> bool {
 }
 
 /// How far a distance is above another one.
-pub fn difference(to: u64, from: u64) -> i64 {
+pub(crate) fn difference(to: u64, from: u64) -> i64 {
     let to = i64::try_from(to).unwrap_or(i64::MAX);
     let from = i64::try_from(from).unwrap_or(i64::MAX);
     to.saturating_sub(from)

@@ -85,7 +85,7 @@ pub fn push_point_names(shapes: &mut Vec<Shape>, view: &View) -> Result<(), Allo
 }
 
 /// The spot of a train's point at a place.
-pub fn spot_at(view: &View, train: u32, place: u32) -> Option<Spot>
+pub(crate) fn spot_at(view: &View, train: u32, place: u32) -> Option<Spot>
     requires { train < trains view.now.scene.now.table.now }
 {
     match point_of(view.scene.table, train, place) {

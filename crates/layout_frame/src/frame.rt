@@ -49,6 +49,8 @@ pub struct View<'a> {
     pub layout: &'a Layout,
     pub scene: &'a Scene<'a>,
     pub looks: &'a [Look],
+    /// For each point the sections that it is in, a bit for each.
+    pub inside: &'a [u64],
     pub frame: &'a Frame,
     pub title: &'a str,
 }

@@ -5,20 +5,24 @@
 mod bows;
 mod captions;
 mod cells;
+mod directions;
 mod filling;
 mod frame;
 mod legend;
 mod looks;
+mod numbers;
 mod placing;
 mod shapes;
 mod spine;
 mod straightening;
 mod titles;
 
-pub use bows::{bow_between, difference};
-pub use captions::{push_point_names, push_train_names, spot_at};
+pub use bows::bow_between;
+pub use captions::{push_point_names, push_train_names};
+pub use directions::direction_of;
 pub use frame::{Frame, Grid, View, frame_of, shifted};
 pub use legend::{area_colour, push_legend};
 pub use looks::Look;
+pub use numbers::push_numbers;
 pub use shapes::{push_label, push_painted, push_shape};
 pub use titles::{cause_of, title_of};

@@ -3,7 +3,7 @@ ghost use Rattle.std.specs.Prelude.{◌≡◌, ◌++◌, Some, IfOk, OnOk, codes
 ghost use Rattle.layout_picture.specs.Drawn.{AddsShapes, AreLinkLines, step_between};
 ghost use Rattle.layout_picture.specs.Marks.{dot_at, pair_of, bow_of, stroke_of, ends_of, ends_at};
 
-use crate::shapes::{path, write_spot};
+use crate::shapes::path;
 use layout_frame::{Frame, View, bow_between, push_shape};
 use rail_model::Link;
 use std::alloc::{AllocError, Global};
@@ -49,9 +49,13 @@ fn write_bow(words: &mut String, from: Spot, toward: Spot, to: Spot) -> Result<(
     ensures { OnOk result (string_bytes words.new ≡ string_bytes words.old
         ++ codes "M" ++ pair_of from ++ codes " Q" ++ pair_of toward ++ codes " " ++ pair_of to) }
 {
-    write_spot(words, "M", from)?;
-    write_spot(words, " Q", toward)?;
-    write_spot(words, " ", to)
+    let Spot { x, y } = from;
+    let Spot {
+        x: aside,
+        y: beside,
+    } = toward;
+    let Spot { x: right, y: down } = to;
+    write!(words, "M{x},{y} Q{aside},{beside} {right},{down}")
 }
 
 // A bow.
