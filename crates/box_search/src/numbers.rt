@@ -18,12 +18,6 @@ pub(crate) fn add(numbers: &mut [u32], index: usize, more: u32) {
     put(numbers, index, sum);
 }
 
-/// Takes from the number at an index.
-pub(crate) fn take(numbers: &mut [u32], index: usize, less: u32) {
-    let rest = at(numbers, index).saturating_sub(less);
-    put(numbers, index, rest);
-}
-
 /// Where the number of a train at a place is.
 pub(crate) fn of_place(train: u32, place: u32) -> usize {
     train as usize * 128 + place as usize

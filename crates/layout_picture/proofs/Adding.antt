@@ -7,7 +7,7 @@ use Rattle.svg_text.specs.Tree.{Shape}
 use Rattle.svg_text.specs.declared.shapes.Spot.{Spot}
 use Rattle.rail_model.specs.Layout.{Link}
 use Rattle.rail_model.specs.Checks.{below}
-use Rattle.layout_picture.specs.declared.frame.View.{View}
+use Rattle.layout_frame.specs.declared.frame.View.{View}
 use Rattle.layout_picture.specs.Marks.{ends_of, link_ends, stroke_of}
 use Rattle.layout_picture.specs.Areas.{first_attribute, way_of}
 use Rattle.layout_picture.specs.Drawn.{AddsShapes, AreAreas, AreLinkLines, AreOfTrains, marks, step_between}

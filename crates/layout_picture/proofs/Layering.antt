@@ -4,7 +4,7 @@ use Rattle.std.specs.Prelude.{Result, Ok, Err, OnOk}
 use Rattle.std.proofs.lemmas.List.{append-nil, take_more}
 use Rattle.svg_text.specs.Tree.{Group, Shape}
 use Rattle.rail_model.specs.Table.{trains}
-use Rattle.layout_picture.specs.declared.frame.View.{View}
+use Rattle.layout_frame.specs.declared.frame.View.{View}
 use Rattle.layout_picture.specs.declared.layers.Layer.{Layer}
 use Rattle.layout_picture.specs.declared.layers.Layer.TheVariants as layer
 use Rattle.layout_picture.specs.Areas.{first_attribute}

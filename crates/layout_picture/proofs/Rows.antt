@@ -10,7 +10,7 @@ use Rattle.rail_model.specs.Layout.{Layout, Point, Link}
 use Rattle.rail_model.specs.Table.{Table}
 use Rattle.layout_picture.specs.declared.arrows.Heading.{Heading}
 use Rattle.layout_picture.specs.declared.arrows.TheConstants.{ARROW, SQUARE}
-use Rattle.layout_picture.specs.Marks.{painted}
+use Rattle.layout_frame.specs.Spots.{painted}
 use Rattle.layout_picture.specs.Red.{is_red}
 use Rattle.layout_picture.specs.Arrows.{mark_of, outline_of, IsArrow}
 use Rattle.layout_picture.specs.Areas.{inside, way_over, path_along, way_of, first_attribute}

@@ -8,7 +8,8 @@ use Rattle.rail_model.specs.Table.{Table, IsTable, trains, last}
 use Rattle.layout_picture.specs.declared.tracks.Way.{Way}
 use Rattle.layout_picture.specs.declared.arrows.Heading.{Heading}
 use Rattle.layout_picture.specs.declared.arrows.Outline.{Outline}
-use Rattle.layout_picture.specs.Marks.{WayEnds, ends_of, ends_at, stroke_of, painted}
+use Rattle.layout_frame.specs.Spots.{painted}
+use Rattle.layout_picture.specs.Marks.{WayEnds, ends_of, ends_at, stroke_of}
 use Rattle.layout_picture.specs.Red.{IsColour}
 use Rattle.layout_picture.specs.Arrows.{mark_of, outline_of, IsMark}
 use Rattle.layout_picture.specs.Drawn.{AreLinkLines, step_between}

@@ -6,7 +6,8 @@ use Rattle.rail_model.specs.Layout.{Layout, Link}
 use Rattle.rail_model.specs.Table.{Table, trains, last, point, share}
 use Rattle.rail_model.specs.Checks.{below}
 use Rattle.state_sentences.specs.Explanation.{joined_below}
-use Rattle.layout_picture.specs.Marks.{spot_at, pair_of}
+use Rattle.layout_frame.specs.Spots.{spot_at}
+use Rattle.layout_picture.specs.Marks.{pair_of}
 
 -- whether one of f 0, .., f (n - 1) holds
 abbrev pub some_below : (ℕ → Bool) → ℕ → Bool

@@ -1,6 +1,6 @@
 -- The arrows of trains.
 use Rattle.std.specs.Prelude.{◌≡◌, ℕ, ◌==◌, ℤ, pos, ◌+ℤ◌, ◌-ℤ◌, ◌*ℤ◌, int_div, List, [], ◌∷◌, codes, Option, Some, None, if◌then◌else◌}
-use Rattle.std.specs.Int.{w64, saturate_signed, saturate_unsigned}
+use Rattle.std.specs.Int.{w64, saturate_signed}
 use Rattle.svg_text.specs.Tree.{Shape}
 use Rattle.svg_text.specs.Shapes.{polygon_of}
 use Rattle.svg_text.specs.declared.shapes.Spot.{Spot}
@@ -9,7 +9,7 @@ use Rattle.layout_picture.specs.declared.arrows.Heading.{Heading}
 use Rattle.layout_picture.specs.declared.arrows.Corner.{Corner}
 use Rattle.layout_picture.specs.declared.arrows.Outline.{Outline}
 use Rattle.layout_picture.specs.declared.arrows.TheConstants.{ARROW, SQUARE}
-use Rattle.layout_picture.specs.Marks.{painted, spot_at}
+use Rattle.layout_frame.specs.Spots.{painted, shifted, spot_at}
 use Rattle.layout_picture.specs.Red.{IsColour}
 
 -- a product that stays within 64 bits
@@ -23,10 +23,6 @@ thousandths z = int_div (saturate_signed w64 z) (pos 1000)
 -- this many sixths of a size
 abbrev pub sixths : ℤ → ℤ → ℤ
 sixths size number = int_div (times size number) (pos 6)
-
--- the spot so far to the right of another one, and so far below it
-abbrev pub shifted : Spot → ℤ → ℤ → Spot
-shifted at right down = record { x = saturate_unsigned w64 (pos at.x +ℤ right); y = saturate_unsigned w64 (pos at.y +ℤ down) }
 
 -- the spot so far ahead of another one, and so far aside, for who heads there
 abbrev pub turned : Heading → Spot → ℤ → ℤ → Spot

@@ -7,7 +7,7 @@ use Rattle.rail_model.specs.Layout.{Layout, Link}
 use Rattle.rail_model.specs.Table.{Table, trains, point, place}
 use Rattle.rail_model.specs.Checks.{below}
 use Rattle.layout_picture.specs.declared.tracks.Way.{Way}
-use Rattle.layout_picture.specs.declared.frame.View.{View}
+use Rattle.layout_frame.specs.declared.frame.View.{View}
 use Rattle.layout_picture.specs.declared.layers.Layer.{Layer}
 use Rattle.layout_picture.specs.declared.layers.Layer.TheVariants.{Ground, Sections, Links, Circle, Points, Numbers, Arrows, Names, Trains, Legend, Heading}
 use Rattle.layout_picture.specs.Marks.{dot_at, stroke_of, ends_of, link_ends}

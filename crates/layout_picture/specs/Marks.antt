@@ -1,18 +1,15 @@
--- Dots, lines and colours.
-use Rattle.std.specs.Prelude.{ℕ, List, [], ◌∷◌, ◌++◌, codes, decimal, Option, Some, None, slice_index_or}
+-- Dots and lines.
+use Rattle.std.specs.Prelude.{ℕ, List, [], ◌∷◌, ◌++◌, codes, decimal, Option, Some, None}
 use Rattle.svg_text.specs.Tree.{Shape}
 use Rattle.svg_text.specs.Shapes.{line_of, circle_of}
 use Rattle.svg_text.specs.declared.shapes.Spot.{Spot}
 use Rattle.rail_model.specs.Layout.{Link}
+use Rattle.layout_frame.specs.Spots.{spot_at}
 use Rattle.layout_picture.specs.declared.tracks.Way.{Way}
 
 -- a dot at a spot
 abbrev pub dot_at : Spot → Shape
 dot_at at = circle_of at 5
-
--- a shape in a colour
-abbrev pub painted : Shape → List ℕ → List ℕ → Shape
-painted s name colour = record s { attributes = s.attributes ++ record { name = name; value = colour } ∷ [] }
 
 -- x and y of a spot, as a path has them
 abbrev pub pair_of : Spot → List ℕ
@@ -42,10 +39,6 @@ pub record WayEnds : Type 0 where
 
 abbrev pub ends_of : Way → WayEnds
 ends_of w = record { from = w.from; to = w.to }
-
--- the spot of a point
-abbrev pub spot_at : List Spot → ℕ → Spot
-spot_at spots point = slice_index_or spots point (record { x = 0; y = 0 })
 
 -- the spots of two points
 abbrev pub ends_at : List Spot → ℕ → ℕ → WayEnds

@@ -5,11 +5,11 @@ ghost use Rattle.layout_json.specs.Doc.{table_at};
 ghost use Rattle.legal_state.specs.Illegal.{IsIllegal};
 ghost use Rattle.layout_picture.specs.Answer.{IsPictureOrWords};
 
-use crate::frame::point_name;
 use crate::picture::drawing;
+use layout_frame::{cause_of, title_of};
 use layout_json::{Doc, layout_of, names_of, start_of, table_of, tables_of};
 use legal_state::{Illegal, judge};
-use rail_model::{Names, State, Table, last_of, trains_of};
+use rail_model::State;
 use state_sentences::Scene;
 use std::alloc::{AllocError, Global};
 use svg_text::Picture;
@@ -19,84 +19,6 @@ use svg_text::Picture;
 pub enum Drawn {
     Picture { picture: Picture },
     Refused { words: String },
-}
-
-fn train_name(names: &Names, train: u32) -> &str {
-    if (train as usize) < names.trains() {
-        names.train(train)
-    } else {
-        ""
-    }
-}
-
-// The last place of a train.
-fn last_place(table: &Table, train: u32) -> u32 {
-    if train < trains_of(table) {
-        last_of(table, train)
-    } else {
-        0
-    }
-}
-
-// Adds why a state isn't legal.
-fn write_cause(
-    words: &mut String,
-    doc: &Doc,
-    table: &Table,
-    state: &State,
-    illegal: Illegal,
-) -> Result<(), AllocError> {
-    let names = names_of(doc);
-    match illegal {
-        Illegal::Length { count } => {
-            let trains = names.trains();
-            write!(words, "there are {trains} trains, and places for {count}")
-        }
-        Illegal::Range { train } => {
-            let name = train_name(names, train);
-            let place = state.as_slice().get(train as usize).copied().unwrap_or(0);
-            let last = last_place(table, train);
-            write!(words, "{name} has no place {place}: its last one is {last}")
-        }
-        Illegal::Clash {
-            first,
-            second,
-            point,
-        } => {
-            let first = train_name(names, first);
-            let second = train_name(names, second);
-            let point = point_name(layout_of(doc), point);
-            write!(words, "{first} and {second} are both at {point}")
-        }
-        Illegal::Over {
-            section,
-            count,
-            limit,
-        } => write!(
-            words,
-            "section {section} has {count}, above its limit {limit}"
-        ),
-    }
-}
-
-// Adds the places of a state, or that they are the start.
-fn write_places(title: &mut String, state: &State, start: &State) -> Result<(), AllocError> {
-    if state.as_slice() == start.as_slice() {
-        return title.push_str("their start");
-    }
-    let mut before = "places ";
-    for place in state.as_slice() {
-        write!(title, "{before}{place}")?;
-        before = ",";
-    }
-    Ok(())
-}
-
-// The title of a picture.
-fn title_of(alloc: Global, table: u32, state: &State, start: &State) -> Result<String, AllocError> {
-    let mut title = format!(in alloc; "Layout, table {table}: trains at ")?;
-    write_places(&mut title, state, start)?;
-    Ok(title)
 }
 
 // That there is no such table.
@@ -121,8 +43,8 @@ fn refused(
     requires illegal { IsIllegal (table_at doc.now table) state.now illegal }
     ensures { IfOk result (λ drawn. IsPictureOrWords doc.now table state.now drawn) }
 {
-    let mut words = String::new(alloc);
-    write_cause(&mut words, doc, table_of(doc, table), state, illegal)?;
+    let table = table_of(doc, table);
+    let words = cause_of(alloc, layout_of(doc), names_of(doc), table, state, illegal)?;
     Ok(Drawn::Refused { words })
 }
 

@@ -2,16 +2,15 @@
 ghost use Rattle.std.specs.Prelude.{◌≡◌, ◌+ℤ◌, ◌-ℤ◌, IfOk};
 ghost use Rattle.layout_picture.specs.Arrows.{times as product, thousandths, sixths as sixths_of};
 
-use crate::frame::shifted;
-use crate::tracks::difference;
+use layout_frame::shifted;
 use std::alloc::{AllocError, Global};
 use svg_text::{Shape, Spot, polygon};
 
 /// A direction: how far to the right and down, in thousandths.
 #[derive(Clone, Copy)]
 pub(crate) struct Heading {
-    right: i64,
-    down: i64,
+    pub(crate) right: i64,
+    pub(crate) down: i64,
 }
 
 /// A corner of a mark: how far ahead of its middle, and how far to the right, in sixths of its size.
@@ -94,31 +93,6 @@ fn sixths(size: i64, number: i64) -> i64
 
 impl Heading {
     ghost use Rattle.layout_picture.specs.Arrows.{turned, corner_of, mark_of};
-
-    /// To the right.
-    pub(crate) fn east() -> Heading {
-        Heading {
-            right: 1000,
-            down: 0,
-        }
-    }
-
-    /// From one spot to another.
-    pub(crate) fn between(from: Spot, to: Spot) -> Heading {
-        let right = difference(to.x, from.x);
-        let down = difference(to.y, from.y);
-        let square = right
-            .saturating_mul(right)
-            .saturating_add(down.saturating_mul(down));
-        let length = difference(square.unsigned_abs().isqrt(), 0);
-        match (
-            right.saturating_mul(1000).checked_div(length),
-            down.saturating_mul(1000).checked_div(length),
-        ) {
-            (Some(right), Some(down)) => Heading { right, down },
-            _ => Heading::east(),
-        }
-    }
 
     // The spot so far ahead of another one, and so far to the right.
     fn turned(&self, at: Spot, ahead: i64, aside: i64) -> Spot

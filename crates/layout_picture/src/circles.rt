@@ -4,19 +4,20 @@ ghost use Rattle.rail_model.specs.Table.{trains};
 ghost use Rattle.state_sentences.specs.Circle.{waits_for as waits_for_of};
 ghost use Rattle.layout_picture.specs.Red.{IsInCircle, IsColour, is_red};
 
+use layout_frame::Look;
 use rail_model::Ask;
 use state_sentences::Scene;
 
-/// The colour of a circle.
-pub(crate) const RED: &str = "#d00000";
+// The colour of a circle.
+const RED: &str = "#d00000";
 
 // The colours of the other trains.
 const COLOURS: [&str; 8] = [
     "#0b5fa5", "#b35900", "#00704f", "#6b2fa0", "#1f2933", "#8a6d00", "#a1246e", "#3a7d8c",
 ];
 
-/// The train at a train's next point, if that is why it may not move.
-pub(crate) fn waits_for(scene: &Scene, train: u32) -> Option<u32>
+// The train at a train's next point, if that is why it may not move.
+fn waits_for(scene: &Scene, train: u32) -> Option<u32>
     requires { train < trains scene.now.table.now }
     ensures waits { result ≡ waits_for_of scene.now.table.now scene.now.state.now train }
     ensures within { IfSome result (λ by. by < trains scene.now.table.now) }
@@ -61,4 +62,33 @@ pub(crate) fn colour_of(scene: &Scene, train: u32) -> &'static str
     ensures { IsColour scene.now.table.now scene.now.state.now train result.now }
 {
     colour_for(train, is_in_circle(scene, train))
+}
+
+// How a train looks.
+fn look_of(scene: &Scene, train: u32) -> Look
+    requires { train < trains scene.now.table.now }
+{
+    let waits_for = if is_in_circle(scene, train) {
+        waits_for(scene, train)
+    } else {
+        None
+    };
+    Look {
+        colour: colour_for(train, waits_for.is_some()),
+        waits_for,
+    }
+}
+
+/// How each train looks.
+pub(crate) fn looks_of(scene: &Scene) -> [Look; 32] {
+    let mut looks = [Look {
+        colour: RED,
+        waits_for: None,
+    }; 32];
+    for train in 0..scene.trains() {
+        if let Some(look) = looks.get_mut(train as usize) {
+            *look = look_of(scene, train);
+        }
+    }
+    looks
 }

@@ -3,20 +3,12 @@
 
 mod answers;
 mod arrows;
-mod captions;
-mod cells;
 mod circles;
-mod filling;
-mod frame;
 mod insides;
 mod layers;
-mod legend;
 mod picture;
-mod placing;
 mod sections;
 mod shapes;
-mod spine;
-mod straightening;
 mod tracks;
 mod trains;
 

@@ -1,15 +1,17 @@
 // The whole picture.
-ghost use Rattle.std.specs.Prelude.{◌≡◌, ◌++◌, ◌∷◌, [], IfOk, OnOk, length};
+ghost use Rattle.std.specs.Prelude.{◌≡◌, ◌++◌, ◌∷◌, [], IfOk, OnOk, codes, decimal, length};
+ghost use Rattle.layout_frame.specs.Spots.{painted};
 ghost use Rattle.layout_picture.specs.Drawn.{AddsLayer, AreLayers, IsDrawn, IsLayer, ground_of};
 
-use crate::captions::{push_point_names, push_train_names};
-use crate::frame::{View, frame_of};
+use crate::circles::looks_of;
 use crate::layers::{LAYERS, Layer, class_of, title_of};
-use crate::legend::push_legend;
-use crate::sections::{push_areas, push_numbers};
-use crate::shapes::{push_label, push_shape};
+use crate::sections::{inside_of, push_areas};
 use crate::tracks::{push_dots, push_links};
 use crate::trains::{push_arrows, push_waits};
+use layout_frame::{
+    View, frame_of, push_label, push_legend, push_numbers, push_point_names, push_shape,
+    push_train_names,
+};
 use rail_model::Layout;
 use state_sentences::Scene;
 use std::alloc::{AllocError, Global};
@@ -19,14 +21,22 @@ use svg_text::{Group, Picture, Shape, Spot};
 const STYLE: &str =
     "svg{font-family:sans-serif;font-size:12px;fill:#1f2933} .background{fill:#fff} .names,.trains{paint-order:stroke;stroke:#fff;stroke-width:3px;stroke-linejoin:round} .sections{fill:none;stroke-linecap:round;stroke-linejoin:round} .sections path{opacity:.38} .links{fill:none;stroke:#5b6770;stroke-width:3} .circle{fill:none;stroke:#d00000;stroke-width:6} .points{fill:#fff;stroke:#1f2933;stroke-width:2} .numbers{font-size:10.5px;fill:#3d474f;paint-order:stroke;stroke:#fff;stroke-width:2px} .arrows{stroke:#fff;stroke-width:1.5;stroke-linejoin:round} .trains,.heading{font-weight:bold} .heading{font-size:15px}";
 
+// Gives a ground the size of a picture.
+fn widen(ground: &mut Shape, view: &View) -> Result<(), AllocError>
+    ensures { OnOk result (ground.new ≡ painted (painted ground.old (codes "width") (decimal view.now.frame.now.grid.width))
+        (codes "height") (decimal view.now.frame.now.height)) }
+{
+    ground.set_number(view.alloc, "width", view.frame.grid.width)?;
+    ground.set_number(view.alloc, "height", view.frame.height)
+}
+
 // Adds a white ground.
 fn push_ground(shapes: &mut Vec<Shape>, view: &View) -> Result<(), AllocError>
     ensures { OnOk result (shapes.new.items ≡ shapes.old.items
         ++ ground_of view.now.frame.now.grid.width view.now.frame.now.height ∷ []) }
 {
     let mut ground = Shape::new(view.alloc, "rect", "")?;
-    ground.set_number(view.alloc, "width", view.frame.grid.width)?;
-    ground.set_number(view.alloc, "height", view.frame.height)?;
+    widen(&mut ground, view)?;
     push_shape(shapes, ground)
 }
 
@@ -93,11 +103,15 @@ pub(crate) fn drawing(
 ) -> Result<Picture, AllocError>
     ensures { IfOk result (λ picture. IsDrawn layout.now scene.now.table.now scene.now.state.now picture.width picture.height picture.groups) }
 {
-    let frame = frame_of(alloc, layout, scene)?;
+    let looks = looks_of(scene);
+    let inside = inside_of(layout, scene.table);
+    let frame = frame_of(alloc, layout, scene, &looks)?;
     let view = View {
         alloc,
         layout,
         scene,
+        looks: &looks,
+        inside: &inside,
         frame: &frame,
         title,
     };

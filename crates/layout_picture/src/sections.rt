@@ -2,26 +2,17 @@
 ghost use Rattle.std.specs.Prelude.{◌≡◌, ◌<◌, ◌++◌, IfOk, OnOk, codes, decimal, length, flat_map, string_bytes};
 ghost use Rattle.state_sentences.specs.Explanation.{joined_below};
 ghost use Rattle.rail_model.specs.Checks.{below};
-ghost use Rattle.layout_picture.specs.Marks.{painted};
+ghost use Rattle.layout_frame.specs.Spots.{painted};
 ghost use Rattle.layout_picture.specs.Areas.{dot_words, line_words, way_over as words_over, way_of};
 ghost use Rattle.layout_picture.specs.Areas.{first_attribute, is_marked};
 ghost use Rattle.layout_picture.specs.Drawn.{AddsShapes, AreAreas, marks};
 
-use crate::frame::{View, shifted};
 use crate::insides::has_point;
-use crate::shapes::{path, push_label, push_shape, write_spot};
-use rail_model::{Link, points_of, sections_of};
+use crate::shapes::path;
+use layout_frame::{View, area_colour, push_shape};
+use rail_model::{Layout, Link, Table, points_of, sections_of};
 use std::alloc::{AllocError, Global};
-use svg_text::Shape;
-
-const COLOURS: [&str; 8] = [
-    "#e8b923", "#5aa9e6", "#63b76c", "#d66ba0", "#8f7be0", "#b08a5b", "#35b0ab", "#8d99a6",
-];
-
-/// The colour of a section.
-pub(crate) fn area_colour(section: u32) -> &'static str {
-    COLOURS[section as usize % 8]
-}
+use svg_text::{Shape, Spot};
 
 // How wide the area of a section is. Sections that share points have areas of different width.
 fn area_width(across: u64, section: u32) -> u64 {
@@ -45,8 +36,8 @@ fn write_dot(way: &mut String, view: &View, section: u32, point: u32) -> Result<
     if !is_in(view, section, point) {
         return Ok(());
     }
-    write_spot(way, "M", view.frame.spot(point))?;
-    way.push_str(" h0 ")
+    let Spot { x, y } = view.frame.spot(point);
+    write!(way, "M{x},{y} h0 ")
 }
 
 // Adds a line along a link to the way, if both of its points are in a section.
@@ -55,12 +46,13 @@ fn write_line(way: &mut String, view: &View, section: u32, link: &Link) -> Resul
     ensures { OnOk result (string_bytes way.new ≡ string_bytes way.old
         ++ line_words view.now.frame.now.spots.items (marks view.now section) link.now) }
 {
-    if !is_in(view, section, link.first()) || !is_in(view, section, link.second()) {
+    let (first, second) = (link.first(), link.second());
+    if !is_in(view, section, first) || !is_in(view, section, second) {
         return Ok(());
     }
-    write_spot(way, "M", view.frame.spot(link.first()))?;
-    write_spot(way, " L", view.frame.spot(link.second()))?;
-    way.push_str(" ")
+    let Spot { x, y } = view.frame.spot(first);
+    let Spot { x: right, y: down } = view.frame.spot(second);
+    write!(way, "M{x},{y} L{right},{down} ")
 }
 
 // Adds the points of a section.
@@ -138,40 +130,24 @@ pub(crate) fn push_areas(shapes: &mut Vec<Shape>, view: &View) -> Result<(), All
     Ok(())
 }
 
-// Adds the number of a section, if a point is in it.
-fn write_number(words: &mut String, view: &View, section: u32, point: u32) -> Result<(), AllocError>
-    requires { section < length view.now.scene.now.table.now.sections }
-{
-    if is_in(view, section, point) {
-        write!(words, "{section} ")
-    } else {
-        Ok(())
+// The sections that a point is in, a bit for each.
+fn sections_at(layout: &Layout, table: &Table, point: u32) -> u64 {
+    let mut bits: u64 = 0;
+    for section in 0..sections_of(table).min(64) {
+        if has_point(table, points_of(layout), section, point) {
+            bits |= 1 << section;
+        }
     }
+    bits
 }
 
-// Adds the numbers of the sections that a point is in.
-fn write_numbers(words: &mut String, view: &View, point: u32) -> Result<(), AllocError> {
-    for section in 0..sections_of(view.scene.table) {
-        write_number(words, view, section, point)?;
+/// For each point the sections that it is in, a bit for each.
+pub(crate) fn inside_of(layout: &Layout, table: &Table) -> [u64; 512] {
+    let mut inside = [0; 512];
+    for point in 0..points_of(layout) {
+        if let Some(bits) = inside.get_mut(point as usize) {
+            *bits = sections_at(layout, table, point);
+        }
     }
-    Ok(())
-}
-
-// Adds the numbers of the sections of a point, below it on the right.
-fn push_number(shapes: &mut Vec<Shape>, view: &View, point: u32) -> Result<(), AllocError> {
-    let mut words = String::new(view.alloc);
-    write_numbers(&mut words, view, point)?;
-    if words.is_empty() {
-        return Ok(());
-    }
-    let foot = shifted(view.frame.spot(point), 6, 17);
-    push_label(shapes, view.alloc, foot, words.as_str())
-}
-
-/// Adds the numbers of the sections of each point.
-pub(crate) fn push_numbers(shapes: &mut Vec<Shape>, view: &View) -> Result<(), AllocError> {
-    for point in 0..points_of(view.layout) {
-        push_number(shapes, view, point)?;
-    }
-    Ok(())
+    inside
 }

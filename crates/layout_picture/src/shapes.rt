@@ -1,41 +1,9 @@
-// Shapes that are added to others.
-ghost use Rattle.std.specs.Prelude.{◌≡◌, ◌++◌, ◌∷◌, [], IfOk, OnOk, string_bytes};
-ghost use Rattle.layout_picture.specs.Marks.{painted, pair_of};
+// Paths.
+ghost use Rattle.std.specs.Prelude.{◌≡◌, IfOk};
 ghost use Rattle.layout_picture.specs.Areas.{path_along};
 
 use std::alloc::{AllocError, Global};
-use svg_text::{Shape, Spot, label};
-
-/// Adds a shape.
-pub(crate) fn push_shape(shapes: &mut Vec<Shape>, shape: Shape) -> Result<(), AllocError>
-    ensures { OnOk result (shapes.new.items ≡ shapes.old.items ++ shape ∷ []) }
-{
-    Ok(shapes.push(shape)?)
-}
-
-/// Adds a shape with a colour as its fill or its stroke.
-pub(crate) fn push_painted(
-    shapes: &mut Vec<Shape>,
-    alloc: Global,
-    mut shape: Shape,
-    name: &str,
-    colour: &str,
-) -> Result<(), AllocError>
-    ensures { OnOk result (shapes.new.items ≡ shapes.old.items ++ painted shape name.now colour.now ∷ []) }
-{
-    shape.set(alloc, name, colour)?;
-    push_shape(shapes, shape)
-}
-
-/// Adds words.
-pub(crate) fn push_label(
-    shapes: &mut Vec<Shape>,
-    alloc: Global,
-    at: Spot,
-    words: &str,
-) -> Result<(), AllocError> {
-    push_shape(shapes, label(alloc, at, words)?)
-}
+use svg_text::Shape;
 
 /// A path along a way.
 pub(crate) fn path(alloc: Global, way: &str) -> Result<Shape, AllocError>
@@ -44,12 +12,4 @@ pub(crate) fn path(alloc: Global, way: &str) -> Result<Shape, AllocError>
     let mut shape = Shape::new(alloc, "path", "")?;
     shape.set(alloc, "d", way)?;
     Ok(shape)
-}
-
-/// Adds a spot to the way of a path, after a letter that says how to get there.
-pub(crate) fn write_spot(way: &mut String, letter: &str, at: Spot) -> Result<(), AllocError>
-    ensures { OnOk result (string_bytes way.new ≡ string_bytes way.old ++ letter.now ++ pair_of at) }
-{
-    let Spot { x, y } = at;
-    write!(way, "{letter}{x},{y}")
 }

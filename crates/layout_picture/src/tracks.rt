@@ -3,8 +3,8 @@ ghost use Rattle.std.specs.Prelude.{◌≡◌, ◌++◌, Some, IfOk, OnOk, codes
 ghost use Rattle.layout_picture.specs.Drawn.{AddsShapes, AreLinkLines, step_between};
 ghost use Rattle.layout_picture.specs.Marks.{dot_at, pair_of, bow_of, stroke_of, ends_of, ends_at};
 
-use crate::frame::{Frame, Grid, View};
-use crate::shapes::{path, push_shape, write_spot};
+use crate::shapes::path;
+use layout_frame::{Frame, View, bow_between, push_shape};
 use rail_model::Link;
 use std::alloc::{AllocError, Global};
 use svg_text::{Shape, Spot, circle, line};
@@ -23,40 +23,6 @@ pub(crate) fn push_dots(
     Ok(())
 }
 
-// Whether a number is one of two others, or between them.
-fn is_within(number: u64, a: u64, b: u64) -> bool {
-    a.min(b) <= number && number <= a.max(b)
-}
-
-/// How far a distance is above another one.
-pub(crate) fn difference(to: u64, from: u64) -> i64 {
-    let to = i64::try_from(to).unwrap_or(i64::MAX);
-    let from = i64::try_from(from).unwrap_or(i64::MAX);
-    to.saturating_sub(from)
-}
-
-// Whether a spot is on the line between two others, and is neither of them.
-fn is_on_line(from: Spot, to: Spot, other: Spot) -> bool {
-    let right = difference(to.x, from.x).saturating_mul(difference(other.y, from.y));
-    let left = difference(other.x, from.x).saturating_mul(difference(to.y, from.y));
-    let is_end = is_same(other, from) || is_same(other, to);
-    right == left && is_within(other.x, from.x, to.x) && is_within(other.y, from.y, to.y) && !is_end
-}
-
-fn is_same(a: Spot, b: Spot) -> bool {
-    a.x == b.x && a.y == b.y
-}
-
-// Whether a line between two spots goes over another point.
-fn is_barred(spots: &[Spot], from: Spot, to: Spot) -> bool {
-    for other in spots {
-        if is_on_line(from, to, *other) {
-            return true;
-        }
-    }
-    false
-}
-
 /// A way between two spots: straight, or in a bow toward a third one.
 #[derive(Clone, Copy)]
 pub(crate) struct Way {
@@ -65,35 +31,17 @@ pub(crate) struct Way {
     pub(crate) to: Spot,
 }
 
-// A spot beside the line between two others.
-fn spot_beside(grid: &Grid, from: Spot, to: Spot) -> Spot {
-    let x = (from.x / 2).saturating_add(to.x / 2);
-    let y = (from.y / 2).saturating_add(to.y / 2);
-    if from.x == to.x {
-        Spot {
-            x: x.saturating_add(grid.across),
-            y,
-        }
-    } else {
-        Spot {
-            x,
-            y: y.saturating_add(grid.down),
-        }
-    }
-}
-
 // The way between two points that goes over no third one.
 fn way_between(frame: &Frame, first: u32, second: u32) -> Way
     ensures { ends_of result ≡ ends_at frame.now.spots.items first second }
 {
     let from = frame.spot(first);
     let to = frame.spot(second);
-    let toward = if is_barred(&frame.spots, from, to) {
-        Some(spot_beside(&frame.grid, from, to))
-    } else {
-        None
-    };
-    Way { from, toward, to }
+    Way {
+        from,
+        toward: bow_between(frame, from, to),
+        to,
+    }
 }
 
 // Adds the words of a bow.
@@ -101,9 +49,13 @@ fn write_bow(words: &mut String, from: Spot, toward: Spot, to: Spot) -> Result<(
     ensures { OnOk result (string_bytes words.new ≡ string_bytes words.old
         ++ codes "M" ++ pair_of from ++ codes " Q" ++ pair_of toward ++ codes " " ++ pair_of to) }
 {
-    write_spot(words, "M", from)?;
-    write_spot(words, " Q", toward)?;
-    write_spot(words, " ", to)
+    let Spot { x, y } = from;
+    let Spot {
+        x: aside,
+        y: beside,
+    } = toward;
+    let Spot { x: right, y: down } = to;
+    write!(words, "M{x},{y} Q{aside},{beside} {right},{down}")
 }
 
 // A bow.

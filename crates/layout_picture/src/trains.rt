@@ -1,28 +1,17 @@
 // Trains as arrows toward their next points.
 ghost use Rattle.std.specs.Prelude.{◌≡◌, ◌+◌, ◌<◌, OnOk};
 ghost use Rattle.rail_model.specs.Table.{trains, point, place};
-ghost use Rattle.layout_picture.specs.Marks.{spot_at as spot_of};
+ghost use Rattle.layout_frame.specs.Spots.{spot_at as spot_of};
 ghost use Rattle.layout_picture.specs.Arrows.{IsMark, IsArrow, outline_of as train_outline};
 ghost use Rattle.layout_picture.specs.Drawn.{AddsShapes, AreLinkLines, AreOfTrains, IsWait, step_between};
 
 use crate::arrows::{ARROW, Heading, Outline, SQUARE};
 use crate::circles::{colour_of, is_in_circle};
-use crate::frame::View;
-use crate::shapes::push_painted;
 use crate::tracks::push_line;
+use layout_frame::{View, direction_of, push_painted};
 use rail_model::{last_of, point_of};
 use std::alloc::AllocError;
 use svg_text::{Shape, Spot};
-
-/// The spot of a train's point at a place.
-pub(crate) fn spot_at(view: &View, train: u32, place: u32) -> Option<Spot>
-    requires { train < trains view.now.scene.now.table.now }
-{
-    match point_of(view.scene.table, train, place) {
-        Some(point) => Some(view.frame.spot(point)),
-        None => None,
-    }
-}
 
 // A train's next point, if it has one.
 fn next_point(view: &View, train: u32) -> Option<u32>
@@ -36,22 +25,12 @@ fn next_point(view: &View, train: u32) -> Option<u32>
     )
 }
 
-// Where a train heads from a spot: to its next point; at its last one on from the point before.
+// Where a train heads from a spot.
 fn heading_of(view: &View, train: u32, at: Spot) -> Heading
     requires { train < trains view.now.scene.now.table.now }
 {
-    match next_point(view, train) {
-        Some(next) => Heading::between(at, view.frame.spot(next)),
-        None => Heading::between(spot_before(view, train, at), at),
-    }
-}
-
-// The spot of the point before the one where a train is; where there is none, the spot that is given.
-fn spot_before(view: &View, train: u32, at: Spot) -> Spot
-    requires { train < trains view.now.scene.now.table.now }
-{
-    let before = view.scene.place(train).saturating_sub(1);
-    spot_at(view, train, before).unwrap_or(at)
+    let (right, down) = direction_of(view, train, at);
+    Heading { right, down }
 }
 
 // The outline of an arrow, or of a square for a train that has arrived.

@@ -1,7 +1,7 @@
 use Rattle.std.proofs.Common.{refl}
 use Rattle.std.specs.Prelude.{codes}
 use Rattle.std.proofs.lemmas.Result.{on_ok_weaker}
-use Rattle.layout_picture.specs.Marks.{painted, spot_at}
+use Rattle.layout_frame.specs.Spots.{painted, spot_at}
 use Rattle.layout_picture.specs.Arrows.{IsMark}
 use Rattle.layout_picture.proofs.Adding.{adds_one}
 use Rattle.layout_picture.proofs.TrainShapes.{is_mark}

@@ -1,7 +1,5 @@
 // The grid in which points are placed.
 
-use std::alloc::{AllocError, Global};
-
 /// A place in the grid.
 #[derive(Clone, Copy)]
 pub(crate) struct Cell {
@@ -36,33 +34,30 @@ impl Edges {
         first: Cell { column: 0, row: 0 },
         last: Cell { column: 0, row: 0 },
     };
-
-    // Edges that reach to a cell, too.
-    fn reaching(self, cell: Cell) -> Edges {
-        let Edges { first, last } = self;
-        Edges {
-            first: Cell::new(first.column.min(cell.column), first.row.min(cell.row)),
-            last: Cell::new(last.column.max(cell.column), last.row.max(cell.row)),
-        }
-    }
 }
 
-/// The cell of each point that has been placed.
-#[derive(Drop)]
+/// The cell of each of so many points, if it has been placed.
+#[derive(Clone, Copy)]
 pub(crate) struct Cells {
-    items: Vec<Option<Cell>>,
+    items: [Option<Cell>; 512],
+    points: u32,
 }
 
 impl Cells {
     /// A grid for this many points, with none placed.
-    pub(crate) fn new(alloc: Global, points: u32) -> Result<Cells, AllocError> {
-        let items = vec![in alloc; None; points as usize]?;
-        Ok(Cells { items })
+    pub(crate) fn new(points: u32) -> Cells {
+        Cells {
+            items: [None; 512],
+            points: points.min(512),
+        }
     }
 
     /// The cell of a point, if it has been placed.
     pub(crate) fn at(&self, point: u32) -> Option<Cell> {
-        self.items.get(point as usize).copied().flatten()
+        match self.items.get(point as usize) {
+            Some(placed) => *placed,
+            None => None,
+        }
     }
 
     /// Places a point.
@@ -74,7 +69,7 @@ impl Cells {
 
     /// The point at a cell.
     pub(crate) fn point_at(&self, cell: Cell) -> Option<u32> {
-        for point in 0..self.items.len().min(512) as u32 {
+        for point in 0..self.points {
             if cell.is(self.at(point)) {
                 return Some(point);
             }
@@ -90,13 +85,9 @@ impl Cells {
     /// The columns and rows in use, if a point has been placed.
     pub(crate) fn edges(&self) -> Option<Edges> {
         let mut edges: Option<Edges> = None;
-        for placed in &self.items {
-            if let Some(cell) = placed {
-                let reached = edges.unwrap_or(Edges {
-                    first: *cell,
-                    last: *cell,
-                });
-                edges = Some(reached.reaching(*cell));
+        for point in 0..self.points {
+            if let Some(cell) = self.at(point) {
+                edges = Some(reached(edges, cell));
             }
         }
         edges
@@ -104,12 +95,26 @@ impl Cells {
 
     /// Moves all points from a column on to the right.
     pub(crate) fn widen(&mut self, from: u32, by: u32) {
-        for placed in self.items.iter_mut() {
-            if let Some(cell) = placed {
+        for point in 0..self.points {
+            if let Some(cell) = self.at(point) {
                 if from <= cell.column {
-                    cell.column = cell.column.saturating_add(by);
+                    self.put(point, Cell::new(cell.column.saturating_add(by), cell.row));
                 }
             }
         }
+    }
+}
+
+// Edges that reach to a cell, too, or that are this cell, if there are none.
+fn reached(edges: Option<Edges>, cell: Cell) -> Edges {
+    match edges {
+        Some(Edges { first, last }) => Edges {
+            first: Cell::new(first.column.min(cell.column), first.row.min(cell.row)),
+            last: Cell::new(last.column.max(cell.column), last.row.max(cell.row)),
+        },
+        None => Edges {
+            first: cell,
+            last: cell,
+        },
     }
 }

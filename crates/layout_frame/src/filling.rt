@@ -5,7 +5,6 @@ use crate::cells::{Cell, Cells};
 use crate::placing::{cell_below, cell_of, free_cell, is_begun, place_route};
 use crate::spine::place_spine;
 use rail_model::{Layout, Link, Mission, Table, points_of};
-use std::alloc::{AllocError, Global};
 
 // Places the routes that have a point that is placed.
 fn place_begun(cells: &mut Cells, missions: &[Mission]) {
@@ -29,6 +28,14 @@ fn place_unbegun(cells: &mut Cells, missions: &[Mission]) {
 fn place_joined(cells: &mut Cells, missions: &[Mission]) {
     for _ in missions {
         place_begun(cells, missions);
+    }
+}
+
+// Places all routes.
+fn place_routes(cells: &mut Cells, missions: &[Mission]) {
+    for _ in missions {
+        place_joined(cells, missions);
+        place_unbegun(cells, missions);
     }
 }
 
@@ -136,19 +143,12 @@ fn place_apart(cells: &mut Cells, layout: &Layout) {
 }
 
 /// Places all points of a layout.
-pub(crate) fn place_all(
-    alloc: Global,
-    layout: &Layout,
-    table: &Table,
-) -> Result<Cells, AllocError> {
+pub(crate) fn place_all(layout: &Layout, table: &Table) -> Cells {
     let missions = table.missions().as_slice();
-    let mut cells = Cells::new(alloc, points_of(layout))?;
-    place_spine(alloc, &mut cells, layout, missions)?;
-    for _ in missions {
-        place_joined(&mut cells, missions);
-        place_unbegun(&mut cells, missions);
-    }
+    let mut cells = Cells::new(points_of(layout));
+    place_spine(&mut cells, layout, missions);
+    place_routes(&mut cells, missions);
     place_reached(&mut cells, layout);
     place_apart(&mut cells, layout);
-    Ok(cells)
+    cells
 }

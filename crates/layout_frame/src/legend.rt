@@ -2,14 +2,22 @@
 ghost use Rattle.std.specs.Prelude.{◌<◌, length};
 ghost use Rattle.rail_model.specs.Table.{trains};
 
-use crate::circles::{RED, colour_of, is_in_circle, waits_for};
-use crate::frame::{View, shifted};
-use crate::sections::area_colour;
+use crate::frame::{View, shifted, train_name};
+use crate::looks::{Look, look_of};
 use crate::shapes::{push_label, push_painted};
 use rail_model::{limit_of, point_of, sections_of};
 use state_sentences::Scene;
-use std::alloc::{AllocError, Global};
+use std::alloc::AllocError;
 use svg_text::{Shape, Spot, circle};
+
+const COLOURS: [&str; 8] = [
+    "#e8b923", "#5aa9e6", "#63b76c", "#d66ba0", "#8f7be0", "#b08a5b", "#35b0ab", "#8d99a6",
+];
+
+/// The colour of a section.
+pub fn area_colour(section: u32) -> &'static str {
+    COLOURS[section as usize % 8]
+}
 
 // Whether a train has left the layout.
 fn has_left(scene: &Scene, train: u32) -> bool
@@ -19,10 +27,10 @@ fn has_left(scene: &Scene, train: u32) -> bool
 }
 
 // How many entries there are of trains: of those in a circle, and of those that have left the layout.
-fn train_entries(scene: &Scene) -> u64 {
+fn train_entries(scene: &Scene, looks: &[Look]) -> u64 {
     let mut entries: u64 = 0;
     for train in 0..scene.trains() {
-        if is_in_circle(scene, train) || has_left(scene, train) {
+        if look_of(looks, train).waits_for.is_some() || has_left(scene, train) {
             entries = entries.saturating_add(1);
         }
     }
@@ -35,8 +43,9 @@ fn row_at(top: u64, row: u64) -> u64 {
 }
 
 /// Where the legend of a scene ends that begins so far from the top.
-pub(crate) fn legend_end(scene: &Scene, top: u64) -> u64 {
-    let entries = train_entries(scene).saturating_add(u64::from(sections_of(scene.table)));
+pub(crate) fn legend_end(scene: &Scene, looks: &[Look], top: u64) -> u64 {
+    let sections = u64::from(sections_of(scene.table));
+    let entries = train_entries(scene, looks).saturating_add(sections);
     row_at(top, entries.div_ceil(3))
 }
 
@@ -62,29 +71,50 @@ fn push_entry(
     push_label(shapes, view.alloc, shifted(at, 13, 4), words)
 }
 
-// Which train a train waits for, in words.
-fn wait_words(alloc: Global, scene: &Scene, train: u32) -> Result<String, AllocError>
-    requires { train < trains scene.now.table.now }
+// Adds the words of a train's entry: which train it waits for in a circle; or, where those are asked for that are gone,
+// that it has left the layout. A train without an entry has no words.
+fn write_entry(words: &mut String, view: &View, train: u32, gone: bool) -> Result<(), AllocError>
+    requires { train < trains view.now.scene.now.table.now }
 {
-    let name = scene.train(train);
-    match waits_for(scene, train) {
-        Some(by) => {
-            let by = scene.train(by);
-            format!(in alloc; "{name} waits for {by}")
+    let name = view.scene.train(train);
+    match look_of(view.looks, train).waits_for {
+        Some(by) if !gone => {
+            let by = train_name(view.scene.names, by);
+            write!(words, "{name} waits for {by}")
         }
-        None => String::from_str(alloc, name),
+        _ if gone && has_left(view.scene, train) => write!(words, "{name} has left the layout"),
+        _ => Ok(()),
     }
 }
 
-// Adds a train of a circle, with the one that it waits for.
-fn push_wait(shapes: &mut Vec<Shape>, view: &View, train: u32) -> Result<(), AllocError>
+// Adds a train's entry, if it has one.
+fn push_train(
+    shapes: &mut Vec<Shape>,
+    view: &View,
+    train: u32,
+    gone: bool,
+) -> Result<(), AllocError>
     requires { train < trains view.now.scene.now.table.now }
 {
-    if !is_in_circle(view.scene, train) {
+    let mut words = String::new(view.alloc);
+    write_entry(&mut words, view, train, gone)?;
+    if words.is_empty() {
         return Ok(());
     }
-    let words = wait_words(view.alloc, view.scene, train)?;
-    push_entry(shapes, view, RED, words.as_str())
+    push_entry(
+        shapes,
+        view,
+        look_of(view.looks, train).colour,
+        words.as_str(),
+    )
+}
+
+// Adds the trains of a circle, or those that are gone.
+fn push_trains(shapes: &mut Vec<Shape>, view: &View, gone: bool) -> Result<(), AllocError> {
+    for train in 0..view.scene.trains() {
+        push_train(shapes, view, train, gone)?;
+    }
+    Ok(())
 }
 
 // Adds a section with its limit.
@@ -97,27 +127,6 @@ fn push_section(shapes: &mut Vec<Shape>, view: &View, section: u32) -> Result<()
     push_entry(shapes, view, area_colour(section), words.as_str())
 }
 
-// Adds a train that has left the layout.
-fn push_left(shapes: &mut Vec<Shape>, view: &View, train: u32) -> Result<(), AllocError>
-    requires { train < trains view.now.scene.now.table.now }
-{
-    if !has_left(view.scene, train) {
-        return Ok(());
-    }
-    let alloc = view.alloc;
-    let name = view.scene.train(train);
-    let words = format!(in alloc; "{name} has left the layout")?;
-    push_entry(shapes, view, colour_of(view.scene, train), words.as_str())
-}
-
-// Adds the trains of a circle.
-fn push_circle(shapes: &mut Vec<Shape>, view: &View) -> Result<(), AllocError> {
-    for train in 0..view.scene.trains() {
-        push_wait(shapes, view, train)?;
-    }
-    Ok(())
-}
-
 // Adds the sections.
 fn push_sections(shapes: &mut Vec<Shape>, view: &View) -> Result<(), AllocError> {
     for section in 0..sections_of(view.scene.table) {
@@ -126,17 +135,9 @@ fn push_sections(shapes: &mut Vec<Shape>, view: &View) -> Result<(), AllocError>
     Ok(())
 }
 
-// Adds the trains that have left the layout.
-fn push_all_left(shapes: &mut Vec<Shape>, view: &View) -> Result<(), AllocError> {
-    for train in 0..view.scene.trains() {
-        push_left(shapes, view, train)?;
-    }
-    Ok(())
-}
-
 /// Adds the entries of a legend: the trains of a circle, the sections, and the trains that have left the layout.
-pub(crate) fn push_legend(shapes: &mut Vec<Shape>, view: &View) -> Result<(), AllocError> {
-    push_circle(shapes, view)?;
+pub fn push_legend(shapes: &mut Vec<Shape>, view: &View) -> Result<(), AllocError> {
+    push_trains(shapes, view, false)?;
     push_sections(shapes, view)?;
-    push_all_left(shapes, view)
+    push_trains(shapes, view, true)
 }

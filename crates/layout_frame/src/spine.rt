@@ -3,7 +3,6 @@
 use crate::cells::Cells;
 use crate::placing::place_route;
 use rail_model::{Layout, Link, Mission, are_linked, points_of};
-use std::alloc::{AllocError, Global};
 
 /// Farther than any point.
 const FAR: u32 = 100_000;
@@ -104,12 +103,42 @@ fn is_round(layout: &Layout, route: &[u32]) -> bool {
     first == last || are_linked(layout, first, last)
 }
 
+// A way of this many points.
+#[derive(Clone, Copy)]
+struct Way {
+    points: [u32; 256],
+    count: usize,
+}
+
+impl Way {
+    fn add(&mut self, route: &[u32]) {
+        for point in route {
+            if let Some(slot) = self.points.get_mut(self.count) {
+                *slot = *point;
+                self.count = self.count.saturating_add(1);
+            }
+        }
+    }
+
+    fn as_slice(&self) -> &[u32] {
+        match self.points.get(..self.count) {
+            Some(points) => points,
+            None => &[],
+        }
+    }
+}
+
 // A route, twice if its last point leads on to its first.
-fn rounds(alloc: Global, layout: &Layout, route: &[u32]) -> Result<Vec<u32>, AllocError> {
-    let again = if is_round(layout, route) { route } else { &[] };
-    let mut rounds = Vec::from_slice(alloc, route)?;
-    rounds.extend_from_slice(again)?;
-    Ok(rounds)
+fn rounds(layout: &Layout, route: &[u32]) -> Way {
+    let mut rounds = Way {
+        points: [0; 256],
+        count: 0,
+    };
+    rounds.add(route);
+    if is_round(layout, route) {
+        rounds.add(route);
+    }
+    rounds
 }
 
 // The first stretch of a route from one of two points to the other.
@@ -129,17 +158,11 @@ fn stretch_of(route: &[u32], ends: [u32; 2]) -> &[u32] {
 }
 
 /// Places the base line, and then all other points of the route that it is a stretch of.
-pub(crate) fn place_spine(
-    alloc: Global,
-    cells: &mut Cells,
-    layout: &Layout,
-    missions: &[Mission],
-) -> Result<(), AllocError> {
+pub(crate) fn place_spine(cells: &mut Cells, layout: &Layout, missions: &[Mission]) {
     let route = longest(missions);
     let first = farthest(layout, route, route.first().copied().unwrap_or(0));
     let second = farthest(layout, route, first);
-    let rounds = rounds(alloc, layout, route)?;
-    place_route(cells, stretch_of(&rounds, [first, second]));
-    place_route(cells, &rounds);
-    Ok(())
+    let rounds = rounds(layout, route);
+    place_route(cells, stretch_of(rounds.as_slice(), [first, second]));
+    place_route(cells, rounds.as_slice());
 }

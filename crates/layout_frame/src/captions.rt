@@ -2,11 +2,10 @@
 ghost use Rattle.std.specs.Prelude.{◌<◌};
 ghost use Rattle.rail_model.specs.Table.{trains};
 
-use crate::circles::colour_of;
 use crate::frame::{View, point_name, shifted};
+use crate::looks::look_of;
 use crate::shapes::{push_painted, push_shape};
-use crate::trains::spot_at;
-use rail_model::points_of;
+use rail_model::{point_of, points_of};
 use std::alloc::{AllocError, Global};
 use svg_text::{Shape, Spot, label};
 
@@ -78,11 +77,21 @@ fn push_point_name(shapes: &mut Vec<Shape>, view: &View, point: u32) -> Result<(
 }
 
 /// Adds the name of each point.
-pub(crate) fn push_point_names(shapes: &mut Vec<Shape>, view: &View) -> Result<(), AllocError> {
+pub fn push_point_names(shapes: &mut Vec<Shape>, view: &View) -> Result<(), AllocError> {
     for point in 0..points_of(view.layout) {
         push_point_name(shapes, view, point)?;
     }
     Ok(())
+}
+
+/// The spot of a train's point at a place.
+pub(crate) fn spot_at(view: &View, train: u32, place: u32) -> Option<Spot>
+    requires { train < trains view.now.scene.now.table.now }
+{
+    match point_of(view.scene.table, train, place) {
+        Some(point) => Some(view.frame.spot(point)),
+        None => None,
+    }
 }
 
 // Adds the name of a train beside a spot.
@@ -96,7 +105,7 @@ fn push_name(shapes: &mut Vec<Shape>, view: &View, train: u32, at: Spot) -> Resu
         view.alloc,
         name,
         "fill",
-        colour_of(view.scene, train),
+        look_of(view.looks, train).colour,
     )
 }
 
@@ -111,7 +120,7 @@ fn push_train_name(shapes: &mut Vec<Shape>, view: &View, train: u32) -> Result<(
 }
 
 /// Adds the name of each train that is in the layout.
-pub(crate) fn push_train_names(shapes: &mut Vec<Shape>, view: &View) -> Result<(), AllocError> {
+pub fn push_train_names(shapes: &mut Vec<Shape>, view: &View) -> Result<(), AllocError> {
     for train in 0..view.scene.trains() {
         push_train_name(shapes, view, train)?;
     }

@@ -1,10 +1,11 @@
 // Where the cells of the grid are in the picture.
 ghost use Rattle.std.specs.Prelude.{◌≡◌, IfOk, length};
-ghost use Rattle.layout_picture.specs.Arrows.{shifted as shifted_spot};
+ghost use Rattle.layout_frame.specs.Spots.{shifted as shifted_spot};
 
 use crate::cells::{Cell, Cells, Edges};
 use crate::filling::place_all;
 use crate::legend::legend_end;
+use crate::looks::Look;
 use crate::straightening::straighten;
 use rail_model::{Layout, Names, Table, points_of};
 use state_sentences::Scene;
@@ -19,36 +20,39 @@ const MARGIN: u64 = 44;
 
 /// Where each point is, how much room there is, and how far down the picture goes.
 #[derive(Drop)]
-pub(crate) struct Frame {
-    pub(crate) spots: Vec<Spot>,
-    pub(crate) grid: Grid,
-    pub(crate) height: u64,
+pub struct Frame {
+    pub spots: Vec<Spot>,
+    pub grid: Grid,
+    pub height: u64,
 }
 
 /// How far columns and rows are apart, and how names are written.
 #[derive(Clone, Copy)]
-pub(crate) struct Grid {
-    pub(crate) width: u64,
+pub struct Grid {
+    pub width: u64,
     /// Where the first column and the first row are.
-    pub(crate) corner: Spot,
+    pub corner: Spot,
     /// From one column to the next, and from one row to the next.
-    pub(crate) across: u64,
-    pub(crate) down: u64,
+    pub across: u64,
+    pub down: u64,
     /// Whether the names of points rise, and those of trains fall, as there is no room for them side by side.
-    pub(crate) rise: bool,
-    pub(crate) fall: bool,
+    pub rise: bool,
+    pub fall: bool,
     /// Where the legend begins.
-    pub(crate) foot: u64,
+    pub foot: u64,
 }
 
-/// What is drawn: a layout and the trains of a scene, in a frame, under a title.
+/// What is drawn: a layout and the trains of a scene, which look so, in a frame, under a title.
 #[derive(Clone, Copy)]
-pub(crate) struct View<'a> {
-    pub(crate) alloc: Global,
-    pub(crate) layout: &'a Layout,
-    pub(crate) scene: &'a Scene<'a>,
-    pub(crate) frame: &'a Frame,
-    pub(crate) title: &'a str,
+pub struct View<'a> {
+    pub alloc: Global,
+    pub layout: &'a Layout,
+    pub scene: &'a Scene<'a>,
+    pub looks: &'a [Look],
+    /// For each point the sections that it is in, a bit for each.
+    pub inside: &'a [u64],
+    pub frame: &'a Frame,
+    pub title: &'a str,
 }
 
 /// The name of a point, or no letters for a number that no point has.
@@ -56,6 +60,15 @@ pub(crate) fn point_name(layout: &Layout, point: u32) -> &str {
     match layout.points().get(point as usize) {
         Some(point) => point.name(),
         None => "",
+    }
+}
+
+/// The name of a train, or no letters for a number that no train has.
+pub(crate) fn train_name(names: &Names, train: u32) -> &str {
+    if (train as usize) < names.trains() {
+        names.train(train)
+    } else {
+        ""
     }
 }
 
@@ -125,7 +138,7 @@ fn grid_of(points: u64, trains: u64, columns: u64, rows: u64) -> Grid {
 }
 
 /// The spot so far right of another one, and so far below it.
-pub(crate) fn shifted(at: Spot, right: i64, down: i64) -> Spot
+pub fn shifted(at: Spot, right: i64, down: i64) -> Spot
     ensures { result ≡ shifted_spot at right down }
 {
     Spot {
@@ -178,31 +191,36 @@ fn spots_of(
 }
 
 // Points in cells: in straight rows, if that can be.
-fn cells_of(alloc: Global, layout: &Layout, table: &Table) -> Result<Cells, AllocError> {
-    let mut cells = place_all(alloc, layout, table)?;
+fn cells_of(layout: &Layout, table: &Table) -> Cells {
+    let mut cells = place_all(layout, table);
     straighten(&mut cells, layout, table);
-    Ok(cells)
+    cells
 }
 
 /// A frame for a layout with the trains and the sections of a scene.
-pub(crate) fn frame_of(alloc: Global, layout: &Layout, scene: &Scene) -> Result<Frame, AllocError>
+pub fn frame_of(
+    alloc: Global,
+    layout: &Layout,
+    scene: &Scene,
+    looks: &[Look],
+) -> Result<Frame, AllocError>
     ensures { IfOk result (λ frame. length frame.spots.items ≡ length layout.now.points) }
 {
-    let cells = cells_of(alloc, layout, scene.table)?;
+    let cells = cells_of(layout, scene.table);
     let edges = cells.edges().unwrap_or(Edges::NONE);
     let grid = grid_for(layout, scene.names, edges);
     Ok(Frame {
         spots: spots_of(alloc, layout, &cells, edges, &grid)?,
         grid,
-        height: legend_end(scene, grid.foot),
+        height: legend_end(scene, looks, grid.foot),
     })
 }
 
 impl Frame {
-    ghost use Rattle.layout_picture.specs.Marks.{spot_at};
+    ghost use Rattle.layout_frame.specs.Spots.{spot_at};
 
     /// Where a point is.
-    pub(crate) fn spot(&self, point: u32) -> Spot
+    pub fn spot(&self, point: u32) -> Spot
         ensures { result ≡ spot_at self.now.spots.items point }
     {
         self.spots

@@ -1,0 +1,28 @@
+//! The frame of a picture of a layout: where its points lie and how its links bow; and its words, which are the names of
+//! points and trains, the legend and the title, or why there is no picture. It promises only that each point has a spot.
+#![tactic(auto)]
+
+mod bows;
+mod captions;
+mod cells;
+mod directions;
+mod filling;
+mod frame;
+mod legend;
+mod looks;
+mod numbers;
+mod placing;
+mod shapes;
+mod spine;
+mod straightening;
+mod titles;
+
+pub use bows::bow_between;
+pub use captions::{push_point_names, push_train_names};
+pub use directions::direction_of;
+pub use frame::{Frame, Grid, View, frame_of, shifted};
+pub use legend::{area_colour, push_legend};
+pub use looks::Look;
+pub use numbers::push_numbers;
+pub use shapes::{push_label, push_painted, push_shape};
+pub use titles::{cause_of, title_of};
