@@ -186,7 +186,7 @@ def cell(answer, seconds):
 def table(rows, seconds):
     """The rows as a table in Markdown, with those columns that have something."""
     heads = {
-        "make": "`make`", "certify": "`certify`", "order": "`order`, `certify`", "of-run": "`order --of-run 1`, `certify`", "other": "other",
+        "make": "`make`", "certify": "`certify`", "order": "`order`, `certify`", "of-run": "`order --of-run 0`, `certify`", "other": "other",
         "other-order": "other, with order",
         "spin": "SPIN: states", "sat": "SAT: stuck states", "sat-order": "SAT, with order",
     }
