@@ -65,15 +65,6 @@ fn check_name<'x>(faults: &mut Faults, entry: &Entry<'x>, key: &'static str, nam
     }
 }
 
-// The zone whose number is this text.
-fn zone_named(text: &str) -> Option<u32> {
-    let number = if text == "0" { Some(0) } else { count_of(text) };
-    match number {
-        Some(zone) if zone < MOST_ZONES as usize => Some(zone as u32),
-        _ => None,
-    }
-}
-
 // Tells something of a name, which stands at the key of a zone.
 fn tell_in<'x>(faults: &mut Faults, zone: &Entry<'x>, name: &'x str, form: &'static str) {
     faults.tell(&zone.of(name), form, &[Part::Name(name)]);
@@ -81,12 +72,19 @@ fn tell_in<'x>(faults: &mut Faults, zone: &Entry<'x>, name: &'x str, form: &'sta
 
 // The zone whose number is the key; a key that is the number of none is reported.
 fn zone_of(faults: &mut Faults, zone: &Entry) -> Option<u32> {
-    let found = zone_named(zone.key);
-    if found.is_none() {
-        let form = "{} is no zone: they are numbered from 0 to 15";
-        tell_in(faults, zone, zone.key, form);
+    let number = if zone.key == "0" {
+        Some(0)
+    } else {
+        count_of(zone.key)
+    };
+    if let Some(number) = number
+        && number < MOST_ZONES as usize
+    {
+        return Some(number as u32);
     }
-    found
+    let form = "{} is no zone: they are numbered from 0 to 15";
+    tell_in(faults, zone, zone.key, form);
+    None
 }
 
 // Puts a point into a zone, if it is in none.

@@ -36,19 +36,6 @@ pub(crate) fn add_lines(faults: &mut Faults, top: &Entry, plan: &mut Plan) {
     }
 }
 
-// Tells that a train would pass a switch as no line does.
-fn tell_no_way<'x>(
-    faults: &mut Faults,
-    train: &Entry<'x>,
-    one: &'x str,
-    here: &'x str,
-    other: &'x str,
-) {
-    let parts = [Part::Name(one), Part::Name(here), Part::Name(other)];
-    let form = "no line goes from {} over {}, a switch, to {}";
-    faults.tell(&train.at("route").of(here), form, &parts);
-}
-
 impl<'x> Tracks<'x> {
     // The points to which lines go from a point.
     fn linked_to(&self, faults: &mut Faults, point: &str) -> Vec<&'x str> {
@@ -86,7 +73,13 @@ impl<'x> Tracks<'x> {
             && is_known(self.points, other.as_str())
             && !goes(self.lines, one, here, other.as_str())
         {
-            tell_no_way(faults, train, one, here, other.as_str());
+            let parts = [
+                Part::Name(one),
+                Part::Name(here),
+                Part::Name(other.as_str()),
+            ];
+            let form = "no line goes from {} over {}, a switch, to {}";
+            faults.tell(&train.at("route").of(here), form, &parts);
         }
     }
 

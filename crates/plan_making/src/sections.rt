@@ -207,22 +207,18 @@ fn most_share(section: &SectionPlan, route: &[String], train: usize) -> u8 {
     most
 }
 
-// Tells that a train alone takes more of a section than its limit.
-fn tell_alone(faults: &mut Faults, entry: &Entry, train: &str, share: u32, limit: u32) {
-    let parts = [
-        Part::Name(train),
-        Part::Number(share as i64),
-        Part::Number(limit as i64),
-    ];
-    faults.tell(&entry.at("limit"), "train {} alone takes {} of {}", &parts);
-}
-
 // Tells each train that alone takes more of a section than its limit.
 fn check_alone(faults: &mut Faults, entry: &Entry, section: &SectionPlan, scope: &Scope) {
     for train in 0..scope.trains.len() {
-        let share = u32::from(most_share(section, scope.plan.route(train), train));
+        let share = most_share(section, scope.plan.route(train), train) as u32;
         if section.limit < share {
-            tell_alone(faults, entry, scope.train(train), share, section.limit);
+            let parts = [
+                Part::Name(scope.train(train)),
+                Part::Number(share as i64),
+                Part::Number(section.limit as i64),
+            ];
+            let form = "train {} alone takes {} of {}";
+            faults.tell(&entry.at("limit"), form, &parts);
         }
     }
 }
@@ -309,17 +305,6 @@ fn push_taken(
     }
 }
 
-// Tells that a section is over its limit where the trains start.
-fn tell_taken(faults: &mut Faults, entry: &Entry, taken: u32, limit: u32, shares: &str) {
-    let parts = [
-        Part::Number(taken as i64),
-        Part::Number(limit as i64),
-        Part::Words(shares),
-    ];
-    let form = "at the start {} of {} are taken{}";
-    faults.tell(&entry.at("limit"), form, &parts);
-}
-
 // Tells that a section is over its limit where the trains start, if it is.
 fn check_limit(
     faults: &mut Faults,
@@ -332,7 +317,13 @@ fn check_limit(
     if section.limit < taken {
         let mut shares = String::new(faults.alloc());
         push_taken(faults, &mut shares, section, scope, starts);
-        tell_taken(faults, entry, taken, section.limit, shares.as_str());
+        let parts = [
+            Part::Number(taken as i64),
+            Part::Number(section.limit as i64),
+            Part::Words(shares.as_str()),
+        ];
+        let form = "at the start {} of {} are taken{}";
+        faults.tell(&entry.at("limit"), form, &parts);
     }
 }
 

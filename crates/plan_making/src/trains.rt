@@ -109,14 +109,6 @@ impl<'t> Roster<'t> {
     }
 }
 
-// Tells a route that is too long.
-fn check_length(faults: &mut Faults, entry: &Entry, places: usize) {
-    if MOST_PLACES < places {
-        let form = "the route has {} places, with that behind an exit: 128 are the most";
-        faults.tell(&entry.at("route"), form, &[Part::Count(places)]);
-    }
-}
-
 // Tells what is wrong with what a table says of a train.
 fn check_train(
     faults: &mut Faults,
@@ -129,7 +121,11 @@ fn check_train(
     if route.is_empty() && service.first.names("route").is_some() {
         tell_key(faults, &entry, "route", "the route is empty");
     }
-    check_length(faults, &entry, route.len().saturating_add(exits as usize));
+    let places = route.len().saturating_add(exits as usize);
+    if MOST_PLACES < places {
+        let form = "the route has {} places, with that behind an exit: 128 are the most";
+        faults.tell(&entry.at("route"), form, &[Part::Count(places)]);
+    }
     check_times(faults, &entry, points, route);
 }
 
