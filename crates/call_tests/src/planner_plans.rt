@@ -187,6 +187,7 @@ const CHANGES: &str =
 1: lines = [["A", "M", "N", "B"], ["C", "N", "M", "D"]] / switches = ["M"] / [[train]]; 7: route = ["D", "M", "A"] => line 9: train "T1": no line goes from "D" over "M", a switch, to "A"
 1: lines = [["A", "M", "N", "B"], ["C", "N", "M", "D"]] / switches = ["N"] / [[train]]; 7: route = ["C", "N", "Mm", "D"] => line 9: train "T1": no point "Mm"; did you mean "M"?
 1: lines = [["A", "M", "N", "B"], ["C", "N", "M", "D"]] / switches = ["m"] / [[train]] => line 2: no point "m"; did you mean "M"?
+1: lines = "A" / [[train]] => line 1: "lines" takes a list of lists of points, and this is of type string
 1: lines = [["A", "M"]] / open = true / [[train]] => {"links":[["A","M"],["M","N"],["N","B"],["C","N"],["M","D"]],"points":[["A",0],["M",0],["N",0],["B",0],["C",0],["D",0]],"start":[0,0],"tables":[{"after":0,"certificate":[],"connections":[],"exits":[false,false],"missions":[["A","M","N","B"],["C","N","M","D"]],"sections":[{"changes":[[0,1,0,-1],[0,1,0,-1]],"limit":1}],"times":[[1,1,1],[1,1,1]]}],"trains":["T0","T1"],"version":3,"zones":1}"##;
 
 // What the line of this number becomes, if it is changed.

@@ -2,6 +2,9 @@
 use plan_entries::{Entry, Faults, Kind, Part, first_other};
 use toml::{Table, Value};
 
+// What the keys of lists of entries take, in words.
+const TABLES: &str = "a list of tables";
+
 // What the value of a key is.
 #[derive(Clone, Copy)]
 enum Takes {
@@ -224,18 +227,18 @@ fn check_entry(faults: &mut Faults, entry: &Entry) {
     }
 }
 
-// Tells what isn't a list at a key that has a value.
-fn check_list(faults: &mut Faults, entry: &Entry, key: &'static str) {
+// Tells what isn't a list of what is wanted, at a key that has a value.
+fn check_list(faults: &mut Faults, entry: &Entry, key: &'static str, wanted: &'static str) {
     if let Some(value) = entry.value(key)
         && !value.is_array()
     {
-        tell_type(faults, &entry.at(key), "a list of tables", value);
+        tell_type(faults, &entry.at(key), wanted, value);
     }
 }
 
 // Tells what is wrong with the shapes of the entries of a kind.
 fn check_entries(faults: &mut Faults, above: &Entry, kind: Kind) {
-    check_list(faults, above, kind.word());
+    check_list(faults, above, kind.word(), TABLES);
     let entries = above.list(kind);
     for index in 0..entries.values.len() {
         check_entry(faults, &entries.entry(index));
@@ -251,7 +254,7 @@ fn check_lists(faults: &mut Faults, above: &Entry) {
 
 // Tells what is wrong with the shapes of the further tables.
 fn check_tables(faults: &mut Faults, top: &Entry) {
-    check_list(faults, top, Kind::Table.word());
+    check_list(faults, top, Kind::Table.word(), TABLES);
     let tables = top.list(Kind::Table);
     for index in 0..tables.values.len() {
         let table = tables.entry(index);
@@ -262,7 +265,7 @@ fn check_tables(faults: &mut Faults, top: &Entry) {
 
 // Tells what is wrong with the shapes of the chains of points.
 fn check_lines(faults: &mut Faults, top: &Entry) {
-    check_list(faults, top, "lines");
+    check_list(faults, top, "lines", "a list of lists of points");
     for line in top.values("lines") {
         check_names(faults, &top.at("lines"), line);
     }
