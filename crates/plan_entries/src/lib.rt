@@ -1,4 +1,4 @@
-//! The entries of a plan in TOML, each with its place in the text, and faults that are told of them, in the order of its lines.
+//! The entries of a plan in TOML, each with its place in the text, and the faults in them, in the order of its lines.
 #![tactic(auto)]
 
 mod entries;
