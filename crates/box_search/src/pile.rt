@@ -48,50 +48,58 @@ impl<T: Copy> Pile<T> {
     }
 }
 
-/// Lists of numbers, one behind the other.
+/// Lists of items, one behind the other.
 #[derive(Drop)]
-pub(crate) struct Lists {
-    numbers: Pile<u32>,
-    // Where each list ends.
-    ends: Pile<usize>,
+pub(crate) struct Lists<T> {
+    items: Pile<T>,
+    lists: Pile<Within>,
 }
 
-impl Lists {
-    pub(crate) fn new(alloc: Global) -> Lists {
+/// The items of a list: those from an index, without that at another.
+#[derive(Clone, Copy)]
+struct Within {
+    from: usize,
+    to: usize,
+}
+
+impl<T: Copy> Lists<T> {
+    pub(crate) fn new(alloc: Global) -> Lists<T> {
         Lists {
-            numbers: Pile::new(alloc),
-            ends: Pile::new(alloc),
+            items: Pile::new(alloc),
+            lists: Pile::new(alloc),
         }
     }
 
     /// Adds to the last list.
-    pub(crate) fn add(&mut self, number: u32) {
-        self.numbers.push(number);
+    pub(crate) fn add(&mut self, item: T) {
+        self.items.push(item);
     }
 
     /// Ends the last list; a new one begins.
     pub(crate) fn end(&mut self) {
-        self.ends.push(self.numbers.len());
-    }
-
-    fn end_of(&self, index: usize) -> usize {
-        self.ends.as_slice().get(index).copied().unwrap_or(0)
+        let from = match self.lists.as_slice().last() {
+            Some(before) => before.to,
+            None => 0,
+        };
+        self.lists.push(Within {
+            from,
+            to: self.items.len(),
+        });
     }
 
     /// The list at an index.
-    pub(crate) fn list(&self, index: usize) -> &[u32] {
-        let from = match index.checked_sub(1) {
-            Some(before) => self.end_of(before),
-            None => 0,
+    pub(crate) fn list(&self, index: usize) -> &[T] {
+        let Some(within) = self.lists.as_slice().get(index) else {
+            return &[];
         };
-        match self.numbers.as_slice().get(from..self.end_of(index)) {
+        match self.items.as_slice().get(within.from..within.to) {
             Some(list) => list,
             None => &[],
         }
     }
 
-    /// Whether a number or a list is missing.
+    /// Whether an item or a list is missing.
     pub(crate) fn is_short(&self) -> bool {
-        self.numbers.is_short() || self.ends.is_short()
+        self.items.is_short() || self.lists.is_short()
     }
 }
