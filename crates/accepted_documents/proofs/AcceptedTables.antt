@@ -5,10 +5,10 @@ use Rattle.std.proofs.Math.Seq.{get_or-append_seam}
 use Rattle.rail_model.specs.Certificate.{Tree, Accepts, FirstBad}
 use Rattle.rail_model.specs.Table.{Table}
 use Rattle.rail_model.specs.Yard.{Offer, offer}
-use Rattle.layout_json.specs.declared.spelling.Certified.{Certified}
-use Rattle.layout_json.specs.Doc.{Doc, table_at, offers_of}
-use Rattle.layout_json.specs.Trees.{tree_at, AreTrees}
-use Rattle.layout_json.proofs.Offered.{offer_count, table_offered, accepts_more}
+use Rattle.document_json.specs.declared.spelling.Certified.{Certified}
+use Rattle.document_json.specs.Doc.{Doc, table_at, offers_of}
+use Rattle.document_json.specs.Trees.{tree_at, AreTrees}
+use Rattle.document_json.proofs.Offered.{offer_count, table_offered, accepts_more}
 use Rattle.accepted_documents.specs.Accepting.{AreAccepted, IsFirstBadTable, IsRejected, Rejects}
 use Rattle.accepted_documents.specs.declared.refused.Unaccepted.{Unaccepted}
 use Rattle.accepted_documents.specs.declared.refused.Unaccepted.TheVariants.{Memory, Document, Tree as NoTree, Certificate}

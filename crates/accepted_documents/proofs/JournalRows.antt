@@ -12,8 +12,8 @@ use Rattle.rail_model.specs.Journal.{Journal, IsLine, IsDone, IsWhole, after_lin
 use Rattle.move_journal.specs.declared.faults.BadText.TheVariants.{NoEnd}
 use Rattle.move_journal.specs.Printable.{IsPrintable, ArePrintable}
 use Rattle.move_journal.specs.Answers.{IsTextOf, IsFrontOf}
-use Rattle.layout_json.specs.Doc.{IsDoc, offers_of, names_of}
-use Rattle.layout_json.proofs.Offered.{legal_start}
+use Rattle.document_json.specs.Doc.{IsDoc, offers_of, names_of}
+use Rattle.document_json.proofs.Offered.{legal_start}
 use Rattle.accepted_documents.specs.declared.refused.BadJournal.TheVariants.{Text}
 use Rattle.accepted_documents.specs.declared.replaying.Replayed.TheVariants.{Open, Whole}
 use Rattle.accepted_documents.specs.Replaying.{IsNotWhole, IsReplay, LeadsNowhere}

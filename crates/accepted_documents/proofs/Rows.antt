@@ -5,10 +5,10 @@ use Rattle.std.proofs.lemmas.List.Elements.{All-nil}
 use Rattle.rail_model.specs.declared.types.Bad.TheVariants as bad
 use Rattle.rail_model.specs.declared.types.Node.TheVariants.{Arrived}
 use Rattle.rail_model.specs.Certificate.{arrived, full_box, FirstBad, IsGood}
-use Rattle.layout_json.specs.declared.refused.DocRefused.TheVariants.{Tables}
-use Rattle.layout_json.specs.Doc.{Doc}
-use Rattle.layout_json.specs.Reading.{doc_of}
-use Rattle.layout_json.specs.Trees.{IsTreeOf, tree_at}
+use Rattle.document_json.specs.declared.refused.DocRefused.TheVariants.{Tables}
+use Rattle.document_json.specs.Doc.{Doc}
+use Rattle.document_json.specs.Reading.{doc_of}
+use Rattle.document_json.specs.Trees.{IsTreeOf, tree_at}
 use Rattle.move_journal.specs.declared.faults.BadText.TheVariants as text
 use Rattle.move_journal.specs.declared.faults.BadLine.TheVariants as line
 use Rattle.accepted_documents.specs.declared.refused.Unaccepted.TheVariants.{Document, Certificate}

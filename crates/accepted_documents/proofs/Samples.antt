@@ -6,8 +6,8 @@ use Rattle.rail_model.specs.declared.types.Node.TheVariants.{Split, Arrived, Mov
 use Rattle.rail_model.specs.Table.{Table}
 use Rattle.rail_model.specs.Certificate.{Tree, arrived, move, split, full_box, left_half, right_half, Accepts}
 use Rattle.rail_model.proofs.Agree.{Decides-good}
-use Rattle.layout_json.specs.Doc.{Doc, table_at}
-use Rattle.layout_json.specs.Trees.{IsTreeOf, tree_at}
+use Rattle.document_json.specs.Doc.{Doc, table_at}
+use Rattle.document_json.specs.Trees.{IsTreeOf, tree_at}
 use Rattle.accepted_documents.specs.Accepting.{AreAccepted}
 
 abbrev pub table : Table

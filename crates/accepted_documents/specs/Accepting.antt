@@ -3,9 +3,9 @@ use Rattle.std.specs.Prelude.{◌≡◌, ℕ, ◌<◌, List, length, Ok, Err}
 use Rattle.rail_model.specs.declared.types.Bad.{Bad}
 use Rattle.rail_model.specs.Certificate.{Tree, Accepts, FirstBad}
 use Rattle.rail_model.specs.Table.{Table}
-use Rattle.layout_json.specs.Doc.{Doc, table_at}
-use Rattle.layout_json.specs.Trees.{tree_at, AreTrees, IsNoTree}
-use Rattle.layout_json.specs.Reading.{doc_of}
+use Rattle.document_json.specs.Doc.{Doc, table_at}
+use Rattle.document_json.specs.Trees.{tree_at, AreTrees, IsNoTree}
+use Rattle.document_json.specs.Reading.{doc_of}
 use Rattle.accepted_documents.specs.declared.refused.Unaccepted.{Unaccepted}
 use Rattle.accepted_documents.specs.declared.refused.Unaccepted.TheVariants.{Memory, Document, Tree as NoTree, Certificate}
 

@@ -7,7 +7,7 @@ use Rattle.plain_yard.specs.Keeps.{Keeps}
 use Rattle.move_journal.specs.declared.faults.BadText.TheVariants.{NoEnd}
 use Rattle.move_journal.specs.Answers.{IsTextOf, IsFrontOf, HasTextFault}
 use Rattle.move_journal.specs.Replays.{HasBadLine, IsBrokenJournal}
-use Rattle.layout_json.specs.Doc.{Doc, offers_of, names_of}
+use Rattle.document_json.specs.Doc.{Doc, offers_of, names_of}
 use Rattle.accepted_documents.specs.declared.refused.BadJournal.{BadJournal}
 use Rattle.accepted_documents.specs.declared.refused.BadJournal.TheVariants.{Memory, Text, Line}
 use Rattle.accepted_documents.specs.declared.replaying.Replayed.{Replayed}

@@ -1,16 +1,16 @@
 // Documents whose tables accept their certificates.
 ghost use Rattle.std.specs.Prelude.{◌≡◌, ◌++◌, ◌∷◌, ◌<◌, ◌^◌, [], Ok, length, map, IfOk, IfErr, OnOk};
 ghost use Rattle.rail_model.specs.Certificate.{Accepts};
-ghost use Rattle.layout_json.specs.Doc.{IsDoc, offers_of};
-ghost use Rattle.layout_json.specs.Trees.{AreTrees};
-ghost use Rattle.layout_json.specs.Reading.{doc_of};
+ghost use Rattle.document_json.specs.Doc.{IsDoc, offers_of};
+ghost use Rattle.document_json.specs.Trees.{AreTrees};
+ghost use Rattle.document_json.specs.Reading.{doc_of};
 ghost use Rattle.accepted_documents.specs.Accepting.{AreAccepted, IsRejected, IsUnaccepted, IsUncertified, Rejects};
 
 use crate::Unaccepted;
 use crate::acceptors::{Acceptor, Alone, Together};
 use cert_checker::{Accepted, CheckFault};
 use cert_tree::Cert;
-use layout_json::{Certified, Doc, DocRefused, Frame, TreeRefused, certificates, document};
+use document_json::{Certified, Doc, DocRefused, Frame, TreeRefused, certificates, document};
 use rail_model::Table;
 use std::alloc::Global;
 use std::thread::Threads;

@@ -4,7 +4,7 @@ ghost use Rattle.accepted_documents.specs.Refusing.{bad_text, bad_line};
 ghost use Rattle.accepted_documents.specs.declared.refused.Unaccepted.TheVariants.{Memory as NoMemory};
 
 use cert_tree::CertRefused;
-use layout_json::DocRefused;
+use document_json::DocRefused;
 use move_journal::{BadLine, BadText};
 use rail_model::Bad;
 use std::alloc::AllocFailed;

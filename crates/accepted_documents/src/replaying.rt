@@ -3,13 +3,13 @@ ghost use Rattle.std.specs.Prelude.{◌≡◌, IfOk, IfErr, OnOk};
 ghost use Rattle.rail_model.specs.Yard.{opening};
 ghost use Rattle.rail_model.specs.Journal.{IsWhole};
 ghost use Rattle.move_journal.specs.Answers.{IsTextOf, IsTextPart};
-ghost use Rattle.layout_json.specs.Doc.{IsDoc, offers_of, names_of};
+ghost use Rattle.document_json.specs.Doc.{IsDoc, offers_of, names_of};
 ghost use Rattle.accepted_documents.specs.Replaying.{IsNotWhole, IsReplay, IsWholeJournal, LeadsNowhere, LeadsThrough};
 ghost use Rattle.accepted_documents.specs.Refusing.{IsBadFront, IsBadLine, IsBadPart, IsBadText};
 
 use crate::BadJournal;
 use cert_checker::Accepted;
-use layout_json::Frame;
+use document_json::Frame;
 use move_journal::{Journal, Part, read, read_prefix, replay, verify};
 use rail_model::PlainState;
 use std::alloc::Global;

@@ -5,7 +5,7 @@ use Rattle.clap.specs.Words.{Text}
 use Rattle.ats_io.specs.Bytes.{Adds, AddsPrefix}
 use Rattle.ats_io.specs.Faults.{Rose}
 use Rattle.ats_io.specs.Memory.{HasMade, IsFull}
-use Rattle.command_words.specs.declared.orders.Order.{Order}
+use Rattle.ats_words.specs.declared.orders.Order.{Order}
 use Rattle.ats_run.specs.declared.failure.Failure.{Failure}
 use Rattle.ats_run.specs.declared.failure.Failure.TheVariants as failure
 use Rattle.ats_run.specs.declared.status.Status.{Status}

@@ -5,9 +5,9 @@ use Rattle.rail_model.specs.Certificate.{Tree, FirstBad}
 use Rattle.rail_model.proofs.FirstBads.{not_both}
 use Rattle.cert_tree.proofs.Spell.{one_tree}
 use Rattle.cert_tree.proofs.Verdicts.{refused_not_spelled}
-use Rattle.layout_json.specs.Doc.{Doc, table_at, nodes_at}
-use Rattle.layout_json.specs.Trees.{tree_at, IsNoTree}
-use Rattle.layout_json.specs.Reading.{doc_of}
+use Rattle.document_json.specs.Doc.{Doc, table_at, nodes_at}
+use Rattle.document_json.specs.Trees.{tree_at, IsNoTree}
+use Rattle.document_json.specs.Reading.{doc_of}
 use Rattle.ats_run.specs.declared.failure.Failure.{Failure}
 use Rattle.ats_run.specs.declared.failure.Failure.TheVariants as failure
 use Rattle.accepted_documents.specs.Accepting.{IsBadTable}

@@ -10,12 +10,12 @@ use Rattle.cert_maker.specs.declared.made.Made.TheVariants.{Cert as cert, Stuck 
 use Rattle.cert_maker.specs.Rule.{Makes, first_stuck}
 use Rattle.cert_maker.proofs.Meaning.{gives_accepted}
 use Rattle.cert_maker.proofs.Spelled.{spells, gives_cert, makes_one}
-use Rattle.layout_json.specs.Doc.{Doc, DocTable, doc_table}
-use Rattle.layout_json.specs.Reading.{doc_of}
-use Rattle.layout_json.specs.Replaced.{each_with, exchanged, recertified, replaced, certified}
-use Rattle.layout_json.specs.Trees.{tree_at}
-use Rattle.layout_json.specs.Written.{written}
-use Rattle.layout_json.proofs.Remade.{length-each_with, each_with-at, no_table}
+use Rattle.document_json.specs.Doc.{Doc, DocTable, doc_table}
+use Rattle.document_json.specs.Reading.{doc_of}
+use Rattle.document_json.specs.Replaced.{each_with, exchanged, recertified, replaced, certified}
+use Rattle.document_json.specs.Trees.{tree_at}
+use Rattle.document_json.specs.Written.{written}
+use Rattle.document_json.proofs.Remade.{length-each_with, each_with-at, no_table}
 use Rattle.accepted_documents.specs.Accepting.{AreAccepted}
 use Rattle.ats_run.specs.Certificates.{IsAcceptedText}
 use Rattle.ats_run.specs.Complete.{IsAcceptedInput}

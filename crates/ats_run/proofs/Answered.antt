@@ -4,9 +4,9 @@ use Rattle.std.specs.Prelude.{Option, Result, Ok, Err, IfErr, OnOk, IsOkAnd, IsE
 use Rattle.std.specs.Io.KnownBytes.{IsAtEnd}
 use Rattle.std.proofs.lemmas.List.{append-nil}
 use Rattle.ats_io.specs.Bytes.{Adds, AddsPrefix, ConsumesAtMost}
-use Rattle.command_words.specs.declared.orders.Order.{Order}
-use Rattle.command_words.specs.declared.orders.Order.TheVariants.{Run, Resume, Check, Verify, Migrate, Make, Derive, Repair, Simulate, Generate, Drill, Weave}
-use Rattle.layout_json.specs.Doc.{Doc, table_at}
+use Rattle.ats_words.specs.declared.orders.Order.{Order}
+use Rattle.ats_words.specs.declared.orders.Order.TheVariants.{Run, Resume, Check, Verify, Migrate, Make, Derive, Repair, Simulate, Generate, Drill, Weave}
+use Rattle.document_json.specs.Doc.{Doc, table_at}
 use Rattle.ats_run.specs.declared.failure.Failure.{Failure}
 use Rattle.ats_run.specs.declared.failure.Failure.TheVariants as failure
 use Rattle.ats_run.specs.Causes.{Call, call_of, IsOrderOf, IsReadWhole, IsServed, IsCause, IsUnread, most_bytes}

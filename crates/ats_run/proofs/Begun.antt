@@ -1,8 +1,8 @@
 -- Runs that have begun: what is printed of their end is what the order comes to.
 use Rattle.std.proofs.Common.{◌≡◌, ◌⊎◌, ◌≤◌, ℕ, List, [], length, refl, sym, subst, inl, arith, Vec, Global}
 use Rattle.std.specs.Prelude.{Result, Ok, Err, IfOk, IfErr, MatchResult}
-use Rattle.command_words.specs.declared.orders.Order.{Order}
-use Rattle.command_words.specs.declared.orders.Order.TheVariants.{Run, Resume, Check, Verify, Migrate, Make, Derive, Repair, Simulate, Generate, Drill, Weave}
+use Rattle.ats_words.specs.declared.orders.Order.{Order}
+use Rattle.ats_words.specs.declared.orders.Order.TheVariants.{Run, Resume, Check, Verify, Migrate, Make, Derive, Repair, Simulate, Generate, Drill, Weave}
 use Rattle.rail_model.specs.Certificate.{Tree}
 use Rattle.rail_model.specs.Plain.{Plain}
 use Rattle.rail_model.specs.Yard.{opening}
@@ -10,9 +10,9 @@ use Rattle.rail_model.specs.Journal.{Journal, IsRight, after_lines, with_counts}
 use Rattle.plain_yard.specs.Keeps.{Keeps}
 use Rattle.move_journal.specs.Answers.{IsFrontOf}
 use Rattle.shared_run.specs.declared.crews.Crew.{Crew}
-use Rattle.layout_json.specs.Doc.{Doc, IsDoc, offers_of, names_of}
-use Rattle.layout_json.specs.Reading.{doc_of}
-use Rattle.layout_json.proofs.Offered.{legal_start}
+use Rattle.document_json.specs.Doc.{Doc, IsDoc, offers_of, names_of}
+use Rattle.document_json.specs.Reading.{doc_of}
+use Rattle.document_json.proofs.Offered.{legal_start}
 use Rattle.ats_run.specs.declared.failure.Failure.{Failure}
 use Rattle.ats_run.specs.declared.failure.Failure.TheVariants.{Memory as NoMemory}
 use Rattle.accepted_documents.specs.declared.accepting.Checked.{Checked}

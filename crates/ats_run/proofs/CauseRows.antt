@@ -1,10 +1,10 @@
 -- Worked rows: inputs that are refused at once, and the causes of refusals.
 use Rattle.std.proofs.Common.{◌≡◌, ℕ, ◌<◌, ◌≤◌, List, [], length, codes, Option, Some, None, Err, refl, sym, subst, arith, lit≤}
-use Rattle.command_words.specs.declared.orders.Order.{Order}
-use Rattle.command_words.specs.declared.orders.Order.TheVariants.{Check, Verify, Generate}
+use Rattle.ats_words.specs.declared.orders.Order.{Order}
+use Rattle.ats_words.specs.declared.orders.Order.TheVariants.{Check, Verify, Generate}
 use Rattle.document_shapes.specs.declared.refused.ShapeRefused.TheVariants.{NotJson}
-use Rattle.layout_json.specs.declared.refused.DocRefused.TheVariants.{Shape}
-use Rattle.layout_json.specs.Reading.{doc_of}
+use Rattle.document_json.specs.declared.refused.DocRefused.TheVariants.{Shape}
+use Rattle.document_json.specs.Reading.{doc_of}
 use Rattle.ats_run.specs.declared.failure.Failure.TheVariants.{Words, Memory, ReadFault, WriteFault, TooLong, Document, NoJournal}
 use Rattle.ats_run.specs.declared.status.Status.TheVariants as status
 use Rattle.ats_run.specs.Causes.{Call, IsCause, TellsCause, most_bytes}

@@ -8,11 +8,11 @@ use Rattle.rail_model.proofs.Decide.{same_first}
 use Rattle.cert_maker.specs.Rule.{Makes}
 use Rattle.cert_maker.specs.declared.made.Made.TheVariants.{Cert as cert, Stuck as found, Spent as spent}
 use Rattle.cert_maker.proofs.Spelled.{makes_one}
-use Rattle.command_words.specs.declared.orders.Order.{Order}
-use Rattle.command_words.specs.declared.orders.Order.TheVariants.{Run, Resume, Check, Verify, Migrate, Make, Derive, Repair, Simulate, Generate, Drill, Weave}
+use Rattle.ats_words.specs.declared.orders.Order.{Order}
+use Rattle.ats_words.specs.declared.orders.Order.TheVariants.{Run, Resume, Check, Verify, Migrate, Make, Derive, Repair, Simulate, Generate, Drill, Weave}
 use Rattle.move_journal.specs.declared.faults.BadText.TheVariants.{NoEnd}
-use Rattle.layout_json.specs.Doc.{Doc}
-use Rattle.layout_json.specs.Reading.{doc_of}
+use Rattle.document_json.specs.Doc.{Doc}
+use Rattle.document_json.specs.Reading.{doc_of}
 use Rattle.legal_state.proofs.Verdicts.{illegal_not_legal}
 use Rattle.ats_run.specs.declared.status.Status.{Status}
 use Rattle.ats_run.specs.declared.failure.Failure.{Failure}

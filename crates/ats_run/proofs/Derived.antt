@@ -12,13 +12,13 @@ use Rattle.ring_sections.specs.Ring.{Pair, rings}
 use Rattle.ring_sections.specs.Marking.{stays, ring_table}
 use Rattle.ring_sections.proofs.Excluded.{rings-stays}
 use Rattle.ring_sections.proofs.RingLists.{all-rings}
-use Rattle.layout_json.specs.Doc.{Doc, IsDoc, table_at}
-use Rattle.layout_json.specs.Keeps.{IsTaken}
-use Rattle.layout_json.specs.Reading.{doc_of}
-use Rattle.layout_json.specs.Replaced.{replaced, IsLight, IsRemarked, new_table}
-use Rattle.layout_json.specs.Written.{written}
-use Rattle.layout_json.proofs.Remade.{remarked-is-taken}
-use Rattle.layout_json.proofs.Offered.{offer_count}
+use Rattle.document_json.specs.Doc.{Doc, IsDoc, table_at}
+use Rattle.document_json.specs.Keeps.{IsTaken}
+use Rattle.document_json.specs.Reading.{doc_of}
+use Rattle.document_json.specs.Replaced.{replaced, IsLight, IsRemarked, new_table}
+use Rattle.document_json.specs.Written.{written}
+use Rattle.document_json.proofs.Remade.{remarked-is-taken}
+use Rattle.document_json.proofs.Offered.{offer_count}
 use Rattle.ats_run.specs.declared.failure.Failure.{Failure}
 use Rattle.ats_run.specs.declared.failure.Failure.TheVariants.{Memory as NoMemory}
 use Rattle.ats_run.specs.Deriving.{derived_table, derived, HasFewRings, HaveFewRings, HasTooManyRings, HasManyRings, IsDerived}

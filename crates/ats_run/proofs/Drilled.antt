@@ -4,7 +4,7 @@ use Rattle.rail_model.specs.Certificate.{Tree}
 use Rattle.rail_model.specs.Plain.{Plain}
 use Rattle.rail_model.specs.Journal.{Journal, text, with_counts}
 use Rattle.plain_yard.specs.Keeps.{Keeps}
-use Rattle.layout_json.specs.Doc.{Doc, IsDoc, offers_of, names_of}
+use Rattle.document_json.specs.Doc.{Doc, IsDoc, offers_of, names_of}
 use Rattle.shared_run.specs.declared.crews.Crew.{Crew}
 use Rattle.ats_run.specs.Headline.{Ends, plain_after}
 use Rattle.accepted_documents.specs.Accepting.{AreAccepted}

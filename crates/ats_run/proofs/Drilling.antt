@@ -11,12 +11,12 @@ use Rattle.plain_yard.specs.Keeps.{Keeps}
 use Rattle.shared_run.specs.declared.crews.Crew.{Crew}
 use Rattle.shared_run.specs.Shared.{setup, IsAddedBy}
 use Rattle.document_generator.specs.Generated.{generated}
-use Rattle.layout_json.specs.Doc.{Doc, DocTable, table_at, offers_of}
-use Rattle.layout_json.specs.Reading.{doc_of}
-use Rattle.layout_json.specs.Replaced.{each_with, recertified, certified}
-use Rattle.layout_json.specs.Trees.{tree_at}
-use Rattle.layout_json.specs.Written.{written}
-use Rattle.layout_json.proofs.FormedDoc.{read-is-formed}
+use Rattle.document_json.specs.Doc.{Doc, DocTable, table_at, offers_of}
+use Rattle.document_json.specs.Reading.{doc_of}
+use Rattle.document_json.specs.Replaced.{each_with, recertified, certified}
+use Rattle.document_json.specs.Trees.{tree_at}
+use Rattle.document_json.specs.Written.{written}
+use Rattle.document_json.proofs.FormedDoc.{read-is-formed}
 use Rattle.ats_run.specs.Command.{IsDrilledInput}
 use Rattle.ats_run.specs.Generating.{full_budget}
 use Rattle.ats_run.specs.Headline.{Ends, plain_after}

@@ -13,8 +13,8 @@ use Rattle.zone_yard.specs.Setup.{IsSetup}
 use Rattle.shared_run.specs.declared.crews.Crew.{Crew}
 use Rattle.shared_run.specs.Shared.{setup, IsWorkedTo}
 use Rattle.shared_run.proofs.Added.{added_alone, added_shared, all_added, adds_all, all_right, after_all, all_shared}
-use Rattle.layout_json.specs.Doc.{Doc, IsDoc, offers_of}
-use Rattle.layout_json.proofs.Offered.{on_layout}
+use Rattle.document_json.specs.Doc.{Doc, IsDoc, offers_of}
+use Rattle.document_json.proofs.Offered.{on_layout}
 use Rattle.ats_run.specs.Headline.{Ends}
 
 -- a shared yard can open with a state of a document's run

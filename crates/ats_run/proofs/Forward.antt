@@ -18,22 +18,22 @@ use Rattle.document_shapes.specs.InRange.{IsSmall, SectionIsSmall, IfGiven, Tabl
 use Rattle.document_shapes.specs.Raw.{DocMembers, TableMembers}
 use Rattle.document_shapes.proofs.EachLemmas.{in_turn-ok, each-good}
 use Rattle.document_shapes.proofs.WrittenBack.{text-back}
-use Rattle.layout_json.specs.Doc.{Doc, DocTable, IsDoc, table_at, names_of}
-use Rattle.layout_json.specs.Keeps.{IsTaken}
-use Rattle.layout_json.specs.Members.{members_in, table_members_in}
-use Rattle.layout_json.specs.Reading.{doc_of, doc_from}
-use Rattle.layout_json.specs.Replaced.{recertified, certified}
-use Rattle.layout_json.specs.Tables.{refused_as, marks_of, exits_or_none, times_or_one, after_refusal, times_refusal, table_of, doc_table_of}
-use Rattle.layout_json.specs.Trees.{tree_at}
-use Rattle.layout_json.specs.Written.{written}
-use Rattle.layout_json.specs.declared.refused.DocRefused.TheVariants as refused
-use Rattle.layout_json.proofs.LayoutBack.{layout-made_of}
-use Rattle.layout_json.proofs.NamedLemmas.{members-are-read}
-use Rattle.layout_json.proofs.Remade.{certified-is-taken, length-each_with, each_with-at, no_table}
-use Rattle.layout_json.proofs.TableBack.{refused_as-ok, doc_table-made}
-use Rattle.layout_json.proofs.Taken.{Makes, makes}
-use Rattle.layout_json.proofs.WaysBack.{missions-made_of}
-use Rattle.layout_json.proofs.WrittenBack.{doc-back}
+use Rattle.document_json.specs.Doc.{Doc, DocTable, IsDoc, table_at, names_of}
+use Rattle.document_json.specs.Keeps.{IsTaken}
+use Rattle.document_json.specs.Members.{members_in, table_members_in}
+use Rattle.document_json.specs.Reading.{doc_of, doc_from}
+use Rattle.document_json.specs.Replaced.{recertified, certified}
+use Rattle.document_json.specs.Tables.{refused_as, marks_of, exits_or_none, times_or_one, after_refusal, times_refusal, table_of, doc_table_of}
+use Rattle.document_json.specs.Trees.{tree_at}
+use Rattle.document_json.specs.Written.{written}
+use Rattle.document_json.specs.declared.refused.DocRefused.TheVariants as refused
+use Rattle.document_json.proofs.LayoutBack.{layout-made_of}
+use Rattle.document_json.proofs.NamedLemmas.{members-are-read}
+use Rattle.document_json.proofs.Remade.{certified-is-taken, length-each_with, each_with-at, no_table}
+use Rattle.document_json.proofs.TableBack.{refused_as-ok, doc_table-made}
+use Rattle.document_json.proofs.Taken.{Makes, makes}
+use Rattle.document_json.proofs.WaysBack.{missions-made_of}
+use Rattle.document_json.proofs.WrittenBack.{doc-back}
 use Rattle.ats_run.proofs.SmallNodes.{certificate-small}
 
 -- ---- a table has its members' sections, times and delay

@@ -12,16 +12,16 @@ use Rattle.document_generator.specs.Generated.{generated, document_of, table_of}
 use Rattle.document_generator.specs.Pairs.{all_pairs}
 use Rattle.document_generator.specs.Pieces.{sections_of}
 use Rattle.document_generator.proofs.GeneratedBack.{generated-in_range, generated-read}
-use Rattle.layout_json.specs.Doc.{Doc}
-use Rattle.layout_json.specs.Reading.{doc_of, doc_from}
-use Rattle.layout_json.specs.Replaced.{recertified, certified}
-use Rattle.layout_json.specs.Tables.{refused_as, doc_table_of}
-use Rattle.layout_json.specs.Trees.{tree_at}
-use Rattle.layout_json.specs.Written.{written}
-use Rattle.layout_json.specs.declared.refused.DocRefused.TheVariants.{Shape}
-use Rattle.layout_json.proofs.FormedDoc.{read-is-formed}
-use Rattle.layout_json.proofs.Remade.{length-each_with}
-use Rattle.layout_json.proofs.Taken.{makes}
+use Rattle.document_json.specs.Doc.{Doc}
+use Rattle.document_json.specs.Reading.{doc_of, doc_from}
+use Rattle.document_json.specs.Replaced.{recertified, certified}
+use Rattle.document_json.specs.Tables.{refused_as, doc_table_of}
+use Rattle.document_json.specs.Trees.{tree_at}
+use Rattle.document_json.specs.Written.{written}
+use Rattle.document_json.specs.declared.refused.DocRefused.TheVariants.{Shape}
+use Rattle.document_json.proofs.FormedDoc.{read-is-formed}
+use Rattle.document_json.proofs.Remade.{length-each_with}
+use Rattle.document_json.proofs.Taken.{makes}
 use Rattle.accepted_documents.specs.Accepting.{AreAccepted, IsDocWith}
 use Rattle.ats_run.specs.Command.{IsDrilledInput}
 use Rattle.ats_run.specs.Generating.{full_budget, IsDrilled}

@@ -14,7 +14,7 @@ use Rattle.move_journal.specs.Replays.{HasBadLine, IsBrokenJournal}
 use Rattle.move_journal.proofs.OneAnswer.{text_or_fault, one_journal, one_prefix}
 use Rattle.move_journal.proofs.OneBadLine.{right_or_bad}
 use Rattle.move_journal.proofs.OneLack.{whole_or_not}
-use Rattle.layout_json.specs.Doc.{Doc, offers_of, names_of}
+use Rattle.document_json.specs.Doc.{Doc, offers_of, names_of}
 use Rattle.ats_run.specs.Journals.{IsUnreadable, FailsToVerify, FailsToResume}
 use Rattle.ats_run.specs.Complete.{IsWholeText, IsRightFront}
 

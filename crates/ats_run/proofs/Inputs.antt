@@ -2,8 +2,8 @@
 use Rattle.std.proofs.Common.{◌≡◌, ℕ, List, subst}
 use Rattle.std.specs.Prelude.{Ok}
 use Rattle.shared_run.specs.declared.crews.Crew.{Crew}
-use Rattle.layout_json.specs.Doc.{Doc}
-use Rattle.layout_json.specs.Reading.{doc_of}
+use Rattle.document_json.specs.Doc.{Doc}
+use Rattle.document_json.specs.Reading.{doc_of}
 use Rattle.ats_run.specs.Command.{IsResumedInput}
 use Rattle.ats_run.specs.Journals.{IsCutAt, IsResumed, document_part, journal_part}
 

@@ -9,7 +9,7 @@ use Rattle.forbidden_states.specs.Forbid.{Stay, AreStays, stay_of, forbidding, m
 use Rattle.forbidden_states.proofs.Over.{hit-le}
 use Rattle.forbidden_states.proofs.Shares.{hit_of, share-marked, section-at}
 use Rattle.forbidden_states.proofs.Tables.{stays-le}
-use Rattle.layout_json.specs.Replaced.{IsLight}
+use Rattle.document_json.specs.Replaced.{IsLight}
 
 -- a stay counts its train once at most
 at_most_one : (o : Option Stay) (k : ℕ) → hit_of o k ≤ 1

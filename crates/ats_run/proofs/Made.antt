@@ -7,8 +7,8 @@ use Rattle.rail_model.specs.Table.{Table}
 use Rattle.rail_model.specs.Certificate.{Tree, Accepts}
 use Rattle.cert_maker.specs.Rule.{Makes}
 use Rattle.cert_maker.specs.declared.made.Made.TheVariants.{Cert as cert}
-use Rattle.layout_json.specs.Doc.{Doc, table_at}
-use Rattle.layout_json.specs.Trees.{tree_at}
+use Rattle.document_json.specs.Doc.{Doc, table_at}
+use Rattle.document_json.specs.Trees.{tree_at}
 use Rattle.ats_run.specs.declared.failure.Failure.{Failure}
 use Rattle.ats_run.specs.declared.failure.Failure.TheVariants.{Memory as NoMemory}
 use Rattle.ats_run.specs.Making.{tables_in, table_in, MakesNone, FailsToMake}

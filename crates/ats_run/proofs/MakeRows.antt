@@ -1,14 +1,14 @@
 -- Worked rows: a certificate that is refused, and one that is made in its place, or is too large for the budget.
 use Rattle.std.proofs.Common.{◌≡◌, ℕ, List, [], ◌∷◌, Ok, Err, refl, arith, lit<, lit≤, inr}
-use Rattle.command_words.specs.declared.orders.Order.TheVariants.{Check, Make}
+use Rattle.ats_words.specs.declared.orders.Order.TheVariants.{Check, Make}
 use Rattle.rail_model.specs.declared.types.Bad.TheVariants as bad
 use Rattle.rail_model.specs.declared.types.Node.TheVariants.{Arrived, Move}
 use Rattle.rail_model.specs.Certificate.{full_box, Accepts}
 use Rattle.cert_maker.specs.Rule.{leaf, split, IsRuleTree, Makes}
 use Rattle.cert_maker.specs.declared.made.Made.TheVariants.{Cert as cert}
-use Rattle.layout_json.specs.Reading.{doc_of}
-use Rattle.layout_json.specs.Trees.{tree_at}
-use Rattle.layout_json.specs.Written.{written}
+use Rattle.document_json.specs.Reading.{doc_of}
+use Rattle.document_json.specs.Trees.{tree_at}
+use Rattle.document_json.specs.Written.{written}
 use Rattle.ats_run.specs.declared.failure.Failure.TheVariants.{Certificate, Spent}
 use Rattle.ats_run.specs.Command.{Comes}
 use Rattle.ats_run.specs.Making.{AreMade, table_in}

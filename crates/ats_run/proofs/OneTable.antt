@@ -12,8 +12,8 @@ use Rattle.rail_model.specs.Journal.{IsRight, after_lines, is_move, is_table}
 use Rattle.rail_model.proofs.Moves.{remaining_move, none_remain}
 use Rattle.plain_yard.specs.Keeps.{Keeps}
 use Rattle.plain_yard.proofs.Keeping.{keeps_moves}
-use Rattle.layout_json.specs.Doc.{Doc, table_at, offers_of}
-use Rattle.layout_json.proofs.Offered.{offer_count, table_offered}
+use Rattle.document_json.specs.Doc.{Doc, table_at, offers_of}
+use Rattle.document_json.proofs.Offered.{offer_count, table_offered}
 use Rattle.shared_run.specs.declared.crews.Crew.{Crew}
 use Rattle.ats_run.specs.Headline.{Ends, plain_after}
 

@@ -2,8 +2,8 @@
 use Rattle.std.proofs.Common.{◌≡◌, ◌⊎◌, ℕ, List, refl, sym, subst, inl, inr}
 use Rattle.std.specs.Prelude.{Ok}
 use Rattle.rail_model.specs.Certificate.{Tree}
-use Rattle.layout_json.specs.Doc.{Doc, IsDoc}
-use Rattle.layout_json.specs.Reading.{doc_of}
+use Rattle.document_json.specs.Doc.{Doc, IsDoc}
+use Rattle.document_json.specs.Reading.{doc_of}
 use Rattle.accepted_documents.specs.Accepting.{AreAccepted}
 use Rattle.accepted_documents.specs.Replaying.{IsNotWhole, LeadsNowhere}
 use Rattle.accepted_documents.specs.declared.refused.BadJournal.{BadJournal}

@@ -1,8 +1,8 @@
 -- Orders that read their input, and orders that read nothing.
 use Rattle.std.proofs.Common.{◌≡◌, ℕ, List, [], Option, None, Some, sym, subst}
 use Rattle.std.specs.Prelude.{IfSome}
-use Rattle.command_words.specs.declared.orders.Order.{Order}
-use Rattle.command_words.specs.declared.orders.Order.TheVariants.{Generate, Drill}
+use Rattle.ats_words.specs.declared.orders.Order.{Order}
+use Rattle.ats_words.specs.declared.orders.Order.TheVariants.{Generate, Drill}
 use Rattle.ats_run.specs.Orders.{Reads, OnInput, HoldsInput}
 
 -- of an order that reads its input a fact of the bytes is asked

@@ -5,7 +5,7 @@ use Rattle.rail_model.specs.Table.{Table}
 use Rattle.legal_state.proofs.Verdicts.{illegal_not_legal}
 use Rattle.section_repair.specs.declared.repaired.Repair.TheVariants as repair
 use Rattle.section_repair.proofs.OneAnswer.{repair_is_unique}
-use Rattle.layout_json.specs.Doc.{Doc, table_at}
+use Rattle.document_json.specs.Doc.{Doc, table_at}
 use Rattle.ats_run.specs.declared.failure.Failure.{Failure}
 use Rattle.ats_run.specs.declared.failure.Failure.TheVariants as failure
 use Rattle.ats_run.specs.Repairing.{RepairsNone, IsRefusedStart, FailsToRepair, HasRepair, IsRepairable}

@@ -15,13 +15,13 @@ use Rattle.section_repair.specs.Claims.{LosesNothing, IsExact, DoomsAlike}
 use Rattle.section_repair.specs.declared.repaired.Repair.{Repair}
 use Rattle.section_repair.specs.declared.repaired.Repair.TheVariants as repair
 use Rattle.section_repair.proofs.Kept.{reached_sound}
-use Rattle.layout_json.specs.Doc.{Doc, IsDoc, table_at}
-use Rattle.layout_json.specs.Reading.{doc_of}
-use Rattle.layout_json.specs.Keeps.{IsTaken}
-use Rattle.layout_json.specs.Replaced.{replaced, IsLight, IsRemarked}
-use Rattle.layout_json.specs.Written.{written}
-use Rattle.layout_json.proofs.Remade.{remarked-is-taken}
-use Rattle.layout_json.proofs.Offered.{offer_count}
+use Rattle.document_json.specs.Doc.{Doc, IsDoc, table_at}
+use Rattle.document_json.specs.Reading.{doc_of}
+use Rattle.document_json.specs.Keeps.{IsTaken}
+use Rattle.document_json.specs.Replaced.{replaced, IsLight, IsRemarked}
+use Rattle.document_json.specs.Written.{written}
+use Rattle.document_json.proofs.Remade.{remarked-is-taken}
+use Rattle.document_json.proofs.Offered.{offer_count}
 use Rattle.ats_run.specs.Making.{part_in}
 use Rattle.ats_run.specs.Repairing.{IsRepairedAs, EndsRepair, RepairsNone, AreRepaired, IsUnconnected, IsRepaired, IsRefusedStart, FailsToRepair}
 use Rattle.ats_run.specs.Starting.{IsBadStart}

@@ -12,8 +12,8 @@ use Rattle.plain_yard.proofs.Reaching.{after_append}
 use Rattle.move_journal.specs.Answers.{IsTextOf, IsFrontOf}
 use Rattle.move_journal.proofs.Fronts.{text_goes_on}
 use Rattle.shared_run.specs.declared.crews.Crew.{Crew}
-use Rattle.layout_json.specs.Doc.{Doc, IsDoc, offers_of, names_of}
-use Rattle.layout_json.proofs.Offered.{legal_start}
+use Rattle.document_json.specs.Doc.{Doc, IsDoc, offers_of, names_of}
+use Rattle.document_json.proofs.Offered.{legal_start}
 use Rattle.accepted_documents.specs.Accepting.{AreAccepted}
 use Rattle.ats_run.specs.Headline.{IsRun, Ends}
 use Rattle.ats_run.specs.Journals.{IsResumed}

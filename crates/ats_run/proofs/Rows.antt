@@ -6,9 +6,9 @@ use Rattle.std.specs.List.{slice_split}
 use Rattle.clap.specs.Words.{Text}
 use Rattle.clap.proofs.OnLiterals.{clap_on_literals}
 use Rattle.decimal_number.specs.Decimal.{number_of}
-use Rattle.command_words.specs.Words.{leaf, words}
-use Rattle.command_words.specs.declared.orders.Order.{Order}
-use Rattle.command_words.specs.declared.orders.Order.TheVariants as order
+use Rattle.ats_words.specs.Words.{leaf, words}
+use Rattle.ats_words.specs.declared.orders.Order.{Order}
+use Rattle.ats_words.specs.declared.orders.Order.TheVariants as order
 use Rattle.rail_model.specs.declared.types.Ask.TheVariants as ask
 use Rattle.rail_model.specs.declared.types.Bad.TheVariants as bad
 use Rattle.rail_model.specs.declared.types.Line.{Line}
@@ -16,7 +16,7 @@ use Rattle.rail_model.specs.declared.types.Line.TheVariants.{Move, Table, KeptDi
 use Rattle.rail_model.specs.Names.{Names}
 use Rattle.cert_tree.specs.declared.reading.CertRefused.TheVariants as tree
 use Rattle.document_shapes.specs.declared.refused.ShapeRefused.TheVariants as shape
-use Rattle.layout_json.specs.declared.refused.DocRefused.TheVariants as document
+use Rattle.document_json.specs.declared.refused.DocRefused.TheVariants as document
 use Rattle.move_journal.specs.declared.faults.BadText.TheVariants as text
 use Rattle.move_journal.specs.declared.faults.BadLine.TheVariants as line
 use Rattle.accepted_documents.specs.declared.refused.Unaccepted.TheVariants as unaccepted

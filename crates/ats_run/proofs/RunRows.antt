@@ -1,12 +1,12 @@
 -- Worked rows: a document that is checked and run, its journal that is verified, and a run that goes on.
 use Rattle.std.proofs.Common.{◌≡◌, ℕ, List, [], ◌∷◌, ◌++◌, codes, Ok, refl, sym, ap, arith, lit<, lit≤, inr}
 use Rattle.std.specs.Fmt.{digits}
-use Rattle.command_words.specs.declared.orders.Order.TheVariants.{Run, Resume, Check, Verify, Weave}
+use Rattle.ats_words.specs.declared.orders.Order.TheVariants.{Run, Resume, Check, Verify, Weave}
 use Rattle.rail_model.specs.Yard.{opening}
 use Rattle.rail_model.specs.Journal.{IsRound}
-use Rattle.layout_json.specs.Doc.{IsDoc, offers_of}
-use Rattle.layout_json.specs.Reading.{doc_of}
-use Rattle.layout_json.proofs.FormedDoc.{read-is-formed}
+use Rattle.document_json.specs.Doc.{IsDoc, offers_of}
+use Rattle.document_json.specs.Reading.{doc_of}
+use Rattle.document_json.proofs.FormedDoc.{read-is-formed}
 use Rattle.shared_run.specs.Crews.{crew_of}
 use Rattle.ats_run.specs.Command.{Comes}
 use Rattle.ats_run.specs.Headline.{IsRun, IsRoundRobin, Ends, plain_after}

@@ -17,8 +17,8 @@ use Rattle.plain_yard.proofs.Keeping.{keeps_stands, keeps_ready, few_moves, whol
 use Rattle.move_journal.specs.Printable.{IsNamed, AreEnough}
 use Rattle.move_journal.proofs.Named.{named_right}
 use Rattle.shared_run.specs.declared.crews.Crew.{Crew}
-use Rattle.layout_json.specs.Doc.{Doc, IsDoc, table_at, offers_of, names_of}
-use Rattle.layout_json.proofs.Offered.{offer_count, table_offered, legal_start}
+use Rattle.document_json.specs.Doc.{Doc, IsDoc, table_at, offers_of, names_of}
+use Rattle.document_json.proofs.Offered.{offer_count, table_offered, legal_start}
 use Rattle.accepted_documents.specs.Accepting.{AreAccepted}
 use Rattle.ats_run.specs.Headline.{GoesOnWell, IsRun, IsRunBy, Ends, plain_after}
 

@@ -14,8 +14,8 @@ use Rattle.plain_yard.proofs.Keeping.{whole}
 use Rattle.train_sim.specs.Report.{HaveTimes, Simulates, IsSoon}
 use Rattle.train_sim.specs.Timed.{starting, lines_of, timed_lines}
 use Rattle.train_sim.proofs.Righting.{timed_right}
-use Rattle.layout_json.specs.Doc.{Doc, IsDoc, offers_of, names_of, times_of, doc_table, table_at}
-use Rattle.layout_json.proofs.Offered.{offer_count, table_offered, legal_start}
+use Rattle.document_json.specs.Doc.{Doc, IsDoc, offers_of, names_of, times_of, doc_table, table_at}
+use Rattle.document_json.proofs.Offered.{offer_count, table_offered, legal_start}
 use Rattle.accepted_documents.specs.Accepting.{AreAccepted}
 use Rattle.ats_run.specs.Simulating.{IsSimulated, timed_text, last_text}
 use Rattle.ats_run.proofs.Runs.{goes_on_well}

@@ -3,7 +3,7 @@ use Rattle.std.proofs.Common.{◌≡◌, List, [], ◌∷◌, codes, pos, negsuc
 use Rattle.std.specs.Prelude.{false}
 use Rattle.rail_model.specs.Table.{Table}
 use Rattle.rail_model.specs.Certificate.{Tree, arrived, move, split}
-use Rattle.layout_json.specs.Doc.{Doc}
+use Rattle.document_json.specs.Doc.{Doc}
 use Rattle.ats_run.specs.Checking.{nodes_below}
 use Rattle.ats_run.specs.Deriving.{derived_table, derived, HasFewRings}
 use Rattle.ats_run.specs.Making.{table_in, tables_in, part_in, trees_in}

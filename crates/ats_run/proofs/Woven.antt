@@ -22,8 +22,8 @@ use Rattle.zone_machine.specs.Program.{next}
 use Rattle.zone_machine.specs.Weave.{first_world, plain_of}
 use Rattle.zone_machine.specs.Calls.{Steps}
 use Rattle.document_generator.specs.Draws.{next_draw, drawn_of}
-use Rattle.layout_json.specs.Doc.{Doc, IsDoc, offers_of, names_of}
-use Rattle.layout_json.proofs.Offered.{legal_start}
+use Rattle.document_json.specs.Doc.{Doc, IsDoc, offers_of, names_of}
+use Rattle.document_json.proofs.Offered.{legal_start}
 use Rattle.accepted_documents.specs.Accepting.{AreAccepted}
 use Rattle.ats_run.specs.Headline.{IsRun}
 use Rattle.ats_run.specs.Weaving.{IsWoven, core_of, woven, after_turn, drawn_actor, drawn_world}

@@ -1,9 +1,9 @@
 -- What an order writes that writes a document.
 use Rattle.std.proofs.Common.{◌≡◌, ℕ, List, Option, Some, sym, ◌∙◌, subst}
 use Rattle.std.specs.Prelude.{Ok, IfSome}
-use Rattle.command_words.specs.declared.orders.Order.{Order}
-use Rattle.command_words.specs.declared.orders.Order.TheVariants.{Run, Make, Derive, Repair, Generate, Drill}
-use Rattle.layout_json.specs.Replaced.{replaced}
+use Rattle.ats_words.specs.declared.orders.Order.{Order}
+use Rattle.ats_words.specs.declared.orders.Order.TheVariants.{Run, Make, Derive, Repair, Generate, Drill}
+use Rattle.document_json.specs.Replaced.{replaced}
 use Rattle.rail_model.specs.Yard.{opening}
 use Rattle.shared_run.specs.Crews.{crew_of}
 use Rattle.ats_run.specs.Causes.{IsServed}

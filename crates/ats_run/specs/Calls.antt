@@ -1,7 +1,7 @@
 -- What the contract of the whole call says of its words, its input and what was written.
 use Rattle.std.specs.Prelude.{◌≡◌, ℕ, List, String, Option, Some, IfSome, map, string_bytes}
-use Rattle.command_words.specs.declared.orders.Order.{Order}
-use Rattle.command_words.specs.declared.orders.Order.TheVariants.{Run, Drill}
+use Rattle.ats_words.specs.declared.orders.Order.{Order}
+use Rattle.ats_words.specs.declared.orders.Order.TheVariants.{Run, Drill}
 use Rattle.document_generator.specs.Generated.{generated}
 use Rattle.rail_model.specs.Yard.{opening}
 use Rattle.shared_run.specs.declared.crews.Crew.{Crew}

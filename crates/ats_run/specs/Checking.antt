@@ -2,8 +2,8 @@
 use Rattle.std.specs.Prelude.{◌≡◌, ℕ, List, ◌++◌, length, codes, decimal}
 use Rattle.rail_model.specs.Certificate.{Tree, preorder}
 use Rattle.rail_model.specs.Sums.{sum_below}
-use Rattle.layout_json.specs.Doc.{Doc}
-use Rattle.layout_json.specs.Trees.{tree_at}
+use Rattle.document_json.specs.Doc.{Doc}
+use Rattle.document_json.specs.Trees.{tree_at}
 use Rattle.accepted_documents.specs.Accepting.{AreAccepted}
 
 -- the number of nodes of the first trees

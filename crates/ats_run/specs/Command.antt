@@ -1,17 +1,17 @@
 -- What each command comes to on the bytes of its input: the bytes that it prints, or the refusal.
 use Rattle.std.specs.Prelude.{◌≡◌, ◌≢◌, ◌⊎◌, ℕ, List, [], Result, Ok, Err}
-use Rattle.command_words.specs.declared.orders.Order.{Order}
-use Rattle.command_words.specs.declared.orders.Order.TheVariants.{Run, Resume, Check, Verify, Migrate, Make, Derive, Repair, Simulate, Generate, Drill, Weave}
+use Rattle.ats_words.specs.declared.orders.Order.{Order}
+use Rattle.ats_words.specs.declared.orders.Order.TheVariants.{Run, Resume, Check, Verify, Migrate, Make, Derive, Repair, Simulate, Generate, Drill, Weave}
 use Rattle.move_journal.specs.declared.faults.BadText.{BadText}
 use Rattle.move_journal.specs.declared.faults.BadText.TheVariants.{NoEnd}
 use Rattle.move_journal.specs.declared.faults.BadLine.{BadLine}
 use Rattle.document_generator.specs.Generated.{generated}
 use Rattle.shared_run.specs.declared.crews.Crew.{Crew}
 use Rattle.shared_run.specs.Crews.{crew_of}
-use Rattle.layout_json.specs.Doc.{Doc}
-use Rattle.layout_json.specs.Trees.{IsNoTree}
-use Rattle.layout_json.specs.Reading.{doc_of}
-use Rattle.layout_json.specs.declared.refused.DocRefused.{DocRefused}
+use Rattle.document_json.specs.Doc.{Doc}
+use Rattle.document_json.specs.Trees.{IsNoTree}
+use Rattle.document_json.specs.Reading.{doc_of}
+use Rattle.document_json.specs.declared.refused.DocRefused.{DocRefused}
 use Rattle.ats_run.specs.declared.failure.Failure.{Failure}
 use Rattle.ats_run.specs.declared.failure.Failure.TheVariants.{Document, Tree, Certificate, NoJournal, Text, Line}
 use Rattle.accepted_documents.specs.Accepting.{IsBadTable, IsDocWith}

@@ -1,15 +1,15 @@
 -- Inputs that a command takes: where no device fails, its answer is its text, or there was no memory.
 use Rattle.std.specs.Prelude.{◌≡◌, ◌⊎◌, ℕ, ◌≤◌, List, length, Ok}
-use Rattle.command_words.specs.declared.orders.Order.{Order}
-use Rattle.command_words.specs.declared.orders.Order.TheVariants.{Run, Resume, Check, Verify, Migrate, Make, Derive, Repair, Simulate, Generate, Drill, Weave}
+use Rattle.ats_words.specs.declared.orders.Order.{Order}
+use Rattle.ats_words.specs.declared.orders.Order.TheVariants.{Run, Resume, Check, Verify, Migrate, Make, Derive, Repair, Simulate, Generate, Drill, Weave}
 use Rattle.rail_model.specs.Certificate.{Tree}
 use Rattle.rail_model.specs.State.{Legal}
 use Rattle.rail_model.specs.Yard.{opening}
 use Rattle.rail_model.specs.Journal.{Journal, IsRight, IsWhole}
 use Rattle.move_journal.specs.Answers.{IsTextOf, IsFrontOf}
 use Rattle.document_generator.specs.Generated.{generated}
-use Rattle.layout_json.specs.Doc.{Doc, offers_of, names_of}
-use Rattle.layout_json.specs.Reading.{doc_of}
+use Rattle.document_json.specs.Doc.{Doc, offers_of, names_of}
+use Rattle.document_json.specs.Reading.{doc_of}
 use Rattle.ats_run.specs.declared.status.Status.{Status}
 use Rattle.ats_run.specs.declared.status.Status.TheVariants.{Done, Memory}
 use Rattle.ats_run.specs.Causes.{most_bytes}

@@ -5,8 +5,8 @@ use Rattle.rail_model.specs.State.{Legal}
 use Rattle.rail_model.specs.Certificate.{Tree}
 use Rattle.ring_sections.specs.Ring.{rings}
 use Rattle.ring_sections.specs.Marking.{ring_table}
-use Rattle.layout_json.specs.Doc.{Doc, table_at}
-use Rattle.layout_json.specs.Replaced.{replaced}
+use Rattle.document_json.specs.Doc.{Doc, table_at}
+use Rattle.document_json.specs.Replaced.{replaced}
 use Rattle.ats_run.specs.declared.failure.Failure.{Failure}
 use Rattle.ats_run.specs.declared.failure.Failure.TheVariants.{Many}
 use Rattle.ats_run.specs.Certificates.{IsAcceptedText}

@@ -10,7 +10,7 @@ use Rattle.rail_model.specs.Plain.{Plain}
 use Rattle.rail_model.specs.Journal.{Journal, IsRight, IsDone, IsWhole, IsRound, after_lines, text}
 use Rattle.shared_run.specs.declared.crews.Crew.{Crew}
 use Rattle.shared_run.specs.Shared.{setup, IsAddedBy}
-use Rattle.layout_json.specs.Doc.{Doc, offers_of, names_of}
+use Rattle.document_json.specs.Doc.{Doc, offers_of, names_of}
 use Rattle.accepted_documents.specs.Accepting.{AreAccepted}
 
 -- From the state after any first lines on, each legal way of going on ends with all trains arrived after exactly the remaining moves.

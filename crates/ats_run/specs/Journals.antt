@@ -11,7 +11,7 @@ use Rattle.move_journal.specs.declared.faults.BadLine.{BadLine}
 use Rattle.move_journal.specs.Answers.{IsTextOf, IsFrontOf, HasTextFault}
 use Rattle.move_journal.specs.Replays.{HasBadLine, IsBrokenJournal}
 use Rattle.shared_run.specs.declared.crews.Crew.{Crew}
-use Rattle.layout_json.specs.Doc.{Doc, IsDoc, offers_of, names_of}
+use Rattle.document_json.specs.Doc.{Doc, IsDoc, offers_of, names_of}
 use Rattle.accepted_documents.specs.Accepting.{AreAccepted}
 use Rattle.accepted_documents.specs.Replaying.{IsNotWhole}
 use Rattle.accepted_documents.specs.declared.refused.BadJournal.{BadJournal}

@@ -5,9 +5,9 @@ use Rattle.rail_model.specs.Move.{Stuck as IsStuck}
 use Rattle.rail_model.specs.Certificate.{Tree, arrived, Accepts}
 use Rattle.cert_maker.specs.Rule.{Makes}
 use Rattle.cert_maker.specs.declared.made.Made.TheVariants.{Cert as cert, Stuck as found, Spent as spent}
-use Rattle.layout_json.specs.Doc.{Doc}
-use Rattle.layout_json.specs.Trees.{tree_at}
-use Rattle.layout_json.specs.Replaced.{certified}
+use Rattle.document_json.specs.Doc.{Doc}
+use Rattle.document_json.specs.Trees.{tree_at}
+use Rattle.document_json.specs.Replaced.{certified}
 use Rattle.ats_run.specs.declared.failure.Failure.{Failure}
 use Rattle.ats_run.specs.declared.failure.Failure.TheVariants.{Spent, Stuck}
 use Rattle.ats_run.specs.Certificates.{IsAcceptedText}

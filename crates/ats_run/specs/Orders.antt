@@ -1,9 +1,9 @@
 -- What words ask for, and what each order reads.
 use Rattle.std.specs.Prelude.{◌≡◌, ℕ, List, [], Option, Some, IfSome}
 use Rattle.clap.specs.Words.{Text}
-use Rattle.command_words.specs.Words.{words}
-use Rattle.command_words.specs.declared.orders.Order.{Order}
-use Rattle.command_words.specs.declared.orders.Order.TheVariants.{Run, Resume, Make, Derive, Repair, Generate, Drill}
+use Rattle.ats_words.specs.Words.{words}
+use Rattle.ats_words.specs.declared.orders.Order.{Order}
+use Rattle.ats_words.specs.declared.orders.Order.TheVariants.{Run, Resume, Make, Derive, Repair, Generate, Drill}
 use Rattle.shared_run.specs.declared.crews.Crew.{Crew}
 use Rattle.shared_run.specs.Crews.{crew_of}
 

@@ -7,8 +7,8 @@ use Rattle.section_repair.specs.Repairs.{Repairs}
 use Rattle.section_repair.specs.Claims.{LosesNothing, IsExact, DoomsAlike}
 use Rattle.section_repair.specs.declared.repaired.Repair.{Repair}
 use Rattle.section_repair.specs.declared.repaired.Repair.TheVariants as repair
-use Rattle.layout_json.specs.Doc.{Doc, table_at}
-use Rattle.layout_json.specs.Replaced.{replaced}
+use Rattle.document_json.specs.Doc.{Doc, table_at}
+use Rattle.document_json.specs.Replaced.{replaced}
 use Rattle.ats_run.specs.declared.failure.Failure.{Failure}
 use Rattle.ats_run.specs.declared.failure.Failure.TheVariants.{Spent, Rounds, Many, Connected}
 use Rattle.ats_run.specs.Certificates.{IsAcceptedText}

@@ -2,7 +2,7 @@
 use Rattle.std.specs.Prelude.{◌≡◌, ◌≢◌, ℕ, ◌+◌, List, [], Option, Result, Err, IfSome, IfErr, OnOk}
 use Rattle.ats_io.specs.Bytes.{Adds, AddsPrefix, ConsumesAtMost}
 use Rattle.ats_io.specs.Faults.{Rose}
-use Rattle.command_words.specs.declared.orders.Order.{Order}
+use Rattle.ats_words.specs.declared.orders.Order.{Order}
 use Rattle.ats_run.specs.declared.failure.Failure.{Failure}
 use Rattle.ats_run.specs.declared.failure.Failure.TheVariants.{WriteFault}
 use Rattle.ats_run.specs.Causes.{call_of, IsServed, IsCause, most_bytes}

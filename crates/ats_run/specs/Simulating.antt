@@ -6,7 +6,7 @@ use Rattle.rail_model.specs.Names.{Names}
 use Rattle.rail_model.specs.Yard.{Yard, opening}
 use Rattle.rail_model.specs.Journal.{IsWhole, words, with_counts}
 use Rattle.train_sim.specs.Report.{Simulates, IsSoon}
-use Rattle.layout_json.specs.Doc.{Doc, offers_of, names_of, times_of}
+use Rattle.document_json.specs.Doc.{Doc, offers_of, names_of, times_of}
 use Rattle.accepted_documents.specs.Accepting.{AreAccepted}
 use Rattle.ats_run.specs.Headline.{GoesOnWell}
 

@@ -3,7 +3,7 @@ use Rattle.std.specs.Prelude.{◌≡◌, ℕ, List}
 use Rattle.rail_model.specs.Table.{Table}
 use Rattle.legal_state.specs.Illegal.{IsIllegal}
 use Rattle.legal_state.specs.declared.judges.Illegal.{Illegal}
-use Rattle.layout_json.specs.declared.refused.DocRefused.TheVariants.{Start}
+use Rattle.document_json.specs.declared.refused.DocRefused.TheVariants.{Start}
 use Rattle.ats_run.specs.declared.failure.Failure.{Failure}
 use Rattle.ats_run.specs.declared.failure.Failure.TheVariants.{Document}
 

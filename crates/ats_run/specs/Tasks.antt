@@ -1,13 +1,13 @@
 -- What is left to do of an order once its document is checked: to print it, or to end its run and to print that.
 use Rattle.std.specs.Prelude.{◌≡◌, ℕ, List, [], length}
-use Rattle.command_words.specs.declared.orders.Order.{Order}
-use Rattle.command_words.specs.declared.orders.Order.TheVariants.{Run, Resume, Check, Simulate, Drill, Weave}
+use Rattle.ats_words.specs.declared.orders.Order.{Order}
+use Rattle.ats_words.specs.declared.orders.Order.TheVariants.{Run, Resume, Check, Simulate, Drill, Weave}
 use Rattle.rail_model.specs.Certificate.{Tree}
 use Rattle.rail_model.specs.Plain.{Plain}
 use Rattle.rail_model.specs.Journal.{text, with_counts}
 use Rattle.plain_yard.specs.Keeps.{Keeps}
 use Rattle.shared_run.specs.declared.crews.Crew.{Crew}
-use Rattle.layout_json.specs.Doc.{Doc, IsDoc, offers_of, names_of}
+use Rattle.document_json.specs.Doc.{Doc, IsDoc, offers_of, names_of}
 use Rattle.accepted_documents.specs.declared.accepting.Checked.{Checked}
 use Rattle.ats_run.specs.declared.tasks.Task.{Task}
 use Rattle.ats_run.specs.declared.tasks.Task.TheVariants.{Goes, Printed}

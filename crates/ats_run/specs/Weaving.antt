@@ -10,7 +10,7 @@ use Rattle.zone_machine.specs.Steps.{step_of}
 use Rattle.zone_machine.specs.Program.{next}
 use Rattle.zone_machine.specs.Weave.{first_world}
 use Rattle.document_generator.specs.Draws.{next_draw, drawn_of}
-use Rattle.layout_json.specs.Doc.{Doc, offers_of}
+use Rattle.document_json.specs.Doc.{Doc, offers_of}
 
 -- the core of a document, with room for at most this many entries
 abbrev pub core_of : Doc → ℕ → Setup

@@ -1,12 +1,12 @@
 // What an order comes to on the bytes of its input.
 ghost use Rattle.std.specs.Prelude.{◌≡◌, ◌≤◌, ◌⊎◌, Ok, Err, MatchResult, IfOk, IfErr, IfSome, IfNone, length};
-ghost use Rattle.command_words.specs.Subcommands.{HasItsNumbers};
+ghost use Rattle.ats_words.specs.Subcommands.{HasItsNumbers};
 ghost use Rattle.shared_run.specs.Crews.{IsCrew, crew_of as crew_with};
 ghost use Rattle.accepted_documents.specs.Accepting.{AreAccepted};
 ghost use Rattle.ats_run.specs.Command.{Comes};
 ghost use Rattle.ats_run.specs.Orders.{crew_in, IsAlone};
 ghost use Rattle.ats_run.specs.Tasks.{EndsWith, RunsTrains, TaskLeads, Prints, ReadsChecked, PrintsChecked};
-ghost use Rattle.layout_json.specs.Doc.{offers_of};
+ghost use Rattle.document_json.specs.Doc.{offers_of};
 ghost use Rattle.plain_yard.specs.Keeps.{Keeps};
 ghost use Rattle.ats_run.specs.declared.failure.Failure.TheVariants.{Memory as NoMemory};
 
@@ -28,7 +28,7 @@ use crate::verify::verify;
 use crate::weave::weave;
 use accepted_documents::Checked;
 use ats_io::Gate;
-use command_words::Order;
+use ats_words::Order;
 use rail_model::PlainState;
 use shared_run::Crew;
 use std::alloc::{AllocError, Global};

@@ -1,7 +1,7 @@
 // The check of a document's certificates.
 ghost use Rattle.std.specs.Prelude.{◌≡◌, ◌<◌, ◌≤◌, length, IfOk, IfErr, string_bytes};
 ghost use Rattle.rail_model.specs.Certificate.{preorder};
-ghost use Rattle.layout_json.specs.Trees.{tree_at};
+ghost use Rattle.document_json.specs.Trees.{tree_at};
 ghost use Rattle.accepted_documents.specs.Accepting.{AreAccepted};
 ghost use Rattle.ats_run.specs.Checking.{WritesChecked, nodes_below, checked_text};
 ghost use Rattle.ats_run.specs.declared.failure.Failure.TheVariants.{Memory as NoMemory};

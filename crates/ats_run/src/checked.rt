@@ -1,14 +1,14 @@
 // Documents that are read, and documents whose tables accept their certificates.
 ghost use Rattle.std.specs.Prelude.{◌≡◌, ◌⊎◌, Ok, IfOk, IfErr};
 ghost use Rattle.accepted_documents.specs.Accepting.{AreAccepted};
-ghost use Rattle.layout_json.specs.Doc.{offers_of};
-ghost use Rattle.layout_json.specs.Reading.{doc_of};
+ghost use Rattle.document_json.specs.Doc.{offers_of};
+ghost use Rattle.document_json.specs.Reading.{doc_of};
 ghost use Rattle.ats_run.specs.Command.{RefusesDocument, RefusesCheck};
 ghost use Rattle.ats_run.specs.declared.failure.Failure.TheVariants.{Memory as NoMemory};
 
 use crate::Failure;
 use accepted_documents::{Checked, check_document_par};
-use layout_json::{Doc, DocRefused, document};
+use document_json::{Doc, DocRefused, document};
 use std::alloc::Global;
 use std::thread::Threads;
 

@@ -2,7 +2,7 @@
 ghost use Rattle.std.specs.Prelude.{◌≡◌, ◌⊎◌, ◌<◌, ◌≤◌, ℕ, length, IfOk, IfErr, string_bytes};
 ghost use Rattle.document_generator.specs.Generated.{generated};
 ghost use Rattle.rail_model.specs.Move.{Live};
-ghost use Rattle.layout_json.specs.Doc.{IsDoc, offers_of, table_at};
+ghost use Rattle.document_json.specs.Doc.{IsDoc, offers_of, table_at};
 ghost use Rattle.ats_run.specs.Command.{RefusesMake, IsDrilledInput};
 ghost use Rattle.ats_run.specs.Generating.{drill_text, full_budget};
 ghost use Rattle.ats_run.specs.Making.{tables_in};
@@ -18,7 +18,7 @@ use crate::tasks::{Task, task_at_start};
 use accepted_documents::Checked;
 use cert_checker::Accepted;
 use cert_tree::Cert;
-use layout_json::{Doc, Frame, tables_apart};
+use document_json::{Doc, Frame, tables_apart};
 use move_journal::Journal;
 use rail_model::{PlainState, Table};
 use std::alloc::{AllocError, Global};

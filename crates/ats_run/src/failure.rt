@@ -6,7 +6,7 @@ ghost use Rattle.ats_run.specs.declared.failure.Failure.TheVariants.{Memory as N
 use crate::Status;
 use accepted_documents::{BadJournal, Unaccepted};
 use cert_tree::CertRefused;
-use layout_json::DocRefused;
+use document_json::DocRefused;
 use move_journal::{BadLine, BadText};
 use rail_model::{Bad, State};
 use std::alloc::{AllocError, AllocFailed};

@@ -1,6 +1,6 @@
 // How a run goes on from a state to its end: on one thread, or first by workers.
 ghost use Rattle.std.specs.Prelude.{◌≡◌, IfOk};
-ghost use Rattle.layout_json.specs.Doc.{offers_of};
+ghost use Rattle.document_json.specs.Doc.{offers_of};
 ghost use Rattle.plain_yard.specs.Keeps.{Keeps};
 ghost use Rattle.shared_run.specs.declared.crews.Crew.{Crew as CrewValue};
 ghost use Rattle.shared_run.specs.Crews.{IsCrew};
@@ -9,7 +9,7 @@ ghost use Rattle.ats_run.specs.Headline.{Ends};
 use crate::run::finish_from;
 use ats_io::Gate;
 use cert_checker::Accepted;
-use layout_json::Frame;
+use document_json::Frame;
 use rail_model::PlainState;
 use shared_run::{Crew, work};
 use std::alloc::{AllocError, Global};

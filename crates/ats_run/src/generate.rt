@@ -1,7 +1,7 @@
 // Documents that are generated of a seed.
 ghost use Rattle.std.specs.Prelude.{◌≡◌, ◌⊎◌, ◌≤◌, Ok, length, IfOk, IfErr};
 ghost use Rattle.document_generator.specs.Generated.{generated};
-ghost use Rattle.layout_json.specs.Reading.{doc_of};
+ghost use Rattle.document_json.specs.Reading.{doc_of};
 ghost use Rattle.accepted_documents.specs.Accepting.{IsDocWith};
 ghost use Rattle.ats_run.specs.Command.{RefusesDocument, RefusesMake};
 ghost use Rattle.ats_run.specs.Generating.{full_budget};
@@ -11,7 +11,7 @@ ghost use Rattle.ats_run.specs.declared.failure.Failure.TheVariants.{Memory as N
 use crate::Failure;
 use crate::make::text_with_certificates;
 use document_generator::generate_members;
-use layout_json::{Doc, DocRefused, document_from};
+use document_json::{Doc, DocRefused, document_from};
 use std::alloc::Global;
 
 /// How many nodes the certificate of a generated document may have.

@@ -3,10 +3,10 @@ ghost use Rattle.std.specs.Prelude.{◌≡◌, ◌⊎◌, ◌<◌, ◌≤◌, �
 ghost use Rattle.rail_model.specs.Certificate.{Tree, Accepts};
 ghost use Rattle.cert_maker.specs.Rule.{Makes};
 ghost use Rattle.cert_maker.specs.declared.made.Made.TheVariants.{Cert as cert};
-ghost use Rattle.layout_json.specs.Keeps.{IsTaken};
-ghost use Rattle.layout_json.specs.Reading.{doc_of};
-ghost use Rattle.layout_json.specs.Replaced.{replaced};
-ghost use Rattle.layout_json.specs.Written.{written};
+ghost use Rattle.document_json.specs.Keeps.{IsTaken};
+ghost use Rattle.document_json.specs.Reading.{doc_of};
+ghost use Rattle.document_json.specs.Replaced.{replaced};
+ghost use Rattle.document_json.specs.Written.{written};
 ghost use Rattle.accepted_documents.specs.Accepting.{IsDocWith};
 ghost use Rattle.ats_run.specs.Command.{RefusesMake};
 ghost use Rattle.ats_run.specs.Making.{tables_in, AreMade, HaveMade, IsMade, FailsToMake, MakesNone};
@@ -16,7 +16,7 @@ use crate::Failure;
 use crate::checked::read_document;
 use cert_maker::{Made, make as make_certificate};
 use cert_tree::Cert;
-use layout_json::{Doc, Frame, table_of, tables_of, write_certified, write_replaced};
+use document_json::{Doc, Frame, table_of, tables_of, write_certified, write_replaced};
 use rail_model::Table;
 use std::alloc::Global;
 

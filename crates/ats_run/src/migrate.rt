@@ -7,7 +7,7 @@ ghost use Rattle.ats_run.specs.declared.failure.Failure.TheVariants.{Memory as N
 
 use crate::Failure;
 use crate::checked::read_document;
-use layout_json::write_migrated;
+use document_json::write_migrated;
 use std::alloc::Global;
 
 /// The text of a document of version 1 as one of version 2, and of any other as it is read.

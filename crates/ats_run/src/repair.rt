@@ -1,7 +1,7 @@
 // Sections that are made by repairs.
 ghost use Rattle.std.specs.Prelude.{◌≡◌, ◌⊎◌, ◌+◌, ◌<◌, ◌≤◌, ℕ, length, IfOk, IfErr, OnOk};
-ghost use Rattle.layout_json.specs.Doc.{IsDoc, table_at};
-ghost use Rattle.layout_json.specs.Keeps.{IsTaken};
+ghost use Rattle.document_json.specs.Doc.{IsDoc, table_at};
+ghost use Rattle.document_json.specs.Keeps.{IsTaken};
 ghost use Rattle.section_repair.specs.Claims.{DoomsAlike};
 ghost use Rattle.section_repair.specs.declared.repaired.Repair.TheVariants.{Done};
 ghost use Rattle.accepted_documents.specs.Accepting.{IsDocWith};
@@ -15,7 +15,7 @@ use crate::checked::read_document;
 use crate::make::text_of_parts;
 use crate::starting::check_start;
 use cert_tree::Cert;
-use layout_json::{Doc, Frame, table_of, tables_apart, tables_of};
+use document_json::{Doc, Frame, table_of, tables_apart, tables_of};
 use rail_model::{Layout, Table, connections_of};
 use section_repair::{Repair, repair as repair_missions};
 use std::alloc::Global;

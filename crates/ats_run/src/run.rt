@@ -1,6 +1,6 @@
 // The run of a document from its start, as text.
 ghost use Rattle.std.specs.Prelude.{◌≡◌, ◌⊎◌, ◌-◌, IfOk, IfErr};
-ghost use Rattle.layout_json.specs.Doc.{offers_of, names_of};
+ghost use Rattle.document_json.specs.Doc.{offers_of, names_of};
 ghost use Rattle.rail_model.specs.Table.{trains};
 ghost use Rattle.rail_model.specs.Yard.{offer};
 ghost use Rattle.rail_model.specs.Journal.{IsDone, text as text_of, with_counts};
@@ -14,7 +14,7 @@ use crate::Failure;
 use crate::checked::check_document;
 use crate::tasks::{Task, task_at_start};
 use cert_checker::Accepted;
-use layout_json::Frame;
+use document_json::Frame;
 use move_journal::{Journal, text};
 use plain_yard::PlainYard;
 use rail_model::PlainState;

@@ -5,7 +5,7 @@ ghost use Rattle.rail_model.specs.Yard.{opening};
 ghost use Rattle.plain_yard.specs.Keeps.{Keeps};
 ghost use Rattle.move_journal.specs.Printable.{IsNamed};
 ghost use Rattle.train_sim.specs.Report.{Simulates, IsSoon};
-ghost use Rattle.layout_json.specs.Doc.{IsDoc, offers_of, times_of, names_of};
+ghost use Rattle.document_json.specs.Doc.{IsDoc, offers_of, times_of, names_of};
 ghost use Rattle.accepted_documents.specs.Accepting.{AreAccepted};
 ghost use Rattle.ats_run.specs.Simulating.{IsSimulated, timed_text, last_text};
 ghost use Rattle.ats_run.specs.declared.failure.Failure.TheVariants.{Memory as NoMemory};
@@ -13,7 +13,7 @@ ghost use Rattle.ats_run.specs.declared.failure.Failure.TheVariants.{Memory as N
 use crate::Failure;
 use accepted_documents::Checked;
 use cert_checker::Accepted;
-use layout_json::Frame;
+use document_json::Frame;
 use move_journal::{Journal, push_line};
 use plain_yard::{PlainYard, begin};
 use rail_model::{Line, Names};

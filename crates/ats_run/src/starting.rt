@@ -4,7 +4,7 @@ ghost use Rattle.rail_model.specs.State.{Legal};
 ghost use Rattle.ats_run.specs.Starting.{IsBadStart};
 
 use crate::Failure;
-use layout_json::DocRefused;
+use document_json::DocRefused;
 use legal_state::judge;
 use rail_model::{State, Table};
 

@@ -1,6 +1,6 @@
 // What is left to do of an order that runs trains, once its document is checked.
 ghost use Rattle.std.specs.Prelude.{◌≡◌, IfOk};
-ghost use Rattle.layout_json.specs.Doc.{IsDoc};
+ghost use Rattle.document_json.specs.Doc.{IsDoc};
 ghost use Rattle.ats_run.specs.Tasks.{IsAtStart};
 
 use accepted_documents::Checked;

@@ -1,6 +1,6 @@
 // The check of a journal.
 ghost use Rattle.std.specs.Prelude.{◌≡◌, ◌⊎◌, IfOk, IfErr, string_bytes};
-ghost use Rattle.layout_json.specs.Doc.{IsDoc, offers_of};
+ghost use Rattle.document_json.specs.Doc.{IsDoc, offers_of};
 ghost use Rattle.accepted_documents.specs.Accepting.{AreAccepted};
 ghost use Rattle.ats_run.specs.Journals.{IsUnverified, IsVerified, verified_text};
 ghost use Rattle.ats_run.specs.Command.{IsVerifiedInput, RefusesVerify};

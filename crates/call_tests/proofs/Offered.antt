@@ -3,8 +3,8 @@ use Rattle.std.proofs.Common.{◌≡◌, ℕ, ◌<◌, List, length, sym, subst}
 use Rattle.rail_model.specs.Layout.{Layout}
 use Rattle.rail_model.specs.Ways.{IsOn}
 use Rattle.rail_model.specs.Yard.{Offer, offer}
-use Rattle.layout_json.specs.Doc.{Doc, IsDoc, offers_of}
-use Rattle.layout_json.proofs.Offered.{on_layout}
+use Rattle.document_json.specs.Doc.{Doc, IsDoc, offers_of}
+use Rattle.document_json.proofs.Offered.{on_layout}
 
 -- where layout and tables are the document's, the points of the tables are the layout's
 pub on_given : (D : Doc) (L : Layout) (tables : List Offer) → IsDoc D → L ≡ D.layout → tables ≡ offers_of D

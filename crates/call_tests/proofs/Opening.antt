@@ -5,8 +5,8 @@ use Rattle.rail_model.specs.Plain.{Plain}
 use Rattle.rail_model.specs.Yard.{Offer, opening}
 use Rattle.plain_yard.specs.Keeps.{Keeps}
 use Rattle.plain_yard.proofs.Keeping.{keeps_begun}
-use Rattle.layout_json.specs.Doc.{Doc, IsDoc, offers_of}
-use Rattle.layout_json.proofs.Offered.{legal_start}
+use Rattle.document_json.specs.Doc.{Doc, IsDoc, offers_of}
+use Rattle.document_json.proofs.Offered.{legal_start}
 
 pub begins_well : (D : Doc) (tables : List Offer) (start : List ℕ) (begun : Plain) → IsDoc D → start ≡ D.start → tables ≡ offers_of D
     → begun ≡ record { yard = opening start; lines = [] } → Keeps (map (λ (o : Offer). o) tables) begun.yard begun.lines

@@ -1,12 +1,12 @@
 // Orders without workers are served by a call that waits for nobody: its runtime needs no way to wait.
-ghost use Rattle.command_words.specs.Subcommands.{HasItsNumbers};
+ghost use Rattle.ats_words.specs.Subcommands.{HasItsNumbers};
 ghost use Rattle.ats_run.specs.Orders.{IsAlone};
 
 use crate::devices::first_path_journal;
 use crate::examples::documents::document_called;
 use ats_io::{SureSink, SureSource};
 use ats_run::serve_alone;
-use command_words::Order;
+use ats_words::Order;
 use std::alloc::Global;
 use std::thread::Threads;
 

@@ -1,12 +1,12 @@
 // Certificates of worked examples, and one of so many nodes that threads check its parts.
 ghost use Rattle.std.specs.Prelude.{◌≡◌, IfSome};
-ghost use Rattle.layout_json.specs.Doc.{offers_of};
+ghost use Rattle.document_json.specs.Doc.{offers_of};
 
 use crate::examples::documents::document_called;
 use accepted_documents::{Checked, check_document};
 use cert_checker::{CheckFault, accept, check, check_par};
 use cert_tree::{Cert, CertRefused, count, preorder, tree};
-use layout_json::{Doc, document, nodes_of, table_of, tables_of};
+use document_json::{Doc, document, nodes_of, table_of, tables_of};
 use rail_model::{Bad, Node, Table, copy_table, trains_of};
 use std::alloc::{AllocError, Global};
 use std::thread::Threads;

@@ -1,6 +1,6 @@
 // The words of command lines, one space between two words, and the orders that they ask for.
 use crate::examples::line;
-use command_words::{Order, WordsRefused, words};
+use ats_words::{Order, WordsRefused, words};
 use std::alloc::{AllocError, Global};
 
 // A command line, and its order with three numbers, or that it is refused. The first that is refused has no word.

@@ -1,11 +1,11 @@
 // Scenes, and what each comes to.
 ghost use Rattle.std.specs.Prelude.{◌≡◌};
-ghost use Rattle.layout_json.specs.Doc.{offers_of};
+ghost use Rattle.document_json.specs.Doc.{offers_of};
 
 use crate::certificates::checked;
 use crate::stages::{Stage, finished, play};
 use cert_checker::Accepted;
-use layout_json::Frame;
+use document_json::Frame;
 use rail_model::PlainState;
 use std::alloc::Global;
 use std::sync::Wait;

@@ -3,12 +3,12 @@ ghost use Rattle.std.specs.Prelude.{◌≡◌, IfSome};
 ghost use Rattle.rail_model.specs.Table.{trains as trains_of};
 ghost use Rattle.rail_model.specs.Yard.{offer};
 ghost use Rattle.plain_yard.specs.Keeps.{Keeps};
-ghost use Rattle.layout_json.specs.Doc.{offers_of};
+ghost use Rattle.document_json.specs.Doc.{offers_of};
 
 use crate::players::{board_all, leave_all, perform_all};
 use crate::scenes::Scene;
 use cert_checker::Accepted;
-use layout_json::Frame;
+use document_json::Frame;
 use move_journal::{Journal, replay};
 use plain_yard::PlainYard;
 use rail_model::{Line, PlainState, trains_of as count_trains};

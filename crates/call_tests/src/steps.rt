@@ -1,10 +1,10 @@
 // Steps of a core that aren't allowed, each with the first cause.
 ghost use Rattle.std.specs.Prelude.{◌≡◌};
-ghost use Rattle.layout_json.specs.Doc.{offers_of};
+ghost use Rattle.document_json.specs.Doc.{offers_of};
 
 use crate::certificates::checked;
 use cert_checker::Accepted;
-use layout_json::Frame;
+use document_json::Frame;
 use move_claim::Cell;
 use std::alloc::Global;
 use zone_machine::{Core, Step};

@@ -1,10 +1,10 @@
 // A yard that is asked question by question.
 ghost use Rattle.std.specs.Prelude.{◌≡◌};
-ghost use Rattle.layout_json.specs.Doc.{offers_of};
+ghost use Rattle.document_json.specs.Doc.{offers_of};
 
 use crate::certificates::checked;
 use cert_checker::Accepted;
-use layout_json::Frame;
+use document_json::Frame;
 use plain_yard::{PlainYard, begin};
 use rail_model::{Ask, Tried, trains_of};
 use std::alloc::Global;

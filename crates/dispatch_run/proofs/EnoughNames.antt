@@ -2,8 +2,8 @@
 use Rattle.std.proofs.Common.{◌≡◌, ◌<◌, Some, sym, ap, subst, arith}
 use Rattle.std.proofs.lemmas.List.{length-map}
 use Rattle.rail_model.specs.Table.{Table, point, trains}
-use Rattle.layout_json.specs.Doc.{Doc, IsDoc, names_of, offers_of}
-use Rattle.layout_json.proofs.Offered.{offer_count, table_offered}
+use Rattle.document_json.specs.Doc.{Doc, IsDoc, names_of, offers_of}
+use Rattle.document_json.proofs.Offered.{offer_count, table_offered}
 use Rattle.move_journal.specs.Printable.{AreEnough}
 
 pub enough : (D : Doc) → IsDoc D → AreEnough (names_of D) (offers_of D)

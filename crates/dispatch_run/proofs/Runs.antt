@@ -8,7 +8,7 @@ use Rattle.rail_model.specs.Names.{Names}
 use Rattle.rail_model.specs.Yard.{Offer, Yard, opening}
 use Rattle.plain_yard.proofs.Keeping.{right_append}
 use Rattle.plain_yard.proofs.Reaching.{after_append}
-use Rattle.layout_json.specs.Doc.{names_of, offers_of}
+use Rattle.document_json.specs.Doc.{names_of, offers_of}
 use Rattle.live_lines.proofs.Telling.{others_then, then_others}
 use Rattle.live_lines.specs.Kinds.{IsTag, TellsLines}
 use Rattle.live_session.proofs.Ending.{last_line}

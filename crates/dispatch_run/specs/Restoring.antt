@@ -2,7 +2,7 @@
 use Rattle.std.specs.Prelude.{◌≡◌, ℕ, List, [], Bool, length, replicate}
 use Rattle.rail_model.specs.Plain.{Plain}
 use Rattle.rail_model.specs.Yard.{Offer}
-use Rattle.layout_json.specs.Doc.{Doc, names_of, offers_of}
+use Rattle.document_json.specs.Doc.{Doc, names_of, offers_of}
 use Rattle.live_session.specs.States.{SessionState}
 use Rattle.live_yard.specs.Firing.{DispatchState}
 use Rattle.live_yard.specs.Reported.{BeginsAt}

@@ -3,7 +3,7 @@ use Rattle.std.specs.Prelude.{◌≡◌, ◌⊎◌, ℕ, List, ◌++◌, length,
 use Rattle.rail_model.specs.declared.types.Line.{Line}
 use Rattle.rail_model.specs.Journal.{IsDone, IsRight, IsWhole, after_lines, with_counts}
 use Rattle.rail_model.specs.Yard.{Offer, opening}
-use Rattle.layout_json.specs.Doc.{names_of, offers_of}
+use Rattle.document_json.specs.Doc.{names_of, offers_of}
 use Rattle.live_header.specs.declared.opening.Opened.{Opened}
 use Rattle.live_header.specs.Opening.{IsOpened}
 use Rattle.live_lines.specs.Kinds.{TellsLines}

@@ -1,12 +1,12 @@
 // A session at the state that a journal leads to.
 ghost use Rattle.std.specs.Prelude.{◌≡◌, IfOk};
-ghost use Rattle.layout_json.specs.Doc.{offers_of};
+ghost use Rattle.document_json.specs.Doc.{offers_of};
 ghost use Rattle.live_session.specs.Answering.{IsOpening};
 ghost use Rattle.plain_yard.specs.Keeps.{Keeps};
 ghost use Rattle.dispatch_run.specs.Restoring.{HasBegun, IsRestored};
 
 use cert_checker::Accepted;
-use layout_json::Frame;
+use document_json::Frame;
 use live_session::Session;
 use live_yard::{LiveYard, ReportedYard};
 use plain_yard::PlainYard;

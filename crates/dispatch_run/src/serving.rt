@@ -3,7 +3,7 @@ ghost use Rattle.std.specs.Prelude.{◌≡◌, ◌⊎◌, ◌++◌, ℕ, List, I
 ghost use Rattle.std.specs.Io.KnownBytes.{Consumes};
 ghost use Rattle.ats_io.specs.Bytes.{Adds};
 ghost use Rattle.ats_io.specs.Faults.{Rose};
-ghost use Rattle.layout_json.specs.Doc.{offers_of};
+ghost use Rattle.document_json.specs.Doc.{offers_of};
 ghost use Rattle.line_service.specs.Answered.{IsEndless};
 ghost use Rattle.plain_yard.specs.Keeps.{Keeps};
 ghost use Rattle.dispatch_run.specs.Dispatching.{BreaksOffServing, BreaksOffTalking, IsServed, IsTalk};

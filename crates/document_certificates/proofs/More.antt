@@ -5,8 +5,8 @@ use Rattle.std.proofs.lemmas.List.{get_or_append_left, length-append}
 use Rattle.std.proofs.Math.Seq.{get_or-append_seam}
 use Rattle.rail_model.specs.Certificate.{Tree}
 use Rattle.rail_model.specs.Move.{Stuck as IsStuck}
-use Rattle.layout_json.specs.Doc.{Doc, table_at}
-use Rattle.layout_json.specs.Trees.{tree_at}
+use Rattle.document_json.specs.Doc.{Doc, table_at}
+use Rattle.document_json.specs.Trees.{tree_at}
 use Rattle.document_certificates.specs.declared.uncertified.Uncertified.{Uncertified}
 use Rattle.document_certificates.specs.declared.uncertified.Uncertified.TheVariants.{Memory, Stuck, GaveUp}
 use Rattle.document_certificates.specs.Certified.{AcceptsWithin, FailsFor, HasNone}

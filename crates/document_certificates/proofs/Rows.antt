@@ -1,7 +1,7 @@
 -- Worked rows: what may be said of a document without tables.
 use Rattle.std.proofs.Common.{[], ◌∷◌, refl, arith}
 use Rattle.rail_model.specs.Certificate.{arrived}
-use Rattle.layout_json.specs.Doc.{Doc}
+use Rattle.document_json.specs.Doc.{Doc}
 use Rattle.document_certificates.specs.Certified.{AcceptEach, HasNone}
 use Rattle.document_certificates.specs.declared.uncertified.Uncertified.TheVariants.{Memory, GaveUp}
 

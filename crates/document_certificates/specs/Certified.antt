@@ -3,11 +3,11 @@ use Rattle.std.specs.Prelude.{◌≡◌, ℕ, ◌<◌, ◌≤◌, List, length, 
 use Rattle.rail_model.specs.Certificate.{Tree, Accepts, preorder}
 use Rattle.rail_model.specs.Move.{Stuck as IsStuck}
 use Rattle.rail_model.specs.Table.{Table}
-use Rattle.layout_json.specs.Doc.{Doc, table_at}
-use Rattle.layout_json.specs.Reading.{doc_of}
-use Rattle.layout_json.specs.Replaced.{certified}
-use Rattle.layout_json.specs.Trees.{tree_at}
-use Rattle.layout_json.specs.Written.{written}
+use Rattle.document_json.specs.Doc.{Doc, table_at}
+use Rattle.document_json.specs.Reading.{doc_of}
+use Rattle.document_json.specs.Replaced.{certified}
+use Rattle.document_json.specs.Trees.{tree_at}
+use Rattle.document_json.specs.Written.{written}
 use Rattle.document_certificates.specs.declared.uncertified.Uncertified.{Uncertified}
 use Rattle.document_certificates.specs.declared.uncertified.Uncertified.TheVariants.{Memory, Stuck, GaveUp}
 

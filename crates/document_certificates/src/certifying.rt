@@ -5,7 +5,7 @@ ghost use Rattle.document_certificates.specs.Certified.{AcceptEach, AcceptsWithi
 use crate::Uncertified;
 use cert_search::{Effort, Found, Report, Watcher, find};
 use cert_tree::Cert;
-use layout_json::{Doc, table_of, tables_of, write_certified};
+use document_json::{Doc, table_of, tables_of, write_certified};
 use rail_model::Table;
 use std::alloc::Global;
 

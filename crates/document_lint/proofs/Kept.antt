@@ -4,10 +4,10 @@ use Rattle.std.specs.Prelude.{Result, Ok, Err, IfOk, IfErr}
 use Rattle.std.proofs.Math.Logic.{⊎_map}
 use Rattle.std.proofs.lemmas.Bool.{cases_lt}
 use Rattle.rail_model.specs.Turns.{AnswersAs}
-use Rattle.layout_json.specs.Doc.{Doc}
-use Rattle.layout_json.specs.Reading.{doc_of}
-use Rattle.layout_json.specs.declared.refused.DocRefused.{DocRefused}
-use Rattle.layout_json.specs.declared.refused.DocRefused.TheVariants.{Memory}
+use Rattle.document_json.specs.Doc.{Doc}
+use Rattle.document_json.specs.Reading.{doc_of}
+use Rattle.document_json.specs.declared.refused.DocRefused.{DocRefused}
+use Rattle.document_json.specs.declared.refused.DocRefused.TheVariants.{Memory}
 use Rattle.document_lint.specs.Told.{KeepsFormer, KeepsSections, LosesNoSection}
 
 -- a fact of all below a number and of the number is one of all below the next, unless something is told

@@ -1,7 +1,7 @@
 -- Small cases of what is said only where it is so.
 use Rattle.std.proofs.Common.{pos, [], ◌∷◌, true, false, refl, zero, suc, arith, inl, inr, lit<, lit≤}
 use Rattle.rail_model.specs.Table.{Table, Section}
-use Rattle.layout_json.specs.Doc.{Doc}
+use Rattle.document_json.specs.Doc.{Doc}
 use Rattle.document_lint.specs.Told.{IsAsEarlier, KeepsForGood, StartsFrom, StartsPast, HoldsNobody, IsKeptSection, IsNeverDue}
 
 -- a section of one train that is in it at its second place

@@ -1,7 +1,7 @@
 -- When something is said of a document.
 use Rattle.std.specs.Prelude.{◌≡◌, ◌≢◌, ◌⊎◌, ◌<◌, ◌≤◌, ℕ, pos, List, true, length, None, Ok, Contains}
-use Rattle.layout_json.specs.Doc.{Doc, doc_table, table_at}
-use Rattle.layout_json.specs.Reading.{doc_of}
+use Rattle.document_json.specs.Doc.{Doc, doc_table, table_at}
+use Rattle.document_json.specs.Reading.{doc_of}
 use Rattle.rail_model.specs.Table.{Table, Connection, last, place, section, share}
 use Rattle.rail_model.specs.State.{remaining}
 use Rattle.document_lint.specs.Sections.{EndTogether, end}

@@ -1,12 +1,12 @@
 // Tables that are due after more moves than are ever made.
 ghost use Rattle.std.specs.Prelude.{ℕ, ◌<◌, ◌≤◌, length};
 ghost use Rattle.rail_model.specs.State.{remaining as moves_left};
-ghost use Rattle.layout_json.specs.Doc.{table_at};
+ghost use Rattle.document_json.specs.Doc.{table_at};
 ghost use Rattle.document_lint.specs.Told.{IsNeverDue, SaysOnlyWhere};
 
 use crate::place::Object;
 use crate::remark::Remarks;
-use layout_json::{Doc, after_of, start_of, table_of, tables_of};
+use document_json::{Doc, after_of, start_of, table_of, tables_of};
 use legal_state::remaining;
 
 // The most moves that are made before all trains have arrived under a table before this one.

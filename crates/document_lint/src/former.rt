@@ -7,7 +7,7 @@ use crate::exact::most;
 use crate::remark::Remarks;
 use crate::same::has_section;
 use crate::subject::{Subject, subject_of};
-use layout_json::{Doc, table_of, tables_of};
+use document_json::{Doc, table_of, tables_of};
 use rail_model::{last_of, limit_of, sections_of, share_at, trains_of};
 
 // Adds where a train has a share of a section, with the share if it isn't 1.

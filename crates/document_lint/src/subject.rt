@@ -1,10 +1,10 @@
 // A table of a document, and what its trains and points are called.
 ghost use Rattle.std.specs.Prelude.{◌≡◌, ◌<◌, length};
 ghost use Rattle.rail_model.specs.Table.{trains};
-ghost use Rattle.layout_json.specs.Doc.{table_at};
+ghost use Rattle.document_json.specs.Doc.{table_at};
 
 use crate::place::{Object, Place};
-use layout_json::{Doc, layout_of, names_of, table_of};
+use document_json::{Doc, layout_of, names_of, table_of};
 use rail_model::{Layout, Names, Table, point_of};
 
 /// A table of a document by its number, with the names of the trains and of the points.

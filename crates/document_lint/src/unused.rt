@@ -2,7 +2,7 @@
 use crate::place::Object;
 use crate::remark::Remarks;
 use crate::subject::point_name;
-use layout_json::{Doc, layout_of, table_of, tables_of};
+use document_json::{Doc, layout_of, table_of, tables_of};
 use rail_model::{Layout, Link, points_of, zone_of, zones_of};
 
 // This many unused links are named.

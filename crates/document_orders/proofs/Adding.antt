@@ -6,14 +6,14 @@ use Rattle.rail_model.specs.Certificate.{Tree, arrived}
 use Rattle.rail_model.specs.State.{Legal}
 use Rattle.rail_model.specs.Table.{Table, Section, IsTable, trains}
 use Rattle.rail_model.specs.Yard.{Offer, offer}
-use Rattle.layout_json.specs.Doc.{Doc, DocTable, IsDoc, nodes_at, offers_of, table_at as doc_table_at}
-use Rattle.layout_json.specs.Keeps.{IsTaken}
-use Rattle.layout_json.specs.Migrated.{IsMigrated}
-use Rattle.layout_json.specs.Reading.{doc_of}
-use Rattle.layout_json.specs.Replaced.{each_with, exchanged, new_table, replaced}
-use Rattle.layout_json.specs.Written.{written}
-use Rattle.layout_json.proofs.FormedDoc.{no_table}
-use Rattle.layout_json.proofs.Remade.{length-each_with, each_with-at}
+use Rattle.document_json.specs.Doc.{Doc, DocTable, IsDoc, nodes_at, offers_of, table_at as doc_table_at}
+use Rattle.document_json.specs.Keeps.{IsTaken}
+use Rattle.document_json.specs.Migrated.{IsMigrated}
+use Rattle.document_json.specs.Reading.{doc_of}
+use Rattle.document_json.specs.Replaced.{each_with, exchanged, new_table, replaced}
+use Rattle.document_json.specs.Written.{written}
+use Rattle.document_json.proofs.FormedDoc.{no_table}
+use Rattle.document_json.proofs.Remade.{length-each_with, each_with-at}
 use Rattle.reached_states.specs.Reached.{offered}
 use Rattle.order_sections.specs.Found.{HaveSameTrains}
 use Rattle.order_sections.specs.Grids.{table_at}

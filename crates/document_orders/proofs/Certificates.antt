@@ -11,7 +11,7 @@ use Rattle.cert_tree.specs.declared.reading.CertRefused.{CertRefused}
 use Rattle.cert_tree.specs.Refused.{IsRefused}
 use Rattle.cert_tree.specs.Spelling.{tree_of, tree_of-preorder}
 use Rattle.cert_tree.proofs.Verdicts.{refused_not_spelled}
-use Rattle.layout_json.specs.Doc.{Doc, nodes_at}
+use Rattle.document_json.specs.Doc.{Doc, nodes_at}
 use Rattle.order_sections.specs.Grids.{table_at}
 use Rattle.document_orders.specs.Ordered.{KeepsTree, new_tree}
 

@@ -5,9 +5,9 @@ use Rattle.rail_model.specs.Certificate.{Tree}
 use Rattle.rail_model.specs.State.{Legal}
 use Rattle.rail_model.specs.Table.{Table, IsTable}
 use Rattle.rail_model.specs.Yard.{Offer, offer}
-use Rattle.layout_json.specs.Doc.{Doc, DocTable, IsDoc, offers_of}
-use Rattle.layout_json.specs.Replaced.{each_with, exchanged, new_table}
-use Rattle.layout_json.proofs.FormedDoc.{no_table}
+use Rattle.document_json.specs.Doc.{Doc, DocTable, IsDoc, offers_of}
+use Rattle.document_json.specs.Replaced.{each_with, exchanged, new_table}
+use Rattle.document_json.proofs.FormedDoc.{no_table}
 use Rattle.order_sections.specs.Grids.{table_at}
 use Rattle.reached_states.specs.Reached.{AreOffered, offered}
 

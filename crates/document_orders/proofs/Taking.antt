@@ -6,19 +6,19 @@ use Rattle.rail_model.specs.State.{Legal}
 use Rattle.rail_model.specs.Table.{Table, Section, IsTable}
 use Rattle.section_marks.specs.Keeping.{KeepsTo}
 use Rattle.section_marks.specs.declared.marks.Marks.TheVariants.{One, Four}
-use Rattle.layout_json.specs.Doc.{Doc, doc_table, table_at}
-use Rattle.layout_json.specs.Keeps.{IsTaken}
-use Rattle.layout_json.specs.Members.{members_in}
-use Rattle.layout_json.specs.Migrated.{later_version}
-use Rattle.layout_json.specs.Replaced.{each_with, exchanged, new_table, replaced}
-use Rattle.layout_json.specs.Start.{start_refusal}
-use Rattle.layout_json.specs.Tables.{marks_of, times_refusal}
-use Rattle.layout_json.proofs.FormedDoc.{IsMade, again, few, from, no_table}
-use Rattle.layout_json.proofs.NamedLemmas.{of-version}
-use Rattle.layout_json.proofs.StartLemmas.{illegality-none, start-none}
-use Rattle.layout_json.proofs.Taken.{makes}
-use Rattle.layout_json.proofs.Marked.{sections-kept, connections-kept}
-use Rattle.layout_json.proofs.Remade.{length-each_with, each_with-at}
+use Rattle.document_json.specs.Doc.{Doc, doc_table, table_at}
+use Rattle.document_json.specs.Keeps.{IsTaken}
+use Rattle.document_json.specs.Members.{members_in}
+use Rattle.document_json.specs.Migrated.{later_version}
+use Rattle.document_json.specs.Replaced.{each_with, exchanged, new_table, replaced}
+use Rattle.document_json.specs.Start.{start_refusal}
+use Rattle.document_json.specs.Tables.{marks_of, times_refusal}
+use Rattle.document_json.proofs.FormedDoc.{IsMade, again, few, from, no_table}
+use Rattle.document_json.proofs.NamedLemmas.{of-version}
+use Rattle.document_json.proofs.StartLemmas.{illegality-none, start-none}
+use Rattle.document_json.proofs.Taken.{makes}
+use Rattle.document_json.proofs.Marked.{sections-kept, connections-kept}
+use Rattle.document_json.proofs.Remade.{length-each_with, each_with-at}
 use Rattle.order_sections.specs.Orders.{with_more}
 
 -- a later version isn't the first

@@ -4,11 +4,11 @@ use Rattle.rail_model.specs.declared.types.Node.{Node}
 use Rattle.rail_model.specs.Certificate.{Tree, arrived, preorder}
 use Rattle.rail_model.specs.Table.{Table}
 use Rattle.cert_tree.specs.Spelling.{most_nodes}
-use Rattle.layout_json.specs.Doc.{Doc, nodes_at, offers_of}
-use Rattle.layout_json.specs.Migrated.{IsMigrated}
-use Rattle.layout_json.specs.Reading.{doc_of}
-use Rattle.layout_json.specs.Replaced.{replaced}
-use Rattle.layout_json.specs.Written.{written}
+use Rattle.document_json.specs.Doc.{Doc, nodes_at, offers_of}
+use Rattle.document_json.specs.Migrated.{IsMigrated}
+use Rattle.document_json.specs.Reading.{doc_of}
+use Rattle.document_json.specs.Replaced.{replaced}
+use Rattle.document_json.specs.Written.{written}
 use Rattle.order_sections.specs.Orders.{SameOffers}
 
 -- the certificate that comes with a number

@@ -1,10 +1,10 @@
 // Certificates that stay.
 ghost use Rattle.std.specs.Prelude.{◌≡◌, ◌<◌, ℕ, IfOk, length, map};
-ghost use Rattle.layout_json.specs.Doc.{nodes_at};
+ghost use Rattle.document_json.specs.Doc.{nodes_at};
 ghost use Rattle.document_orders.specs.Ordered.{KeepsTree, new_tree};
 
 use cert_tree::{Cert, tree};
-use layout_json::{Doc, nodes_of, tables_of};
+use document_json::{Doc, nodes_of, tables_of};
 use rail_model::{Node, Table, copy_table};
 use std::alloc::{AllocError, Global};
 

@@ -4,7 +4,7 @@ ghost use Rattle.document_orders.specs.Ordered.{IsOrdered};
 
 use crate::NotOrdered;
 use crate::keeping::with_certs;
-use layout_json::{Doc, migrate, tables_apart, version, write_replaced};
+use document_json::{Doc, migrate, tables_apart, version, write_replaced};
 use order_sections::{Chain, Order, Ordered, Two, order};
 use rail_model::{Table, sections_of};
 use std::alloc::Global;

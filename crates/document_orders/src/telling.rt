@@ -1,6 +1,6 @@
 // What is told of the orders of a document: a line for each section, and for each order that was left out.
 use crate::OrderedDoc;
-use layout_json::{Doc, layout_of, names_of, table_of, tables_of};
+use document_json::{Doc, layout_of, names_of, table_of, tables_of};
 use order_sections::{Chain, Order, Step, Two};
 use rail_model::{Layout, Names, Table, point_of, sections_of, trains_of};
 use std::alloc::{AllocError, Global};

@@ -4,8 +4,8 @@ use Rattle.std.specs.Prelude.{All, slice_index_or}
 use Rattle.std.proofs.lemmas.Bool.{cases_lt}
 use Rattle.std.proofs.lemmas.List.{length-map, get_or_default}
 use Rattle.forbidden_states.specs.Forbid.{Stay, AreStays}
-use Rattle.layout_json.specs.Doc.{Doc, IsDoc, names_of, table_at}
-use Rattle.layout_json.proofs.Offered.{offer_count}
+use Rattle.document_json.specs.Doc.{Doc, IsDoc, names_of, table_at}
+use Rattle.document_json.proofs.Offered.{offer_count}
 use Rattle.rail_model.specs.Table.{Table, trains}
 use Rattle.section_protect.specs.Protects.{IsGuarded}
 use Rattle.section_protect.proofs.Lossless.{guards_stay}

@@ -12,11 +12,11 @@ use Rattle.legal_state.specs.declared.judges.Illegal.{Illegal}
 use Rattle.rail_model.specs.Certificate.{Tree, arrived}
 use Rattle.rail_model.specs.State.{Legal}
 use Rattle.rail_model.specs.Table.{Table, IsTable}
-use Rattle.layout_json.specs.Doc.{Doc, DocTable, IsDoc, table_at}
-use Rattle.layout_json.specs.Keeps.{IsTaken}
-use Rattle.layout_json.specs.Migrated.{IsMigrated}
-use Rattle.layout_json.specs.Replaced.{new_table, replaced}
-use Rattle.layout_json.proofs.FormedDoc.{no_table}
+use Rattle.document_json.specs.Doc.{Doc, DocTable, IsDoc, table_at}
+use Rattle.document_json.specs.Keeps.{IsTaken}
+use Rattle.document_json.specs.Migrated.{IsMigrated}
+use Rattle.document_json.specs.Replaced.{new_table, replaced}
+use Rattle.document_json.proofs.FormedDoc.{no_table}
 use Rattle.section_protect.proofs.Lossless.{guards_stay}
 use Rattle.section_protect.specs.Protects.{IsGuarded}
 use Rattle.state_core.proofs.Tables.{is_guarded_table}

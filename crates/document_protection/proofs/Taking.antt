@@ -7,20 +7,20 @@ use Rattle.rail_model.specs.Yard.{Offer}
 use Rattle.rail_model.specs.Table.{Table, Section, IsTable}
 use Rattle.section_marks.specs.Keeping.{KeepsTo}
 use Rattle.section_marks.specs.declared.marks.Marks.TheVariants.{One, Four}
-use Rattle.layout_json.specs.Doc.{Doc, DocTable, doc_table, table_at}
+use Rattle.document_json.specs.Doc.{Doc, DocTable, doc_table, table_at}
 use Rattle.document_protection.specs.Protected.{table_in}
-use Rattle.layout_json.specs.Keeps.{IsTaken}
-use Rattle.layout_json.specs.Members.{members_in}
-use Rattle.layout_json.specs.Migrated.{later_version}
-use Rattle.layout_json.specs.Replaced.{each_with, exchanged, new_table, replaced}
-use Rattle.layout_json.specs.Start.{start_refusal}
-use Rattle.layout_json.specs.Tables.{marks_of, times_refusal}
-use Rattle.layout_json.proofs.FormedDoc.{IsMade, again, few, from, no_table}
-use Rattle.layout_json.proofs.NamedLemmas.{of-version}
-use Rattle.layout_json.proofs.StartLemmas.{illegality-none, start-none}
-use Rattle.layout_json.proofs.Taken.{makes}
-use Rattle.layout_json.proofs.Marked.{sections-kept, connections-kept}
-use Rattle.layout_json.proofs.Remade.{length-each_with, each_with-at}
+use Rattle.document_json.specs.Keeps.{IsTaken}
+use Rattle.document_json.specs.Members.{members_in}
+use Rattle.document_json.specs.Migrated.{later_version}
+use Rattle.document_json.specs.Replaced.{each_with, exchanged, new_table, replaced}
+use Rattle.document_json.specs.Start.{start_refusal}
+use Rattle.document_json.specs.Tables.{marks_of, times_refusal}
+use Rattle.document_json.proofs.FormedDoc.{IsMade, again, few, from, no_table}
+use Rattle.document_json.proofs.NamedLemmas.{of-version}
+use Rattle.document_json.proofs.StartLemmas.{illegality-none, start-none}
+use Rattle.document_json.proofs.Taken.{makes}
+use Rattle.document_json.proofs.Marked.{sections-kept, connections-kept}
+use Rattle.document_json.proofs.Remade.{length-each_with, each_with-at}
 
 -- a later version isn't the first
 pub later_is_not_first : (v : ℕ) → (later_version v == 1) ≡ false

@@ -1,11 +1,11 @@
 -- A document whose tables get guards and certificates, and why it doesn't.
 use Rattle.std.specs.Prelude.{◌≡◌, ◌+◌, ◌<◌, ℕ, List, [], length, slice_index_or, Ok}
 use Rattle.forbidden_states.specs.Forbid.{Stay}
-use Rattle.layout_json.specs.Doc.{Doc, table_at}
-use Rattle.layout_json.specs.Migrated.{IsMigrated}
-use Rattle.layout_json.specs.Reading.{doc_of}
-use Rattle.layout_json.specs.Replaced.{new_table, replaced}
-use Rattle.layout_json.specs.Written.{written}
+use Rattle.document_json.specs.Doc.{Doc, table_at}
+use Rattle.document_json.specs.Migrated.{IsMigrated}
+use Rattle.document_json.specs.Reading.{doc_of}
+use Rattle.document_json.specs.Replaced.{new_table, replaced}
+use Rattle.document_json.specs.Written.{written}
 use Rattle.rail_model.specs.Certificate.{Tree, Accepts, arrived}
 use Rattle.rail_model.specs.Move.{Stuck as IsStuck}
 use Rattle.rail_model.specs.State.{Legal}

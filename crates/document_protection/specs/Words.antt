@@ -1,7 +1,7 @@
 -- What is told of guards by names, and why a document isn't protected.
 use Rattle.std.specs.Prelude.{ℕ, ◌+◌, ◌==◌, List, [], ◌∷◌, ◌++◌, length, codes, decimal, flat_map, slice_index_or, Option, Some, None, if◌then◌else◌}
 use Rattle.forbidden_states.specs.Forbid.{Stay}
-use Rattle.layout_json.specs.Doc.{Doc, names_of, table_at}
+use Rattle.document_json.specs.Doc.{Doc, names_of, table_at}
 use Rattle.rail_model.specs.Names.{Names, train_name}
 use Rattle.rail_model.specs.Table.{Table}
 use Rattle.refusal_lines.specs.Makers.{stuck_words}

@@ -7,7 +7,7 @@ ghost use Rattle.document_protection.specs.Protected.{ArePartsOf, IsProtected, I
 
 use crate::{Guards, Unprotected, Why};
 use cert_tree::Cert;
-use layout_json::{Doc, migrate, tables_apart, version, write_replaced};
+use document_json::{Doc, migrate, tables_apart, version, write_replaced};
 use legal_state::judge;
 use rail_model::Table;
 use section_protect::{Ended, Finder, Protected, protect};

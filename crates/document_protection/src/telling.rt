@@ -8,8 +8,8 @@ ghost use Rattle.document_protection.specs.Protected.{HasGuards, HasNone, HaveGu
 ghost use Rattle.document_protection.specs.Words as spec;
 
 use crate::{Guards, ProtectedDoc, Unprotected, Why};
+use document_json::{Doc, names_of, table_of};
 use forbidden_states::{Stay, Stays};
-use layout_json::{Doc, names_of, table_of};
 use rail_model::{Names, State, Table, point_of, sections_of};
 use refusal_lines::push_stuck;
 use std::alloc::{AllocError, Global};

@@ -1,7 +1,7 @@
 -- What a wish for a picture is answered.
 use Rattle.std.specs.Prelude.{◌⊎◌, ℕ, ◌≤◌, List, length}
 use Rattle.rail_model.specs.State.{Legal}
-use Rattle.layout_json.specs.Doc.{Doc, table_at}
+use Rattle.document_json.specs.Doc.{Doc, table_at}
 use Rattle.layout_picture.specs.Drawn.{IsDrawn}
 use Rattle.layout_picture.specs.declared.answers.Drawn.{Drawn}
 use Rattle.layout_picture.specs.declared.answers.Drawn.TheVariants.{Picture, Refused}

@@ -1,13 +1,13 @@
 // The picture of a document, or why there is none.
 ghost use Rattle.std.specs.Prelude.{ℕ, ◌<◌, ◌≤◌, List, IfOk, length};
 ghost use Rattle.rail_model.specs.State.{Legal};
-ghost use Rattle.layout_json.specs.Doc.{table_at};
+ghost use Rattle.document_json.specs.Doc.{table_at};
 ghost use Rattle.legal_state.specs.Illegal.{IsIllegal};
 ghost use Rattle.layout_picture.specs.Answer.{IsPictureOrWords};
 
 use crate::picture::drawing;
+use document_json::{Doc, layout_of, names_of, start_of, table_of, tables_of};
 use layout_frame::{cause_of, title_of};
-use layout_json::{Doc, layout_of, names_of, start_of, table_of, tables_of};
 use legal_state::{Illegal, judge};
 use rail_model::State;
 use state_sentences::Scene;

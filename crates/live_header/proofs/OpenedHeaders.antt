@@ -3,9 +3,9 @@ use Rattle.std.proofs.Common.{◌≡◌, ◌⊎◌, ℕ, List, refl, sym, subst,
 use Rattle.std.specs.Prelude.{Result, IfErr, Ok}
 use Rattle.std.specs.Result.{IsErrAnd}
 use Rattle.std.proofs.Math.Logic.{⊎_map}
-use Rattle.layout_json.specs.Doc.{Doc}
-use Rattle.layout_json.specs.Reading.{doc_of}
-use Rattle.layout_json.proofs.Refusals.{refused-so}
+use Rattle.document_json.specs.Doc.{Doc}
+use Rattle.document_json.specs.Reading.{doc_of}
+use Rattle.document_json.proofs.Refusals.{refused-so}
 use Rattle.accepted_documents.specs.Accepting.{IsUnaccepted}
 use Rattle.accepted_documents.specs.declared.refused.Unaccepted.{Unaccepted}
 use Rattle.accepted_documents.specs.declared.refused.Unaccepted.TheVariants as unaccepted

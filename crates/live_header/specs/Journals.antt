@@ -3,7 +3,7 @@ use Rattle.std.specs.Prelude.{◌⊎◌, ℕ, List}
 use Rattle.rail_model.specs.Plain.{Plain}
 use Rattle.rail_model.specs.Journal.{Journal}
 use Rattle.move_journal.specs.Answers.{IsFrontOf}
-use Rattle.layout_json.specs.Doc.{Doc, names_of}
+use Rattle.document_json.specs.Doc.{Doc, names_of}
 use Rattle.accepted_documents.specs.Replaying.{IsWholeJournal, LeadsNowhere, LeadsThrough}
 use Rattle.accepted_documents.specs.declared.refused.BadJournal.TheVariants as bad
 use Rattle.live_header.specs.declared.refused.Refused.{Refused}

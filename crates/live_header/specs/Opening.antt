@@ -1,7 +1,7 @@
 -- What a header opens, and why it opens nothing.
 use Rattle.std.specs.Prelude.{◌≡◌, Ok, true, false, string_bytes}
-use Rattle.layout_json.specs.Doc.{offers_of}
-use Rattle.layout_json.specs.Reading.{doc_of}
+use Rattle.document_json.specs.Doc.{offers_of}
+use Rattle.document_json.specs.Reading.{doc_of}
 use Rattle.accepted_documents.specs.Accepting.{AreAccepted, IsDocWith}
 use Rattle.live_header.specs.Accepting.{RefusesCheck}
 use Rattle.live_header.specs.Hashing.{hash_text}

@@ -1,13 +1,13 @@
 // The state that a journal leads to, which a session goes on from.
 ghost use Rattle.std.specs.Prelude.{◌≡◌, ◌⊎◌, IfOk, IfErr};
-ghost use Rattle.layout_json.specs.Doc.{offers_of};
+ghost use Rattle.document_json.specs.Doc.{offers_of};
 ghost use Rattle.live_header.specs.Journals.{IsBroken, LeadsTo};
 ghost use Rattle.live_header.specs.declared.refused.Refused.TheVariants.{Memory as NoMemory};
 
 use crate::Refused;
 use accepted_documents::{Replayed, replay_text};
 use cert_checker::Accepted;
-use layout_json::Frame;
+use document_json::Frame;
 use rail_model::PlainState;
 use std::alloc::Global;
 

@@ -12,7 +12,7 @@ use crate::{Header, Refused};
 use accepted_documents::{Checked, check_document};
 use cert_checker::Accepted;
 use cert_tree::Cert;
-use layout_json::Frame;
+use document_json::Frame;
 use rail_model::PlainState;
 use std::alloc::Global;
 

@@ -5,7 +5,7 @@ ghost use Rattle.live_header.specs.declared.refused.Refused.TheVariants.{Memory 
 
 use accepted_documents::{BadJournal, Unaccepted};
 use cert_tree::CertRefused;
-use layout_json::DocRefused;
+use document_json::DocRefused;
 use move_journal::{BadLine, BadText};
 use rail_model::Bad;
 use std::alloc::AllocError;

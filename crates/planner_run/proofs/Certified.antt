@@ -3,9 +3,9 @@ use Rattle.std.proofs.Common.{◌≡◌, ℕ, List, inl, inr}
 use Rattle.std.specs.Prelude.{Ok, Err}
 use Rattle.document_certificates.specs.Certified.{HasNone, IsCertified}
 use Rattle.document_certificates.specs.declared.uncertified.Uncertified.{Uncertified}
-use Rattle.layout_json.specs.Doc.{Doc}
-use Rattle.layout_json.specs.Reading.{doc_of}
-use Rattle.layout_json.specs.declared.refused.DocRefused.{DocRefused}
+use Rattle.document_json.specs.Doc.{Doc}
+use Rattle.document_json.specs.Reading.{doc_of}
+use Rattle.document_json.specs.declared.refused.DocRefused.{DocRefused}
 use Rattle.planner_run.specs.Answered.{IsCertifying, IsWrong, SaysWrong}
 use Rattle.planner_run.specs.Certifying.{IsCertifiedInput, SaysWhy, refused_line}
 use Rattle.planner_run.specs.declared.answer.Answer.{Answer}

@@ -5,9 +5,9 @@ use Rattle.document_protection.specs.Protected.{HasNone, IsProtected}
 use Rattle.document_protection.specs.Words.{unprotected_words}
 use Rattle.document_protection.specs.declared.unprotected.Unprotected.{Unprotected}
 use Rattle.forbidden_states.specs.Forbid.{Stay}
-use Rattle.layout_json.specs.Doc.{Doc}
-use Rattle.layout_json.specs.Reading.{doc_of}
-use Rattle.layout_json.specs.declared.refused.DocRefused.{DocRefused}
+use Rattle.document_json.specs.Doc.{Doc}
+use Rattle.document_json.specs.Reading.{doc_of}
+use Rattle.document_json.specs.declared.refused.DocRefused.{DocRefused}
 use Rattle.planner_run.specs.Answered.{IsProtecting, IsWrong}
 use Rattle.planner_run.specs.Certifying.{refused_line}
 use Rattle.planner_run.specs.Protecting.{IsProtectedInput}

@@ -6,8 +6,8 @@ use Rattle.document_shapes.specs.Written.{text_of}
 use Rattle.run_orders.specs.RunOrdered.{IsInputByRun}
 use Rattle.rail_model.specs.State.{Legal}
 use Rattle.refusal_lines.specs.Makers.{places_words}
-use Rattle.layout_json.specs.Reading.{doc_of}
-use Rattle.layout_json.specs.Doc.{Doc, names_of, table_at}
+use Rattle.document_json.specs.Reading.{doc_of}
+use Rattle.document_json.specs.Doc.{Doc, names_of, table_at}
 use Rattle.plan_document.specs.Written.{document_of}
 use Rattle.plan_document.specs.declared.plan.Plan.{Plan}
 use Rattle.plan_reading.specs.Said.{IsPlanRead}

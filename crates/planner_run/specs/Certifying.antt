@@ -3,9 +3,9 @@ use Rattle.std.specs.Prelude.{◌≡◌, ◌⊎◌, ℕ, List, ◌++◌, codes, 
 use Rattle.document_certificates.specs.Certified.{HasNone, IsCertified}
 use Rattle.document_certificates.specs.declared.uncertified.Uncertified.{Uncertified}
 use Rattle.document_certificates.specs.declared.uncertified.Uncertified.TheVariants.{Memory, Stuck, GaveUp}
-use Rattle.layout_json.specs.Doc.{Doc}
-use Rattle.layout_json.specs.Reading.{doc_of}
-use Rattle.layout_json.specs.declared.refused.DocRefused.{DocRefused}
+use Rattle.document_json.specs.Doc.{Doc}
+use Rattle.document_json.specs.Reading.{doc_of}
+use Rattle.document_json.specs.declared.refused.DocRefused.{DocRefused}
 use Rattle.refusal_lines.specs.Documents.{document_words}
 use Rattle.refusal_lines.specs.Makers.{stuck_words}
 use Rattle.run_sentences.specs.Told.{TellsRun}

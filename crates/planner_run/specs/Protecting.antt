@@ -4,8 +4,8 @@ use Rattle.document_protection.specs.Protected.{HasNone, IsProtected}
 use Rattle.document_protection.specs.Words.{unprotected_words}
 use Rattle.document_protection.specs.declared.unprotected.Unprotected.{Unprotected}
 use Rattle.forbidden_states.specs.Forbid.{Stay}
-use Rattle.layout_json.specs.Doc.{Doc}
-use Rattle.layout_json.specs.Reading.{doc_of}
+use Rattle.document_json.specs.Doc.{Doc}
+use Rattle.document_json.specs.Reading.{doc_of}
 use Rattle.planner_run.specs.Certifying.{IsRefusedInput}
 
 -- The input is a document, and the text is it with guards and certificates.

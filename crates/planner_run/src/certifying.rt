@@ -1,7 +1,7 @@
 // Certificates that are found by search.
 ghost use Rattle.std.specs.Prelude.{◌≡◌, ◌++◌, IfOk, Ok, Err, OnOk, codes, string_bytes};
 ghost use Rattle.document_certificates.specs.Certified.{HasNone};
-ghost use Rattle.layout_json.specs.Reading.{doc_of};
+ghost use Rattle.document_json.specs.Reading.{doc_of};
 ghost use Rattle.planner_run.specs.Answered.{IsCertifying, SaysWrong};
 ghost use Rattle.planner_run.specs.Certifying.{SaysWhy, TellsStuck, gave_up_words};
 
@@ -10,7 +10,7 @@ use crate::drawing::refusal;
 use crate::explaining::MOST_STATES;
 use cert_search::{Effort as Searches, Watcher};
 use document_certificates::{Uncertified, certified_text};
-use layout_json::{Doc, DocRefused, document};
+use document_json::{Doc, DocRefused, document};
 use planner_words::Effort;
 use rail_model::State;
 use refusal_lines::push_stuck;

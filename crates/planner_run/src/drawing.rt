@@ -6,7 +6,7 @@ ghost use Rattle.planner_run.specs.Certifying.{refused_line};
 use crate::Answer;
 use crate::explaining::{NO_PLACES, NO_TABLE, wrong};
 use decimal_number::number_of;
-use layout_json::{Doc, DocRefused, document, start_of};
+use document_json::{Doc, DocRefused, document, start_of};
 use layout_picture::{Drawn, layout_picture};
 use rail_model::State;
 use refusal_lines::push_document;

@@ -5,7 +5,7 @@ ghost use Rattle.planner_run.specs.Answered.{IfText, ExplainsAs, ExplainsPlaces,
 use crate::Answer;
 use crate::drawing::refusal;
 use decimal_number::number_of;
-use layout_json::{DocRefused, document};
+use document_json::{DocRefused, document};
 use rail_model::State;
 use refusal_sentences::{Explained, explain_line, explain_state, places_of};
 use run_sentences::runs_told;

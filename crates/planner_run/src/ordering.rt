@@ -1,13 +1,13 @@
 // Documents with orders.
 ghost use Rattle.std.specs.Prelude.{◌≡◌, IfOk, Ok};
-ghost use Rattle.layout_json.specs.Reading.{doc_of};
+ghost use Rattle.document_json.specs.Reading.{doc_of};
 ghost use Rattle.planner_run.specs.Answered.{IsOrdering, IsOrderingByRun};
 
 use crate::Answer;
 use crate::drawing::refusal;
 use crate::explaining::wrong;
+use document_json::{Doc, DocRefused, document};
 use document_orders::{NotOrdered, lines_of, ordered};
-use layout_json::{Doc, DocRefused, document};
 use run_orders::{RunRefused, order_input, refused_lines};
 use std::alloc::{AllocError, Global};
 

@@ -5,7 +5,7 @@ ghost use Rattle.plan_reading.specs.declared.reading.PlanRead.TheVariants.{Plan 
 ghost use Rattle.planner_run.specs.Answered.{IfText, ReadsAsDocument, IsPlanned};
 
 use crate::Answer;
-use layout_json::{DocRefused, document};
+use document_json::{DocRefused, document};
 use plan_document::{Plan, written};
 use plan_reading::{Fault, PlanRead, read_plan};
 use refusal_lines::push_document;

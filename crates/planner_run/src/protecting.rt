@@ -1,7 +1,7 @@
 // Documents with guards.
 ghost use Rattle.std.specs.Prelude.{◌≡◌, IfOk, Ok};
 ghost use Rattle.document_protection.specs.Protected.{HasNone};
-ghost use Rattle.layout_json.specs.Reading.{doc_of};
+ghost use Rattle.document_json.specs.Reading.{doc_of};
 ghost use Rattle.planner_run.specs.Answered.{IsProtecting, IsWrong};
 ghost use Rattle.document_protection.specs.Words.{unprotected_words};
 
@@ -9,8 +9,8 @@ use crate::Answer;
 use crate::certifying::searches_of;
 use crate::drawing::refusal;
 use cert_search::Watcher;
+use document_json::{Doc, DocRefused, document};
 use document_protection::{Unprotected, lines_of, lines_of_why, protected};
-use layout_json::{Doc, DocRefused, document};
 use planner_words::Effort;
 use section_protect::{Finder, Searching};
 use std::alloc::{AllocError, Global};

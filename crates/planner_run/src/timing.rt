@@ -4,7 +4,7 @@ ghost use Rattle.timed_reading.specs.Runs.{IsToldRun};
 ghost use Rattle.planner_run.specs.Answered.{IfText, IsGraphOf, IsGraphText, IsTimetableOf, IsTimetableText};
 
 use crate::Answer;
-use layout_json::{Doc, layout_of, names_of};
+use document_json::{Doc, layout_of, names_of};
 use rail_model::Names;
 use run_timetable::{Run, columns, csv};
 use std::alloc::{AllocError, Global};

@@ -6,7 +6,7 @@ use Rattle.clap.proofs.OnLiterals.{clap_on_literals}
 use Rattle.clap.specs.Words.{Text, HasMatchesOf, app_of, is_simple, subcommand_of, subcommand_rows_of}
 use Rattle.clap.specs.declared.ArgMatches.{ArgMatches}
 use Rattle.clap.specs.declared.Command.{Command}
-use Rattle.command_words.specs.Built.{leaf}
+use Rattle.ats_words.specs.Built.{leaf}
 use Rattle.planner_words.specs.Line.{planner}
 
 -- clap says exactly what is found in the command's words

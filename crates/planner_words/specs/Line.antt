@@ -2,7 +2,7 @@
 use Rattle.std.specs.Prelude.{List, [], ◌∷◌, codes, map, true, false, Some}
 use Rattle.clap.specs.Words.{App, Rule, Shape, Text, new_app}
 use Rattle.clap.specs.declared.builder.action.ArgAction.TheVariants.{Set, SetTrue}
-use Rattle.command_words.specs.Built.{leaf, long_option, with_all}
+use Rattle.ats_words.specs.Built.{leaf, long_option, with_all}
 use Rattle.planner_words.specs.declared.asking.Choice.{Choice}
 use Rattle.planner_words.specs.declared.asking.Subcommand.{Subcommand}
 use Rattle.planner_words.specs.declared.asking.Choice.TheVariants.{Flag, ExcludingFlag, Value, Excluding}

@@ -2,7 +2,7 @@
 ghost use Rattle.std.specs.Prelude.{◌≡◌, false, IfOk};
 ghost use Rattle.clap.specs.Built.{IsPlainArg};
 ghost use Rattle.clap.specs.Words.{app_of, rule_of, with_subcommand};
-ghost use Rattle.command_words.specs.Built.{IsBuiltAs, IsSubcommand, IsLocal, long_option};
+ghost use Rattle.ats_words.specs.Built.{IsBuiltAs, IsSubcommand, IsLocal, long_option};
 ghost use Rattle.planner_words.specs.Line as spec;
 
 use clap::{Arg, ArgAction, Command};

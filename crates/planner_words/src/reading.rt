@@ -3,7 +3,7 @@ ghost use Rattle.std.specs.Prelude.{◌≡◌, IfErr, IfNone, IfOk, IfSome, IsSo
 ghost use Rattle.clap.specs.Words.{first_of, found_of, kind_of, rows_of, subcommand_of, subcommand_rows_of, takes};
 ghost use Rattle.planner_words.specs.Answered.{AnswersWords, MissesNone};
 ghost use Rattle.planner_words.specs.Line.{planner};
-ghost use Rattle.command_words.specs.Options.{number, number_between, option};
+ghost use Rattle.ats_words.specs.Options.{number, number_between, option};
 ghost use Rattle.planner_words.specs.Named.{AsksFor, IsAsked, IsEffort, table_in, word_of};
 ghost use Rattle.planner_words.specs.declared.orders.Effort as declared;
 

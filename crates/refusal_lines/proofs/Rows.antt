@@ -15,7 +15,7 @@ use Rattle.move_journal.specs.declared.faults.BadText.TheVariants as text
 use Rattle.move_journal.specs.declared.faults.BadLine.TheVariants as line
 use Rattle.document_shapes.specs.declared.member.Member.TheVariants as member
 use Rattle.document_shapes.specs.declared.refused.ShapeRefused.TheVariants as shape
-use Rattle.layout_json.specs.declared.refused.DocRefused.TheVariants as document
+use Rattle.document_json.specs.declared.refused.DocRefused.TheVariants as document
 use Rattle.refusal_lines.specs.Fields.{fields_words, line as line_of}
 use Rattle.refusal_lines.specs.Layouts.{layout_words, trains_words}
 use Rattle.refusal_lines.specs.Missions.{missions_words}

@@ -4,8 +4,8 @@ use Rattle.document_shapes.specs.Members.{name_of}
 use Rattle.document_shapes.specs.declared.member.Member.{Member}
 use Rattle.document_shapes.specs.declared.refused.ShapeRefused.{ShapeRefused}
 use Rattle.document_shapes.specs.declared.refused.ShapeRefused.TheVariants as shape
-use Rattle.layout_json.specs.declared.refused.DocRefused.{DocRefused}
-use Rattle.layout_json.specs.declared.refused.DocRefused.TheVariants as document
+use Rattle.document_json.specs.declared.refused.DocRefused.{DocRefused}
+use Rattle.document_json.specs.declared.refused.DocRefused.TheVariants as document
 use Rattle.refusal_lines.specs.Fields.{no_memory}
 use Rattle.refusal_lines.specs.Layouts.{layout_words, trains_words}
 use Rattle.refusal_lines.specs.Missions.{missions_words}

@@ -7,8 +7,8 @@ use crate::layouts::{write_layout, write_trains};
 use crate::marks::write_marks;
 use crate::missions::write_missions;
 use crate::starts::write_start;
+use document_json::DocRefused;
 use document_shapes::{Member, ShapeRefused};
-use layout_json::DocRefused;
 use std::alloc::AllocError;
 
 // Adds why bytes have no members of a document.

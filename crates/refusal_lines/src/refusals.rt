@@ -10,7 +10,7 @@ use crate::documents::write_document;
 use crate::journals::{write_line, write_text};
 use crate::makers::{write_connected, write_many, write_rounds, write_spent, write_stuck};
 use cert_tree::CertRefused;
-use layout_json::DocRefused;
+use document_json::DocRefused;
 use move_journal::{BadLine, BadText};
 use rail_model::{Bad, State};
 use std::alloc::AllocError;

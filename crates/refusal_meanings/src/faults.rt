@@ -5,7 +5,7 @@ use crate::meanings::write_meaning;
 use crate::names::{Names, Rows, members_of, names_of, rows_of};
 use crate::section_points::write_section_points;
 use crate::text::Text;
-use layout_json::DocRefused;
+use document_json::DocRefused;
 use legal_state::Illegal;
 use refusal_lines::push_document;
 use std::alloc::{AllocError, Global};

@@ -2,8 +2,8 @@
 use Rattle.std.specs.Prelude.{◌≡◌, ℕ, ◌<◌, ◌≤◌, List, length, Ok, Err, string_bytes}
 use Rattle.rail_model.specs.State.{Legal}
 use Rattle.legal_state.specs.Illegal.{IsIllegal}
-use Rattle.layout_json.specs.Doc.{Doc, names_of, table_at}
-use Rattle.layout_json.specs.Reading.{doc_of}
+use Rattle.document_json.specs.Doc.{Doc, names_of, table_at}
+use Rattle.document_json.specs.Reading.{doc_of}
 use Rattle.state_sentences.specs.Tells.{Tells}
 use Rattle.refusal_sentences.specs.declared.explained.Explained.{Explained}
 use Rattle.refusal_sentences.specs.declared.explained.Explained.TheVariants.{State, Refusal, NotLegal, NoTable, NoDocument, NoLine}

@@ -1,6 +1,6 @@
 // What an explanation may be.
 
-use layout_json::DocRefused;
+use document_json::DocRefused;
 use legal_state::Illegal;
 
 /// An explanation, or why there is none. Each text ends with a newline.

@@ -2,13 +2,13 @@
 ghost use Rattle.std.specs.Prelude.{◌≡◌, ◌<◌, IfOk, IfErr, Err, OnOk, length, string_bytes};
 ghost use Rattle.rail_model.specs.State.{Legal};
 ghost use Rattle.legal_state.specs.Illegal.{IsIllegal};
-ghost use Rattle.layout_json.specs.Doc.{IsDoc, names_of, table_at};
-ghost use Rattle.layout_json.specs.Reading.{doc_of};
+ghost use Rattle.document_json.specs.Doc.{IsDoc, names_of, table_at};
+ghost use Rattle.document_json.specs.Reading.{doc_of};
 ghost use Rattle.state_sentences.specs.Tells.{Tells};
 ghost use Rattle.refusal_sentences.specs.Explains.{ExplainsState, ExplainsIn};
 
 use crate::Explained;
-use layout_json::{Doc, DocRefused, document, names_of, table_of, tables_of};
+use document_json::{Doc, DocRefused, document, names_of, table_of, tables_of};
 use legal_state::judge;
 use rail_model::State;
 use refusal_meanings::{no_document_text, no_table_text, not_legal_text};

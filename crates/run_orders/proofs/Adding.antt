@@ -7,12 +7,12 @@ use Rattle.rail_model.specs.Journal.{Journal, IsWhole}
 use Rattle.rail_model.specs.State.{Legal}
 use Rattle.rail_model.specs.Table.{Table, Section, IsTable}
 use Rattle.rail_model.specs.Yard.{opening}
-use Rattle.layout_json.specs.Doc.{Doc, DocTable, nodes_at, offers_of, table_at as doc_table_at}
-use Rattle.layout_json.specs.Keeps.{IsTaken}
-use Rattle.layout_json.specs.Migrated.{IsMigrated}
-use Rattle.layout_json.specs.Reading.{doc_of}
-use Rattle.layout_json.specs.Replaced.{new_table, replaced}
-use Rattle.layout_json.specs.Written.{written}
+use Rattle.document_json.specs.Doc.{Doc, DocTable, nodes_at, offers_of, table_at as doc_table_at}
+use Rattle.document_json.specs.Keeps.{IsTaken}
+use Rattle.document_json.specs.Migrated.{IsMigrated}
+use Rattle.document_json.specs.Reading.{doc_of}
+use Rattle.document_json.specs.Replaced.{new_table, replaced}
+use Rattle.document_json.specs.Written.{written}
 use Rattle.order_sections.specs.Grids.{table_at}
 use Rattle.order_sections.specs.Orders.{with_more}
 use Rattle.document_orders.specs.Ordered.{KeepsTree, new_tree}

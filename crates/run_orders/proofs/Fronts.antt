@@ -6,7 +6,7 @@ use Rattle.rail_model.specs.declared.types.Line.{Line}
 use Rattle.rail_model.specs.Journal.{Journal, IsRight, IsWhole, after_line, after_lines}
 use Rattle.rail_model.specs.State.{Legal}
 use Rattle.rail_model.specs.Yard.{Offer, Yard, in_force, opening}
-use Rattle.layout_json.specs.Doc.{Doc, offers_of}
+use Rattle.document_json.specs.Doc.{Doc, offers_of}
 use Rattle.move_journal.specs.Replays.{Verifies}
 use Rattle.move_journal.specs.declared.faults.BadLine.{BadLine}
 use Rattle.reached_states.specs.Reached.{AreOffered}

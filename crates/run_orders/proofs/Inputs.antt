@@ -3,7 +3,7 @@ use Rattle.std.proofs.Common.{◌⊎◌, ℕ, List, Result, Ok, Err}
 use Rattle.std.specs.Prelude.{IfOk}
 use Rattle.rail_model.specs.declared.types.Line.{Line}
 use Rattle.rail_model.specs.Journal.{Journal}
-use Rattle.layout_json.specs.Doc.{Doc}
+use Rattle.document_json.specs.Doc.{Doc}
 use Rattle.run_orders.specs.RunOrdered.{HasJournal, IsAlone, IsInputByRun, IsOrderedByRun, IsRunFrom}
 use Rattle.run_orders.specs.declared.reading.RunOrdered.{RunOrdered}
 use Rattle.run_orders.specs.declared.refused.RunRefused.{RunRefused}

@@ -9,11 +9,11 @@ use Rattle.rail_model.specs.Yard.{opening}
 use Rattle.move_journal.specs.Answers.{IsTextPart}
 use Rattle.move_journal.specs.declared.lines.Part.{Part}
 use Rattle.move_journal.specs.declared.lines.Part.TheVariants.{Whole, Open}
-use Rattle.layout_json.specs.Doc.{Doc, names_of, nodes_at, offers_of, table_at}
-use Rattle.layout_json.specs.Migrated.{IsMigrated}
-use Rattle.layout_json.specs.Reading.{doc_of}
-use Rattle.layout_json.specs.Replaced.{new_table, replaced}
-use Rattle.layout_json.specs.Written.{written}
+use Rattle.document_json.specs.Doc.{Doc, names_of, nodes_at, offers_of, table_at}
+use Rattle.document_json.specs.Migrated.{IsMigrated}
+use Rattle.document_json.specs.Reading.{doc_of}
+use Rattle.document_json.specs.Replaced.{new_table, replaced}
+use Rattle.document_json.specs.Written.{written}
 use Rattle.order_sections.specs.Grids.{table_at as table_in}
 use Rattle.order_sections.specs.Orders.{with_more}
 use Rattle.document_orders.specs.Ordered.{KeepsTree, new_tree}

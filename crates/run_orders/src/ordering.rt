@@ -1,15 +1,15 @@
 // A document with the orders of a run.
 ghost use Rattle.std.specs.Prelude.{◌≡◌, map, IfOk, IsTrue};
 ghost use Rattle.rail_model.specs.State.{Legal};
-ghost use Rattle.layout_json.specs.Keeps.{IsTaken};
-ghost use Rattle.layout_json.specs.Migrated.{IsMigrated};
+ghost use Rattle.document_json.specs.Keeps.{IsTaken};
+ghost use Rattle.document_json.specs.Migrated.{IsMigrated};
 ghost use Rattle.order_sections.specs.Grids.{table_at};
 ghost use Rattle.run_orders.specs.RunOrdered.{HaveMore, IsOrderedByRun};
 
 use crate::RunRefused;
 use crate::drawing::verified;
+use document_json::{Doc, Frame, migrate, replaced, tables_apart, version, write};
 use document_orders::{OrderedDoc, has_no_room, with_certs};
-use layout_json::{Doc, Frame, migrate, replaced, tables_apart, version, write};
 use legal_state::judge;
 use move_journal::{BadLine, Journal};
 use order_sections::{Ordered, order_by_run};

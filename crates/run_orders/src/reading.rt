@@ -2,16 +2,16 @@
 ghost use Rattle.std.specs.Prelude.{◌≡◌, ◌++◌, IfOk, Ok};
 ghost use Rattle.rail_model.specs.Journal.{Journal as JournalValue};
 ghost use Rattle.move_journal.specs.Answers.{IsTextPart};
-ghost use Rattle.layout_json.specs.Doc.{names_of};
-ghost use Rattle.layout_json.specs.Reading.{doc_of};
+ghost use Rattle.document_json.specs.Doc.{names_of};
+ghost use Rattle.document_json.specs.Reading.{doc_of};
 ghost use Rattle.timed_reading.specs.Reads.{mark};
 ghost use Rattle.run_orders.specs.RunOrdered.{IsInputByRun, IsRunFrom, IsOrderedByRun, lines_in};
 
 use crate::RunRefused;
 use crate::drawing::run_from;
 use crate::ordering::ordered_by_run;
+use document_json::{Doc, DocRefused, document, names_of};
 use document_orders::{OrderedDoc, lines_of};
-use layout_json::{Doc, DocRefused, document, names_of};
 use move_journal::{BadText, Journal, Part, read_prefix};
 use std::alloc::Global;
 use timed_reading::cut;

@@ -2,7 +2,7 @@
 ghost use Rattle.std.specs.Prelude.{◌≡◌};
 ghost use Rattle.run_orders.specs.declared.refused.RunRefused.TheVariants.{Memory};
 
-use layout_json::DocRefused;
+use document_json::DocRefused;
 use move_journal::{BadLine, BadText};
 use order_sections::OrderRefused;
 use refusal_lines::{push_document, push_line, push_text};

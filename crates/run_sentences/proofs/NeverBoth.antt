@@ -5,8 +5,8 @@ use Rattle.std.proofs.lemmas.List.{get_or-map, length-map, take_more}
 use Rattle.rail_model.specs.State.{Legal}
 use Rattle.rail_model.specs.Table.{Table, IsTable, count, limit, place, share, trains}
 use Rattle.rail_model.specs.Yard.{Offer, Yard}
-use Rattle.layout_json.specs.Doc.{Doc, DocTable, IsDoc, doc_table, names_of, offers_of}
-use Rattle.layout_json.proofs.Offered.{offer_count}
+use Rattle.document_json.specs.Doc.{Doc, DocTable, IsDoc, doc_table, names_of, offers_of}
+use Rattle.document_json.proofs.Offered.{offer_count}
 use Rattle.document_orders.proofs.Offering.{are_offered, listed_is}
 use Rattle.order_sections.proofs.Reaching.{IsWithin, kept_reached, legal_with}
 use Rattle.order_sections.proofs.Sums.{two_le}

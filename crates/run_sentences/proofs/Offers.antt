@@ -4,8 +4,8 @@ use Rattle.std.proofs.lemmas.List.{map-id, take_more}
 use Rattle.rail_model.specs.Yard.{Offer, offer}
 use Rattle.rail_model.specs.State.{Legal}
 use Rattle.table_exchange.specs.Tables.{AreTables}
-use Rattle.layout_json.specs.Doc.{Doc, IsDoc, doc_table, offers_of}
-use Rattle.layout_json.proofs.Offered.{legal_start, offer_count, offer_at}
+use Rattle.document_json.specs.Doc.{Doc, IsDoc, doc_table, offers_of}
+use Rattle.document_json.proofs.Offered.{legal_start, offer_count, offer_at}
 use Rattle.run_search.specs.Answered.{AnswersRun}
 use Rattle.run_search.specs.declared.finding.RunTo.{RunTo}
 

@@ -6,8 +6,8 @@ use Rattle.rail_model.specs.Names.{Names}
 use Rattle.rail_model.specs.Journal.{lines_text}
 use Rattle.rail_model.specs.Table.{Table, trains, point}
 use Rattle.rail_model.specs.Yard.{opening}
-use Rattle.layout_json.specs.Doc.{Doc, IsDoc, offers_of, names_of}
-use Rattle.layout_json.proofs.Offered.{offer_count, table_offered}
+use Rattle.document_json.specs.Doc.{Doc, IsDoc, offers_of, names_of}
+use Rattle.document_json.proofs.Offered.{offer_count, table_offered}
 use Rattle.move_journal.specs.Printable.{AreEnough}
 use Rattle.move_journal.proofs.Named.{named_right}
 use Rattle.run_search.specs.Answered.{AnswersRun}

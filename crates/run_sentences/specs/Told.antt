@@ -5,7 +5,7 @@ use Rattle.rail_model.specs.declared.types.Line.{Line}
 use Rattle.rail_model.specs.Journal.{lines_text}
 use Rattle.rail_model.specs.Table.{Table, limit, place, share, trains}
 use Rattle.rail_model.specs.Yard.{Offer, Yard}
-use Rattle.layout_json.specs.Doc.{Doc, names_of, offers_of}
+use Rattle.document_json.specs.Doc.{Doc, names_of, offers_of}
 use Rattle.move_journal.specs.Printable.{IsNamed}
 use Rattle.order_search.specs.declared.search.Two.{Two}
 use Rattle.reached_states.specs.Reached.{IsReached, offered}

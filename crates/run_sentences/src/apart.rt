@@ -1,12 +1,12 @@
 // Places at which two of the trains are never both, since the tracks keep these two in an order.
 ghost use Rattle.std.specs.Prelude.{◌≡◌, ◌<◌, length, map, IfOk, IfSome};
-ghost use Rattle.layout_json.specs.Doc.{offers_of};
+ghost use Rattle.document_json.specs.Doc.{offers_of};
 ghost use Rattle.legal_state.specs.Causes.{IsInRange};
 ghost use Rattle.order_sections.specs.Grids.{table_at};
 ghost use Rattle.rail_model.specs.Table.{trains};
 ghost use Rattle.run_sentences.specs.Told.{AreApart, PassALimit};
 
-use layout_json::{Doc, start_of, table_of, tables_of};
+use document_json::{Doc, start_of, table_of, tables_of};
 use legal_state::{Illegal, judge};
 use order_sections::{OrderRefused, Two, order};
 use rail_model::{State, Table, copy_table, limit_of, sections_of, share_at, trains_of};

@@ -4,7 +4,7 @@ ghost use Rattle.run_sentences.specs.Told.{IsKnown};
 
 use crate::apart::two_apart;
 use crate::tables_offered;
-use layout_json::{Doc, start_of};
+use document_json::{Doc, start_of};
 use order_sections::Two;
 use rail_model::State;
 use run_search::{RunTo, run_to};

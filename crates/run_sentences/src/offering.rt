@@ -1,8 +1,8 @@
 // The tables of a document, each with the moves after which it is due.
 ghost use Rattle.std.specs.Prelude.{◌≡◌, IfOk};
-ghost use Rattle.layout_json.specs.Doc.{offers_of};
+ghost use Rattle.document_json.specs.Doc.{offers_of};
 
-use layout_json::{Doc, after_of, table_of, tables_of};
+use document_json::{Doc, after_of, table_of, tables_of};
 use run_search::LentTable;
 use std::alloc::{AllocError, Global};
 

@@ -5,7 +5,7 @@ ghost use Rattle.move_journal.specs.Printable.{IsNamed};
 ghost use Rattle.run_sentences.specs.Told.{AreNamed, HasNamedLines, HasNames, TellsRun, apart_words, known_words, lines_words, run_words};
 
 use crate::known::{Known, known_of};
-use layout_json::{Doc, names_of};
+use document_json::{Doc, names_of};
 use move_journal::push_line;
 use order_sections::Two;
 use rail_model::{Line, Names, State};

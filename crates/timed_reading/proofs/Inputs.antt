@@ -1,7 +1,7 @@
 -- Inputs that are a document and a journal.
 use Rattle.std.proofs.Common.{◌≡◌, ◌∙◌, ℕ, List, ◌++◌, Ok, sym, ap, subst}
-use Rattle.layout_json.specs.Doc.{Doc}
-use Rattle.layout_json.specs.Reading.{doc_of}
+use Rattle.document_json.specs.Doc.{Doc}
+use Rattle.document_json.specs.Reading.{doc_of}
 use Rattle.timed_reading.specs.Reads.{IsInputOf, IsReadFrom, IsTimedRun, ToldBy, mark}
 use Rattle.timed_reading.specs.Runs.{IsToldRun}
 use Rattle.timed_reading.specs.declared.reading.Timed.{Timed}

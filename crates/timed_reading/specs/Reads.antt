@@ -1,7 +1,7 @@
 -- What an input is read as.
 use Rattle.std.specs.Prelude.{◌≡◌, ℕ, List, ◌++◌, codes, Ok}
-use Rattle.layout_json.specs.Doc.{Doc, names_of}
-use Rattle.layout_json.specs.Reading.{doc_of}
+use Rattle.document_json.specs.Doc.{Doc, names_of}
+use Rattle.document_json.specs.Reading.{doc_of}
 use Rattle.run_timetable.specs.declared.run.Run.{Run as RunValue}
 use Rattle.timed_reading.specs.Runs.{IsToldRun, IsToldIn, TellsRun}
 use Rattle.timed_reading.specs.Told.{timed_text}

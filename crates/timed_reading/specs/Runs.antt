@@ -9,7 +9,7 @@ use Rattle.rail_model.specs.Table.{place, point, trains}
 use Rattle.rail_model.specs.Times.{time}
 use Rattle.rail_model.specs.Yard.{Yard, opening}
 use Rattle.move_journal.specs.Printable.{ArePrintable}
-use Rattle.layout_json.specs.Doc.{Doc, names_of, table_at, times_of}
+use Rattle.document_json.specs.Doc.{Doc, names_of, table_at, times_of}
 use Rattle.run_timetable.specs.declared.run.Run.{Run}
 use Rattle.run_timetable.specs.declared.run.Step.{Step}
 use Rattle.run_timetable.specs.declared.run.Takeover.{Takeover}

@@ -1,5 +1,5 @@
 // What is wrong with an input, and how it is said.
-use layout_json::DocRefused;
+use document_json::DocRefused;
 use rail_model::{Layout, Names};
 use refusal_lines::push_document;
 use run_timetable::{point_name, train_name};

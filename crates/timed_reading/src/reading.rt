@@ -1,7 +1,7 @@
 // Inputs read.
 ghost use Rattle.std.specs.Prelude.{◌≡◌, IfOk, Ok, map};
 ghost use Rattle.move_journal.specs.Printable.{ArePrintable};
-ghost use Rattle.layout_json.specs.Doc.{names_of as doc_names};
+ghost use Rattle.document_json.specs.Doc.{names_of as doc_names};
 ghost use Rattle.timed_reading.specs.Reads.{IsReadFrom, IsTimedRun, ToldBy};
 ghost use Rattle.timed_reading.specs.Runs.{IsToldIn, TellsRun};
 ghost use Rattle.timed_reading.specs.Told.{line_of};
@@ -10,7 +10,7 @@ use crate::faults::{Fault, no_journal, refused, told};
 use crate::parts::cut;
 use crate::running::{starts_of, steps_in, takeovers_of};
 use crate::ticks::{Timed as TimedLine, timed_lines};
-use layout_json::{Doc, DocRefused, document, layout_of, names_of};
+use document_json::{Doc, DocRefused, document, layout_of, names_of};
 use run_timetable::Run;
 use std::alloc::{AllocError, Global};
 

@@ -4,13 +4,13 @@ ghost use Rattle.rail_model.specs.Journal.{after_line};
 ghost use Rattle.rail_model.specs.Table.{point, trains};
 ghost use Rattle.rail_model.specs.Times.{time};
 ghost use Rattle.rail_model.specs.Yard.{moved, opening};
-ghost use Rattle.layout_json.specs.Doc.{table_at, times_of as doc_times};
+ghost use Rattle.document_json.specs.Doc.{table_at, times_of as doc_times};
 ghost use Rattle.timed_reading.specs.Runs as spec;
 ghost use Rattle.timed_reading.specs.Runs.{starts_in, step_list, steps_of, takeover_list};
 
 use crate::faults::{Fault, LineFault};
 use crate::ticks::Timed;
-use layout_json::{Doc, start_of, table_of, tables_of, times_of};
+use document_json::{Doc, start_of, table_of, tables_of, times_of};
 use rail_model::{Line, Standing, Table, Times, last_of, point_of, trains_of};
 use run_timetable::{Step, Takeover};
 use std::alloc::{AllocError, Global};

@@ -2,9 +2,9 @@ use Rattle.std.proofs.Common.{◌≡◌, ◌∷◌, ◌++◌, length, refl, sym,
 use Rattle.std.specs.Vec.Iter.{into_iter_items}
 use Rattle.std.proofs.lemmas.Grind.{common_steps}
 use Rattle.std.proofs.lemmas.List.{length-map}
-use Rattle.layout_json.specs.Doc.{Doc, offers_of}
-use Rattle.layout_json.proofs.Offered.{offer_count}
-use Rattle.layout_json.proofs.Refusals.{refused-so}
+use Rattle.document_json.specs.Doc.{Doc, offers_of}
+use Rattle.document_json.proofs.Offered.{offer_count}
+use Rattle.document_json.proofs.Refusals.{refused-so}
 use Rattle.accepted_documents.specs.Accepting.{AreAccepted, IsRejected}
 use Rattle.accepted_documents.proofs.AcceptedTables.{AreTaken, certified_offer, certs_of, here_in, taken_more, rejected_here, all_accepted, all_offered}
 use Rattle.accepted_documents.proofs.accepting.accept_all.Goals as goal

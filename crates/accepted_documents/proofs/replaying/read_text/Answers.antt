@@ -1,7 +1,7 @@
 use Rattle.std.proofs.Common.{sym, subst}
 use Rattle.std.specs.Prelude.{IfErr}
 use Rattle.std.proofs.lemmas.Result.{err_from_is_err_and}
-use Rattle.layout_json.specs.Doc.{names_of}
+use Rattle.document_json.specs.Doc.{names_of}
 use Rattle.accepted_documents.specs.Refusing.{IsBadText}
 use Rattle.accepted_documents.proofs.RefusedJournals.{no_text}
 use Rattle.accepted_documents.proofs.replaying.read_text.Goals as goal

@@ -3,7 +3,7 @@ use Rattle.std.specs.Prelude.{IfErr}
 use Rattle.std.proofs.lemmas.List.{map-id}
 use Rattle.std.proofs.lemmas.Result.{err_from_is_err_and}
 use Rattle.rail_model.specs.Yard.{opening}
-use Rattle.layout_json.specs.Doc.{offers_of}
+use Rattle.document_json.specs.Doc.{offers_of}
 use Rattle.accepted_documents.specs.Refusing.{IsBadFront}
 use Rattle.accepted_documents.proofs.RefusedJournals.{no_front}
 use Rattle.accepted_documents.proofs.replaying.replay_lines.Goals as goal

@@ -1,5 +1,5 @@
 use Rattle.std.proofs.Common.{subst}
-use Rattle.command_words.specs.declared.orders.Order.TheVariants.{Run, Resume, Drill}
+use Rattle.ats_words.specs.declared.orders.Order.TheVariants.{Run, Resume, Drill}
 use Rattle.document_generator.specs.Generated.{generated}
 use Rattle.shared_run.specs.declared.crews.Crew.{Crew}
 use Rattle.ats_run.specs.Command.{IsRunInput, IsResumedInput, IsDrilledInput}

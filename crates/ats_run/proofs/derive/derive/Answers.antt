@@ -1,10 +1,10 @@
 use Rattle.std.proofs.Common.{◌≡◌, ◌∙◌, sym, ap, subst, inl, inr}
 use Rattle.std.specs.Prelude.{Ok}
 use Rattle.std.proofs.lemmas.Result.{IfOk-weaker, IfErr-weaker}
-use Rattle.layout_json.specs.Doc.{Doc}
-use Rattle.layout_json.specs.Keeps.{IsTaken}
-use Rattle.layout_json.specs.Reading.{doc_of}
-use Rattle.layout_json.proofs.FormedDoc.{read-is-formed}
+use Rattle.document_json.specs.Doc.{Doc}
+use Rattle.document_json.specs.Keeps.{IsTaken}
+use Rattle.document_json.specs.Reading.{doc_of}
+use Rattle.document_json.proofs.FormedDoc.{read-is-formed}
 use Rattle.ats_run.specs.Making.{tables_in}
 use Rattle.ats_run.proofs.derive.derive.Goals as goal
 

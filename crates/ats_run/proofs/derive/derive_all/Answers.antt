@@ -2,9 +2,9 @@ use Rattle.std.proofs.Common.{◌≡◌, ◌⊎◌, ℕ, ◌+◌, ◌<◌, ◌�
 use Rattle.std.specs.Vec.Iter.{into_iter_items}
 use Rattle.std.proofs.lemmas.Grind.{common_steps}
 use Rattle.rail_model.specs.State.{Legal}
-use Rattle.layout_json.specs.Doc.{table_at}
-use Rattle.layout_json.proofs.Offered.{offer_count}
-use Rattle.layout_json.proofs.Refusals.{refused-so}
+use Rattle.document_json.specs.Doc.{table_at}
+use Rattle.document_json.proofs.Offered.{offer_count}
+use Rattle.document_json.proofs.Refusals.{refused-so}
 use Rattle.ats_run.specs.Deriving.{derived_table, derived, HasFewRings, HaveFewRings, HasManyRings}
 use Rattle.ats_run.specs.declared.failure.Failure.TheVariants.{Memory as NoMemory}
 use Rattle.ats_run.specs.Making.{tables_in, table_in}

@@ -1,6 +1,6 @@
 use Rattle.std.proofs.Common.{◌≡◌, ◌++◌, ℕ, ◌<◌, length, take}
 use Rattle.std.specs.Vec.Iter.{into_iter_items}
-use Rattle.layout_json.specs.Doc.{table_at}
+use Rattle.document_json.specs.Doc.{table_at}
 use Rattle.ats_run.specs.Deriving.{derived, HasFewRings}
 use Rattle.ats_run.specs.Making.{tables_in}
 use Rattle.ats_run.proofs.derive.derive_all.Given as goal

@@ -1,6 +1,6 @@
 use Rattle.std.proofs.Common.{◌≡◌, ◌⊎◌, ◌≤◌, List, length, sym, subst, inl, inr}
 use Rattle.rail_model.specs.Table.{Table}
-use Rattle.layout_json.proofs.Refusals.{refused-so}
+use Rattle.document_json.proofs.Refusals.{refused-so}
 use Rattle.ats_run.specs.Deriving.{FailsToDerive}
 use Rattle.ats_run.specs.Making.{FailsToMake}
 use Rattle.ats_run.specs.declared.failure.Failure.TheVariants.{Memory as NoMemory}

@@ -3,8 +3,8 @@ use Rattle.std.specs.Prelude.{vec_len}
 use Rattle.std.specs.Vec.Iter.{into_iter_items}
 use Rattle.std.proofs.lemmas.Grind.{common_steps}
 use Rattle.rail_model.specs.Move.{Live}
-use Rattle.layout_json.specs.Doc.{doc_table, offers_of}
-use Rattle.layout_json.proofs.Offered.{offers_more}
+use Rattle.document_json.specs.Doc.{doc_table, offers_of}
+use Rattle.document_json.proofs.Offered.{offers_more}
 use Rattle.ats_run.specs.Making.{tables_in}
 use Rattle.ats_run.proofs.Made.{doc_behind, doc_table_behind}
 use Rattle.ats_run.proofs.drill.live_tables.Goals as goal

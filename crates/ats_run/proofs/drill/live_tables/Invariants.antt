@@ -1,6 +1,6 @@
 use Rattle.std.proofs.Common.{◌≡◌, ◌++◌, length, take}
 use Rattle.std.specs.Vec.Iter.{into_iter_items}
-use Rattle.layout_json.specs.Doc.{offers_of}
+use Rattle.document_json.specs.Doc.{offers_of}
 use Rattle.ats_run.specs.Making.{tables_in}
 use Rattle.ats_run.proofs.drill.live_tables.Given as goal
 

@@ -1,6 +1,6 @@
 use Rattle.std.proofs.Common.{◌<◌, ℕ, length, sym, ◌∙◌, ap, subst}
 use Rattle.rail_model.specs.Move.{Live}
-use Rattle.layout_json.specs.Doc.{Doc, IsDoc, table_at}
+use Rattle.document_json.specs.Doc.{Doc, IsDoc, table_at}
 use Rattle.ats_run.specs.Making.{tables_in}
 use Rattle.ats_run.proofs.drill.with_live_tables.Goals as goal
 

@@ -2,7 +2,7 @@ use Rattle.std.proofs.Common.{◌≡◌, ◌⊎◌, ◌∷◌, ◌++◌, length,
 use Rattle.std.specs.Vec.Iter.{into_iter_items}
 use Rattle.std.proofs.lemmas.Grind.{common_steps}
 use Rattle.std.proofs.lemmas.List.{length-map}
-use Rattle.layout_json.proofs.Refusals.{refused-so}
+use Rattle.document_json.proofs.Refusals.{refused-so}
 use Rattle.ats_run.specs.declared.failure.Failure.TheVariants.{Memory as NoMemory}
 use Rattle.ats_run.specs.Making.{MakesNone, FailsToMake}
 use Rattle.ats_run.proofs.Made.{none_at, table_behind, some_behind, part_more}

@@ -1,5 +1,5 @@
 use Rattle.std.proofs.Common.{ap}
-use Rattle.layout_json.specs.Replaced.{certified}
+use Rattle.document_json.specs.Replaced.{certified}
 use Rattle.ats_run.proofs.AcceptedText.{made_text}
 use Rattle.ats_run.proofs.make.text_with_certificates.Goals as goal
 

@@ -3,10 +3,10 @@ use Rattle.std.specs.Vec.Iter.{into_iter_items}
 use Rattle.std.proofs.lemmas.Grind.{common_steps}
 use Rattle.rail_model.specs.Table.{Table}
 use Rattle.rail_model.specs.Certificate.{Tree}
-use Rattle.layout_json.specs.Doc.{table_at}
-use Rattle.layout_json.specs.Keeps.{IsTaken}
-use Rattle.layout_json.specs.Replaced.{replaced}
-use Rattle.layout_json.proofs.Refusals.{refused-so}
+use Rattle.document_json.specs.Doc.{table_at}
+use Rattle.document_json.specs.Keeps.{IsTaken}
+use Rattle.document_json.specs.Replaced.{replaced}
+use Rattle.document_json.proofs.Refusals.{refused-so}
 use Rattle.ats_run.specs.Making.{tables_in}
 use Rattle.ats_run.specs.Repairing.{AreRepaired, RepairsNone, IsRefusedStart, FailsToRepair}
 use Rattle.ats_run.specs.declared.failure.Failure.TheVariants.{Memory as NoMemory}

@@ -4,8 +4,8 @@ use Rattle.std.proofs.lemmas.Result.{IfOk-weaker, IfErr-weaker}
 use Rattle.rail_model.specs.Table.{Table}
 use Rattle.rail_model.specs.Certificate.{Tree}
 use Rattle.rail_model.specs.State.{Legal}
-use Rattle.layout_json.proofs.Offered.{offer_count}
-use Rattle.layout_json.proofs.Refusals.{refused-so}
+use Rattle.document_json.proofs.Offered.{offer_count}
+use Rattle.document_json.proofs.Refusals.{refused-so}
 use Rattle.ats_run.specs.Repairing.{IsRepairedAs, RepairsNone, IsRefusedStart}
 use Rattle.ats_run.specs.Starting.{IsBadStart}
 use Rattle.ats_run.specs.declared.failure.Failure.TheVariants.{Memory as NoMemory}

@@ -4,7 +4,7 @@ use Rattle.rail_model.specs.declared.types.Line.{Line}
 use Rattle.rail_model.specs.Names.{Names}
 use Rattle.rail_model.specs.Journal.{Journal}
 use Rattle.move_journal.specs.Printable.{IsNamed}
-use Rattle.layout_json.specs.Doc.{names_of}
+use Rattle.document_json.specs.Doc.{names_of}
 use Rattle.ats_run.proofs.Runs.{few_lines, named_lines}
 use Rattle.ats_run.proofs.run.text_of_run.Goals as goal
 

@@ -2,7 +2,7 @@ use Rattle.std.proofs.Common.{◌≡◌, ◌-◌, ℕ, List, sym, ap, subst, ari
 use Rattle.rail_model.specs.Yard.{Offer}
 use Rattle.plain_yard.specs.Keeps.{PlainRun}
 use Rattle.train_sim.specs.Report.{HaveTimes, IsSoon}
-use Rattle.layout_json.specs.Doc.{offers_of, times_of}
+use Rattle.document_json.specs.Doc.{offers_of, times_of}
 use Rattle.ats_run.proofs.Simulated.{have_times}
 use Rattle.ats_run.proofs.simulate.report_of.Goals as goal
 

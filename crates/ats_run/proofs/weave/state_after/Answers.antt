@@ -3,7 +3,7 @@ use Rattle.std.proofs.lemmas.List.{map-id}
 use Rattle.std.proofs.lemmas.Result.{IfOk-weaker}
 use Rattle.rail_model.specs.Table.{trains}
 use Rattle.rail_model.specs.Yard.{Offer, offer}
-use Rattle.layout_json.proofs.Offered.{given_on_layout}
+use Rattle.document_json.proofs.Offered.{given_on_layout}
 use Rattle.ats_run.proofs.Woven.{same_setup, first_offer, plain_is, legal_is}
 use Rattle.ats_run.proofs.weave.state_after.Goals as goal
 

@@ -1,4 +1,4 @@
-use Rattle.layout_json.proofs.Offered.{given_on_layout}
+use Rattle.document_json.proofs.Offered.{given_on_layout}
 use Rattle.call_tests.proofs.steps.is_cause_at.Goals as goal
 
 pub new-requires-clause-points : goal.new-requires-clause-points

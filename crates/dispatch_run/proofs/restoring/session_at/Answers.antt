@@ -1,5 +1,5 @@
 use Rattle.std.proofs.Common.{◌∙◌, subst, sym}
-use Rattle.layout_json.specs.Doc.{names_of}
+use Rattle.document_json.specs.Doc.{names_of}
 use Rattle.move_journal.specs.Printable.{AreEnough}
 use Rattle.dispatch_run.proofs.EnoughNames.{enough}
 use Rattle.dispatch_run.proofs.restoring.session_at.Goals as goal

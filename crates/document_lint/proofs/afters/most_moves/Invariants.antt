@@ -1,6 +1,6 @@
 use Rattle.std.proofs.Common.{ℕ, ◌<◌, ◌≤◌}
 use Rattle.rail_model.specs.State.{remaining}
-use Rattle.layout_json.specs.Doc.{table_at}
+use Rattle.document_json.specs.Doc.{table_at}
 use Rattle.document_lint.proofs.afters.most_moves.Given as goal
 
 abbrev pub invariant-loop-earlier : goal.invariant-loop-earlier

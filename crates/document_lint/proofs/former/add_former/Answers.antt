@@ -1,6 +1,6 @@
 use Rattle.std.proofs.Common.{arith, subst}
 use Rattle.std.proofs.Math.Logic.{⊎_map}
-use Rattle.layout_json.specs.Doc.{table_at}
+use Rattle.document_json.specs.Doc.{table_at}
 use Rattle.document_lint.specs.Told.{IsTold, KeepsTable}
 use Rattle.document_lint.proofs.Kept.{one_more}
 use Rattle.document_lint.proofs.former.add_former.Goals as goal

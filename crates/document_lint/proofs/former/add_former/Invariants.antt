@@ -1,5 +1,5 @@
 use Rattle.std.proofs.Common.{ℕ, ◌<◌, ◌⊎◌}
-use Rattle.layout_json.specs.Doc.{table_at}
+use Rattle.document_json.specs.Doc.{table_at}
 use Rattle.document_lint.specs.Told.{IsTold, KeepsTable}
 use Rattle.document_lint.proofs.former.add_former.Given as goal
 

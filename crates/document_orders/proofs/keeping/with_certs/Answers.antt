@@ -1,5 +1,5 @@
 use Rattle.std.proofs.Common.{◌<◌, ◌∷◌, [], ◌∙◌, ap, length, length-append, subst, arith}
-use Rattle.layout_json.specs.Doc.{nodes_at}
+use Rattle.document_json.specs.Doc.{nodes_at}
 use Rattle.document_orders.specs.Ordered.{KeepsTree}
 use Rattle.document_orders.proofs.Certificates.{table_read, tables_more, trees_more}
 use Rattle.document_orders.proofs.keeping.with_certs.Goals as goal

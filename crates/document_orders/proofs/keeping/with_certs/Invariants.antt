@@ -1,5 +1,5 @@
 use Rattle.std.proofs.Common.{◌≡◌, ℕ, ◌<◌, length, map, take}
-use Rattle.layout_json.specs.Doc.{nodes_at}
+use Rattle.document_json.specs.Doc.{nodes_at}
 use Rattle.document_orders.specs.Ordered.{KeepsTree, new_tree}
 use Rattle.document_orders.proofs.keeping.with_certs.Given as goal
 

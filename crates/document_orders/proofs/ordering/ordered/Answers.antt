@@ -1,9 +1,9 @@
 use Rattle.std.proofs.Common.{ℕ, ◌<◌, List, length, map, sym, ap, ◌∙◌, subst}
 use Rattle.rail_model.specs.Certificate.{Tree}
 use Rattle.rail_model.specs.Table.{Table}
-use Rattle.layout_json.specs.Doc.{Doc, nodes_at}
-use Rattle.layout_json.specs.Keeps.{IsTaken}
-use Rattle.layout_json.specs.Migrated.{IsMigrated}
+use Rattle.document_json.specs.Doc.{Doc, nodes_at}
+use Rattle.document_json.specs.Keeps.{IsTaken}
+use Rattle.document_json.specs.Migrated.{IsMigrated}
 use Rattle.order_sections.specs.Found.{HaveSameTrains}
 use Rattle.order_sections.specs.Grids.{table_at}
 use Rattle.order_sections.specs.Orders.{AddsOrders}

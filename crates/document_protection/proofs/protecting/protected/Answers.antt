@@ -6,9 +6,9 @@ use Rattle.legal_state.specs.Illegal.{IsIllegal}
 use Rattle.rail_model.specs.Certificate.{Tree}
 use Rattle.rail_model.specs.State.{Legal}
 use Rattle.rail_model.specs.Table.{Table}
-use Rattle.layout_json.specs.Doc.{IsDoc}
-use Rattle.layout_json.specs.Keeps.{IsTaken}
-use Rattle.layout_json.specs.Replaced.{new_table, replaced}
+use Rattle.document_json.specs.Doc.{IsDoc}
+use Rattle.document_json.specs.Keeps.{IsTaken}
+use Rattle.document_json.specs.Replaced.{new_table, replaced}
 use Rattle.document_protection.specs.Protected.{ArePartsOf, AreProtected, HasNone}
 use Rattle.document_protection.proofs.Parts.{AreApart, are_apart, are_protected, few, none, none_for, one_each}
 use Rattle.document_protection.proofs.Parts.{replaced_is_taken, some, start_forbidden, version_back}

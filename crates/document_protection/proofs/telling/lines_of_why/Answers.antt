@@ -1,6 +1,6 @@
 use Rattle.std.proofs.Common.{List, length, subst, sym}
 use Rattle.forbidden_states.specs.Forbid.{Stay}
-use Rattle.layout_json.specs.Doc.{table_at}
+use Rattle.document_json.specs.Doc.{table_at}
 use Rattle.document_protection.specs.Protected.{AreLeft, HaveGuards}
 use Rattle.document_protection.proofs.Naming.{left_have_guards}
 use Rattle.document_protection.proofs.telling.lines_of_why.Goals as goal

@@ -1,7 +1,7 @@
 use Rattle.std.proofs.Common.{◌≡◌, ◌⊎◌, ◌∙◌, ap, sym, subst}
 use Rattle.std.specs.Prelude.{Ok, IfErr}
 use Rattle.std.proofs.lemmas.Result.{err_from_is_err_and}
-use Rattle.layout_json.specs.Reading.{doc_of}
+use Rattle.document_json.specs.Reading.{doc_of}
 use Rattle.live_header.specs.Journals.{IsBroken, LeadsTo}
 use Rattle.live_header.specs.Naming.{has_reports}
 use Rattle.live_header.specs.Opening.{RefusesHeader}

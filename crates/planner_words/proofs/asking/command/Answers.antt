@@ -1,4 +1,4 @@
-use Rattle.command_words.proofs.Leaves.{one_subcommand_more, all_subcommands}
+use Rattle.ats_words.proofs.Leaves.{one_subcommand_more, all_subcommands}
 use Rattle.planner_words.specs.Line.{shape_of, start}
 use Rattle.planner_words.proofs.asking.command.Goals as goal
 

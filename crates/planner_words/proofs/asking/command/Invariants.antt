@@ -1,6 +1,6 @@
 use Rattle.std.proofs.Common.{fold, take}
 use Rattle.clap.specs.Words.{with_subcommand}
-use Rattle.command_words.specs.Built.{IsBuiltAs}
+use Rattle.ats_words.specs.Built.{IsBuiltAs}
 use Rattle.planner_words.specs.Line.{shape_of, start}
 use Rattle.planner_words.proofs.asking.command.Given as goal
 

@@ -1,7 +1,7 @@
 use Rattle.std.proofs.Common.{◌∙◌, ap, rules}
 use Rattle.clap.specs.Simple.{shape_of_fields}
-use Rattle.command_words.specs.Built.{leaf}
-use Rattle.command_words.proofs.Leaves.{one_option_more}
+use Rattle.ats_words.specs.Built.{leaf}
+use Rattle.ats_words.proofs.Leaves.{one_option_more}
 use Rattle.planner_words.specs.Line.{rule_for}
 use Rattle.planner_words.proofs.asking.leaf.Goals as goal
 

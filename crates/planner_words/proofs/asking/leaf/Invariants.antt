@@ -1,5 +1,5 @@
 use Rattle.std.proofs.Common.{map, take}
-use Rattle.command_words.specs.Built.{IsSubcommand, leaf}
+use Rattle.ats_words.specs.Built.{IsSubcommand, leaf}
 use Rattle.planner_words.specs.Line.{rule_for}
 use Rattle.planner_words.proofs.asking.leaf.Given as goal
 

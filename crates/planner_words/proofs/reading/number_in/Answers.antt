@@ -2,7 +2,7 @@ use Rattle.std.proofs.Common.{◌∙◌, ap, Some}
 use Rattle.std.specs.Option.{option_map_or}
 use Rattle.clap.specs.Words.{found_of}
 use Rattle.clap.proofs.WalkLemmas.{first_value-rows}
-use Rattle.command_words.specs.Options.{number_between}
+use Rattle.ats_words.specs.Options.{number_between}
 use Rattle.planner_words.proofs.reading.number_in.Goals as goal
 
 pub returns-in-Some : goal.returns-in-Some

@@ -1,5 +1,5 @@
 use Rattle.std.proofs.Common.{◌≡◌, ◌∙◌}
-use Rattle.layout_json.specs.Doc.{offers_of}
+use Rattle.document_json.specs.Doc.{offers_of}
 use Rattle.run_sentences.proofs.Offers.{are_tables, legal_at_first}
 use Rattle.run_orders.proofs.Fronts.{whole_of}
 use Rattle.run_orders.proofs.drawing.verified.Goals as goal

@@ -1,7 +1,7 @@
 use Rattle.std.proofs.Common.{map, sym, ap, ◌∙◌, subst}
-use Rattle.layout_json.specs.Doc.{Doc}
-use Rattle.layout_json.specs.Keeps.{IsTaken}
-use Rattle.layout_json.specs.Migrated.{IsMigrated}
+use Rattle.document_json.specs.Doc.{Doc}
+use Rattle.document_json.specs.Keeps.{IsTaken}
+use Rattle.document_json.specs.Migrated.{IsMigrated}
 use Rattle.run_orders.specs.RunOrdered.{HaveMore}
 use Rattle.run_orders.proofs.ordering.ordered_by_run.Goals as goal
 

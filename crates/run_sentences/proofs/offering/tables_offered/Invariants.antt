@@ -1,5 +1,5 @@
 use Rattle.std.proofs.Common.{◌≡◌, take}
-use Rattle.layout_json.specs.Doc.{offers_of}
+use Rattle.document_json.specs.Doc.{offers_of}
 use Rattle.run_sentences.proofs.offering.tables_offered.Given as goal
 
 abbrev pub invariant-loop-table : goal.invariant-loop-table

@@ -2,7 +2,7 @@ use Rattle.std.proofs.Common.{◌≡◌, ◌∙◌, List, map, sym, ap, subst}
 use Rattle.std.proofs.lemmas.Result.{IfOk-weaker}
 use Rattle.move_journal.specs.Printable.{ArePrintable}
 use Rattle.rail_model.specs.Names.{Names}
-use Rattle.layout_json.specs.Doc.{names_of}
+use Rattle.document_json.specs.Doc.{names_of}
 use Rattle.timed_reading.specs.Runs.{IsToldIn, TellsRun}
 use Rattle.timed_reading.specs.Told.{line_of, timed_text}
 use Rattle.timed_reading.specs.declared.ticks.Timed.{Timed}

@@ -1,6 +1,6 @@
 use Rattle.std.proofs.lemmas.List.Elements.{All-same}
 use Rattle.rail_model.specs.Yard.{opening}
-use Rattle.layout_json.specs.Doc.{names_of, times_of}
+use Rattle.document_json.specs.Doc.{names_of, times_of}
 use Rattle.timed_reading.specs.Runs.{IsStepIn}
 use Rattle.timed_reading.proofs.Ranges.{steps_in_range}
 use Rattle.timed_reading.proofs.reading.told_run.Goals as goal

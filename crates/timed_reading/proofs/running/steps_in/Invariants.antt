@@ -1,6 +1,6 @@
 use Rattle.std.proofs.Common.{◌≡◌, ◌++◌, drop}
 use Rattle.rail_model.specs.Yard.{opening}
-use Rattle.layout_json.specs.Doc.{times_of}
+use Rattle.document_json.specs.Doc.{times_of}
 use Rattle.timed_reading.specs.Runs.{steps_of}
 use Rattle.timed_reading.proofs.running.steps_in.Given as goal
 

@@ -1,5 +1,0 @@
-use Rattle.std.proofs.Common.{◌≡◌, take}
-use Rattle.layout_json.proofs.members.times.Given as goal
-
-abbrev pub invariant-loop-steps : goal.invariant-loop-steps
-invariant-loop-steps l = l.found.items ≡ take l.steps-index l.times
