@@ -1,5 +1,5 @@
-//! The program `planner`: its words, the standard streams, the file of `--before`, and progress on a terminal, handed to
-//! the calls of `planner_run`.
+//! The program `planner`: its words, the standard streams, the file of `--before` or `--journal`, and progress on a terminal,
+//! handed to the calls of `planner_run`.
 #![tactic(auto)]
 
 mod progress;
@@ -9,6 +9,7 @@ use ats_io::{Reading, Writing, read_all};
 use planner_run::{MOST_BYTES, Status, Stop, code, end_unread, serve, turn_down};
 use planner_words::{Order, words};
 use std::fs::File;
+use std::io::Read;
 use std::process::ExitCode;
 use std::{env, io};
 
@@ -27,9 +28,9 @@ fn content(rt: &HostRuntime, path: &str) -> Option<Vec<u8>> {
     read_all(rt.alloc(), &mut Reading::new(file), MOST_BYTES).ok()
 }
 
-// Answers an order that may have a former document.
-fn answer(rt: &HostRuntime, order: &Order<'_>, former: Option<&[u8]>) -> Status {
-    let mut source = Reading::new(rt.stdin());
+// Answers an order on what a reader has, and on a former document if there is one.
+fn answer<R: Read + Drop>(rt: &HostRuntime, order: &Order<'_>, former: Option<&[u8]>, input: R) -> Status {
+    let mut source = Reading::new(input);
     let mut out = Writing::new(rt.stdout());
     let mut err = Writing::new(rt.stderr());
     let progress = Progress::new(rt);
@@ -44,14 +45,45 @@ fn answer(rt: &HostRuntime, order: &Order<'_>, former: Option<&[u8]>) -> Status 
     )
 }
 
+// What is written between a document and the lines of a run.
+const JOURNAL: &[u8] = b"\njournal\n";
+
+// Answers an order that names a file with a former document.
+fn answer_with_former(rt: &HostRuntime, order: &Order<'_>, path: &str) -> Status {
+    match content(rt, path) {
+        Some(former) => answer(rt, order, Some(&former), rt.stdin()),
+        None => end_unread(Stop::Former, &mut Writing::new(rt.stderr())),
+    }
+}
+
+// Answers an order that names a file with the lines of a run: they stand behind the document of standard input.
+fn answer_with_journal(rt: &HostRuntime, order: &Order<'_>, path: &str) -> Status {
+    match content(rt, path) {
+        Some(lines) => {
+            let input = rt.stdin().chain(JOURNAL).chain(lines.as_slice());
+            answer(rt, order, None, input)
+        }
+        None => end_unread(Stop::Journal, &mut Writing::new(rt.stderr())),
+    }
+}
+
 // Answers an order, with the file that it names.
 fn answer_order(rt: &HostRuntime, order: &Order<'_>) -> Status {
-    let Order::Lint { before: Some(path) } = order else {
-        return answer(rt, order, None);
-    };
-    match content(rt, path) {
-        Some(former) => answer(rt, order, Some(&former)),
-        None => end_unread(Stop::File, &mut Writing::new(rt.stderr())),
+    match *order {
+        Order::Lint { before: Some(path) } => answer_with_former(rt, order, path),
+        Order::OrderByRun {
+            journal: Some(path),
+            ..
+        }
+        | Order::Timetable {
+            journal: Some(path),
+            ..
+        }
+        | Order::Graph {
+            journal: Some(path),
+            ..
+        } => answer_with_journal(rt, order, path),
+        _ => answer(rt, order, None, rt.stdin()),
     }
 }
 

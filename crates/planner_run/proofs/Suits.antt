@@ -34,11 +34,12 @@ ordering_answers former input (Remarks lines) holds = absurd holds
 ordering_answers former input (Noted text lines) holds = (tt, holds)
 ordering_answers former input (Wrong lines) holds = tt
 
-pub run_ordering_answers : (seed : ℕ) (former : Option (Bor (List ℕ))) (input : List ℕ) (a : Answer) → IsOrderingByRun input a → IsAnswerTo (OrderByRun seed) former input a
-run_ordering_answers seed former input (Text text) holds = absurd holds
-run_ordering_answers seed former input (Remarks lines) holds = absurd holds
-run_ordering_answers seed former input (Noted text lines) holds = (tt, holds)
-run_ordering_answers seed former input (Wrong lines) holds = tt
+pub run_ordering_answers : (seed : ℕ) (journal former : Option (Bor (List ℕ))) (input : List ℕ) (a : Answer) → IsOrderingByRun input a →
+    IsAnswerTo (OrderByRun seed journal) former input a
+run_ordering_answers seed journal former input (Text text) holds = absurd holds
+run_ordering_answers seed journal former input (Remarks lines) holds = absurd holds
+run_ordering_answers seed journal former input (Noted text lines) holds = (tt, holds)
+run_ordering_answers seed journal former input (Wrong lines) holds = tt
 
 pub protecting_answers : (budget : ℕ) (effort : Effort) (rounds : ℕ) (former : Option (Bor (List ℕ))) (input : List ℕ) (a : Answer) →
     IsProtecting input a → IsAnswerTo (Protect budget effort rounds) former input a

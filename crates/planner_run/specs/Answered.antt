@@ -169,9 +169,9 @@ IsTextFor (Lint before) former input text = HasNoRemarks former input text
 IsTextFor (Certify budget effort) former input text = IsCertifiedInput input budget text
 IsTextFor (Protect budget effort rounds) former input text = IsProtectedInput input text
 IsTextFor AddOrders former input text = IsOrderedInput input text
-IsTextFor (OrderByRun seed) former input text = IsInputByRun input text
-IsTextFor (Timetable csv) former input text = IsTimetableText input csv text
-IsTextFor (Graph train) former input text = IsGraphText input text
+IsTextFor (OrderByRun seed journal) former input text = IsInputByRun input text
+IsTextFor (Timetable csv journal) former input text = IsTimetableText input csv text
+IsTextFor (Graph train journal) former input text = IsGraphText input text
 IsTextFor (Layout table at) former input text = IsLayoutText input table.now at text
 
 -- The lines are what is wrong with an input for an order. Only of those of `certify` and `protect` anything is said.
@@ -183,9 +183,9 @@ AreWrongFor (ExplainState table at run) input lines = Unit {0}
 AreWrongFor (ExplainLine line) input lines = Unit {0}
 AreWrongFor (Lint before) input lines = Unit {0}
 AreWrongFor AddOrders input lines = Unit {0}
-AreWrongFor (OrderByRun seed) input lines = Unit {0}
-AreWrongFor (Timetable csv) input lines = Unit {0}
-AreWrongFor (Graph train) input lines = Unit {0}
+AreWrongFor (OrderByRun seed journal) input lines = Unit {0}
+AreWrongFor (Timetable csv journal) input lines = Unit {0}
+AreWrongFor (Graph train journal) input lines = Unit {0}
 AreWrongFor (Layout table at) input lines = Unit {0}
 
 -- What a sink took is the beginning of lines that say what is wrong with an input for an order.
@@ -203,23 +203,23 @@ AsksForRemarks (ExplainLine line) = ⊥
 AsksForRemarks (Certify budget effort) = ⊥
 AsksForRemarks (Protect budget effort rounds) = ⊥
 AsksForRemarks AddOrders = ⊥
-AsksForRemarks (OrderByRun seed) = ⊥
-AsksForRemarks (Timetable csv) = ⊥
-AsksForRemarks (Graph train) = ⊥
+AsksForRemarks (OrderByRun seed journal) = ⊥
+AsksForRemarks (Timetable csv journal) = ⊥
+AsksForRemarks (Graph train journal) = ⊥
 AsksForRemarks (Layout table at) = ⊥
 
 -- The order asks for a text with notes.
 abbrev pub AsksForNotes : Order → Type 0
 AsksForNotes (Protect budget effort rounds) = Unit {0}
 AsksForNotes AddOrders = Unit {0}
-AsksForNotes (OrderByRun seed) = Unit {0}
+AsksForNotes (OrderByRun seed journal) = Unit {0}
 AsksForNotes OfPlan = ⊥
 AsksForNotes (ExplainState table at run) = ⊥
 AsksForNotes (ExplainLine line) = ⊥
 AsksForNotes (Lint before) = ⊥
 AsksForNotes (Certify budget effort) = ⊥
-AsksForNotes (Timetable csv) = ⊥
-AsksForNotes (Graph train) = ⊥
+AsksForNotes (Timetable csv journal) = ⊥
+AsksForNotes (Graph train journal) = ⊥
 AsksForNotes (Layout table at) = ⊥
 
 -- The answer has no remarks and no notes, and where it is a text, this holds of it.

@@ -51,9 +51,9 @@ pub fn answer_to<W: Watcher>(
             rounds,
         } => protect(alloc, input, *budget, *effort, *rounds, watcher),
         Order::AddOrders => add_orders(alloc, input),
-        Order::OrderByRun { seed } => order_by_run(alloc, input, *seed),
-        Order::Timetable { csv } => timetable(alloc, input, *csv),
-        Order::Graph { train } => graph(alloc, input, *train),
+        Order::OrderByRun { seed, .. } => order_by_run(alloc, input, *seed),
+        Order::Timetable { csv, .. } => timetable(alloc, input, *csv),
+        Order::Graph { train, .. } => graph(alloc, input, *train),
         Order::Layout { table, at } => layout(alloc, input, table, *at),
     }
 }

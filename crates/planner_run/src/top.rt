@@ -33,7 +33,9 @@ pub enum Stop {
     /// The system gave no words: one of them isn't UTF-8, or there was no memory for them.
     Words,
     /// The file of a former document can't be read, or is too long.
-    File,
+    Former,
+    /// The file of a run can't be read, or is too long.
+    Journal,
 }
 
 /// The exit code of a status.
@@ -175,6 +177,7 @@ pub fn end_unread<E: Sink>(why: Stop, err: &mut E) -> Status
             err,
             "planner: the words of the command line can't be read\n",
         ),
-        Stop::File => failed(err, "planner: the file of --before can't be read\n"),
+        Stop::Former => failed(err, "planner: the file of --before can't be read\n"),
+        Stop::Journal => failed(err, "planner: the file of --journal can't be read\n"),
     }
 }

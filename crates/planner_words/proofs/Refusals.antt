@@ -59,9 +59,9 @@ none_explained given no_places no_line (Lint before) asked = differ _ _ refl ask
 none_explained given no_places no_line (Certify budget effort) asked = differ _ _ refl asked.0
 none_explained given no_places no_line (Protect budget effort rounds) asked = differ _ _ refl asked.0
 none_explained given no_places no_line AddOrders asked = differ _ _ refl asked.0
-none_explained given no_places no_line (OrderByRun seed) asked = differ _ _ refl asked.0
-none_explained given no_places no_line (Timetable csv) asked = differ _ _ refl asked.0
-none_explained given no_places no_line (Graph train) asked = differ _ _ refl asked.0
+none_explained given no_places no_line (OrderByRun seed journal) asked = differ _ _ refl asked.0
+none_explained given no_places no_line (Timetable csv journal) asked = differ _ _ refl asked.0
+none_explained given no_places no_line (Graph train journal) asked = differ _ _ refl asked.0
 none_explained given no_places no_line (Layout table at) asked = differ _ _ refl asked.0
 
 -- an order of the command `certify` has its values
@@ -73,9 +73,9 @@ asks_to_certify given (Lint before) asked = absurd (differ _ _ refl asked.0)
 asks_to_certify given (Certify budget effort) asked = record { nodes = budget; effort = effort; nodes_are = asked.1.0; effort_is = asked.1.1 }
 asks_to_certify given (Protect budget effort rounds) asked = absurd (differ _ _ refl asked.0)
 asks_to_certify given AddOrders asked = absurd (differ _ _ refl asked.0)
-asks_to_certify given (OrderByRun seed) asked = absurd (differ _ _ refl asked.0)
-asks_to_certify given (Timetable csv) asked = absurd (differ _ _ refl asked.0)
-asks_to_certify given (Graph train) asked = absurd (differ _ _ refl asked.0)
+asks_to_certify given (OrderByRun seed journal) asked = absurd (differ _ _ refl asked.0)
+asks_to_certify given (Timetable csv journal) asked = absurd (differ _ _ refl asked.0)
+asks_to_certify given (Graph train journal) asked = absurd (differ _ _ refl asked.0)
 asks_to_certify given (Layout table at) asked = absurd (differ _ _ refl asked.0)
 
 -- the command `certify` asks for nothing with a number that is no budget
@@ -98,9 +98,9 @@ asks_to_protect given (Certify budget effort) asked = absurd (differ _ _ refl as
 asks_to_protect given (Protect budget effort rounds) asked =
     record { nodes = budget; effort = effort; rounds = rounds; nodes_are = asked.1.0; rounds_are = asked.1.1; effort_is = asked.1.2 }
 asks_to_protect given AddOrders asked = absurd (differ _ _ refl asked.0)
-asks_to_protect given (OrderByRun seed) asked = absurd (differ _ _ refl asked.0)
-asks_to_protect given (Timetable csv) asked = absurd (differ _ _ refl asked.0)
-asks_to_protect given (Graph train) asked = absurd (differ _ _ refl asked.0)
+asks_to_protect given (OrderByRun seed journal) asked = absurd (differ _ _ refl asked.0)
+asks_to_protect given (Timetable csv journal) asked = absurd (differ _ _ refl asked.0)
+asks_to_protect given (Graph train journal) asked = absurd (differ _ _ refl asked.0)
 asks_to_protect given (Layout table at) asked = absurd (differ _ _ refl asked.0)
 
 -- the command `protect` asks for nothing with a number of nodes or of rounds that is out of range
@@ -127,13 +127,29 @@ none_ordered given word found none (ExplainLine line) asked = differ _ _ refl as
 none_ordered given word found none (Lint before) asked = differ _ _ refl asked.0
 none_ordered given word found none (Certify budget effort) asked = differ _ _ refl asked.0
 none_ordered given word found none (Protect budget effort rounds) asked = differ _ _ refl asked.0
-none_ordered given word found none AddOrders asked = let unnamed : None ≡ Some word = asked.1 ∙ sym found in cc
-none_ordered given word found none (OrderByRun seed) asked =
-    let number : number_of word ≡ Some seed = subst (λ o. IsSomeAnd o (λ w. number_of w ≡ Some seed)) (sym found) asked.1 in
+none_ordered given word found none AddOrders asked = let unnamed : None ≡ Some word = asked.1.0 ∙ sym found in cc
+none_ordered given word found none (OrderByRun seed journal) asked =
+    let number : number_of word ≡ Some seed = subst (λ o. IsSomeAnd o (λ w. number_of w ≡ Some seed)) (sym found) asked.1.0 in
     let both : Some seed ≡ None = sym number ∙ none in cc
-none_ordered given word found none (Timetable csv) asked = differ _ _ refl asked.0
-none_ordered given word found none (Graph train) asked = differ _ _ refl asked.0
+none_ordered given word found none (Timetable csv journal) asked = differ _ _ refl asked.0
+none_ordered given word found none (Graph train journal) asked = differ _ _ refl asked.0
 none_ordered given word found none (Layout table at) asked = differ _ _ refl asked.0
+
+-- nor with a journal and no number
+pub none_ordered_by : (given : List Row) (file : Text) → None ≡ first_of (codes "of-run") given → Some file ≡ first_of (codes "journal") given →
+    AsksForNone (Some (codes "order", given))
+none_ordered_by given file none found Plan asked = differ _ _ refl asked.0
+none_ordered_by given file none found (ExplainState table at run) asked = differ _ _ refl asked.0
+none_ordered_by given file none found (ExplainLine line) asked = differ _ _ refl asked.0
+none_ordered_by given file none found (Lint before) asked = differ _ _ refl asked.0
+none_ordered_by given file none found (Certify budget effort) asked = differ _ _ refl asked.0
+none_ordered_by given file none found (Protect budget effort rounds) asked = differ _ _ refl asked.0
+none_ordered_by given file none found AddOrders asked = let unnamed : None ≡ Some file = asked.1.1 ∙ sym found in cc
+none_ordered_by given file none found (OrderByRun seed journal) asked =
+    subst (λ o. IsSomeAnd o (λ w. number_of w ≡ Some seed)) (sym none) asked.1.0
+none_ordered_by given file none found (Timetable csv journal) asked = differ _ _ refl asked.0
+none_ordered_by given file none found (Graph train journal) asked = differ _ _ refl asked.0
+none_ordered_by given file none found (Layout table at) asked = differ _ _ refl asked.0
 
 -- a word that is none of the three is for no effort
 pub no_effort : (word : Text) → (word ≡ codes "small" → ⊥) → (word ≡ codes "usual" → ⊥) → (word ≡ codes "great" → ⊥) → (effort : Effort) → word ≡ word_of effort → ⊥

@@ -17,6 +17,11 @@ the_train : option_map (λ found. first_of (codes "train") found.1) (subcommand_
 unfolding clap_on_literals leaf
 the_train = refl
 
+-- The lines of a run are in a file where one is named.
+the_journals : map (λ line. option_map (λ found. first_of (codes "journal") found.1) (subcommand_of planner (words_of line))) (codes "graph" ∷ codes "timetable --journal runs" ∷ []) ≡ Some None ∷ Some (Some (codes "runs")) ∷ []
+unfolding clap_on_literals leaf
+the_journals = refl
+
 -- The table is the first one where none is named.
 the_tables : map (λ line. option_map (λ found. table_in found.1) (subcommand_of planner (words_of line))) (codes "layout" ∷ codes "explain --at 0,1 --table 2" ∷ []) ≡ Some (codes "0") ∷ Some (codes "2") ∷ []
 unfolding clap_on_literals leaf

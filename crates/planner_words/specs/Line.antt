@@ -57,10 +57,10 @@ abbrev pub protect : Shape
 protect = leaf (codes "protect") (valued (codes "budget") ∷ valued (codes "effort") ∷ valued (codes "rounds") ∷ [])
 
 abbrev pub timetable : Shape
-timetable = leaf (codes "timetable") (flag (codes "csv") ∷ [])
+timetable = leaf (codes "timetable") (flag (codes "csv") ∷ valued (codes "journal") ∷ [])
 
 abbrev pub graph : Shape
-graph = leaf (codes "graph") (valued (codes "train") ∷ [])
+graph = leaf (codes "graph") (valued (codes "train") ∷ valued (codes "journal") ∷ [])
 
 abbrev pub layout : Shape
 layout = leaf (codes "layout") (valued (codes "at") ∷ valued (codes "table") ∷ [])
@@ -70,7 +70,7 @@ abbrev pub documents : List Shape
 documents = plan ∷ explain ∷ lint ∷ []
 
 abbrev pub order : Shape
-order = leaf (codes "order") (valued (codes "of-run") ∷ [])
+order = leaf (codes "order") (valued (codes "of-run") ∷ valued (codes "journal") ∷ [])
 
 -- those that make something of a document
 abbrev pub makers : List Shape

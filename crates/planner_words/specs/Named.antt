@@ -1,4 +1,5 @@
 -- What each command is called, and what it has of the values of its options.
+use Rattle.std.specs.Borrow.{Bor}
 use Rattle.std.specs.Prelude.{◌≡◌, ℕ, Bool, true, false, List, codes, Option, Some, None, option_map, unwrap_or, IsSomeAnd}
 use Rattle.clap.specs.Words.{Row, Text, first_of, one_of, subcommand_of}
 use Rattle.planner_words.specs.declared.orders.Effort.{Effort}
@@ -18,9 +19,9 @@ name_of (Lint before) = codes "lint"
 name_of (Certify budget effort) = codes "certify"
 name_of (Protect budget effort rounds) = codes "protect"
 name_of AddOrders = codes "order"
-name_of (OrderByRun seed) = codes "order"
-name_of (Timetable csv) = codes "timetable"
-name_of (Graph train) = codes "graph"
+name_of (OrderByRun seed journal) = codes "order"
+name_of (Timetable csv journal) = codes "timetable"
+name_of (Graph train journal) = codes "graph"
 name_of (Layout table at) = codes "layout"
 
 -- the table that is named, or the first one
@@ -62,20 +63,26 @@ IsEffort None effort = effort ≡ Usual
 abbrev pub IsFlag : Option Text → Bool → Type 0
 IsFlag found flag = (found ≡ Some (codes "true") → flag ≡ true) × (found ≡ Some (codes "false") → flag ≡ false)
 
+-- The file is the one that is named for an option, and there is none where none is named.
+abbrev pub IsFile : Option Text → Option (Bor Text) → Type 0
+IsFile found file = option_map (λ s. s.now) file ≡ found
+
 -- The order has the values that clap found for the options of its command.
 abbrev pub HasValues : List Row → Order → Type 0
 HasValues given Plan = Unit {0}
 HasValues given (ExplainState table at run) =
     (table.now ≡ table_in given) × (Some at.now ≡ first_of (codes "at") given) × IsFlag (one_of (codes "run") given) run
 HasValues given (ExplainLine line) = (None ≡ first_of (codes "at") given) × (Some line.now ≡ first_of (codes "line") given)
-HasValues given (Lint before) = option_map (λ s. s.now) before ≡ first_of (codes "before") given
+HasValues given (Lint before) = IsFile (first_of (codes "before") given) before
 HasValues given (Protect budget effort made) =
     (nodes_in given ≡ Some budget) × (rounds_in given ≡ Some made) × IsEffort (first_of (codes "effort") given) effort
-HasValues given AddOrders = None ≡ first_of (codes "of-run") given
-HasValues given (OrderByRun seed) = IsSomeAnd (first_of (codes "of-run") given) (λ word. number_of word ≡ Some seed)
+HasValues given AddOrders = (None ≡ first_of (codes "of-run") given) × (None ≡ first_of (codes "journal") given)
+HasValues given (OrderByRun seed journal) =
+    IsSomeAnd (first_of (codes "of-run") given) (λ word. number_of word ≡ Some seed) × IsFile (first_of (codes "journal") given) journal
 HasValues given (Certify budget effort) = (budget_in given ≡ Some budget) × IsEffort (first_of (codes "effort") given) effort
-HasValues given (Timetable csv) = IsFlag (one_of (codes "csv") given) csv
-HasValues given (Graph train) = option_map (λ s. s.now) train ≡ first_of (codes "train") given
+HasValues given (Timetable csv journal) = IsFlag (one_of (codes "csv") given) csv × IsFile (first_of (codes "journal") given) journal
+HasValues given (Graph train journal) =
+    (option_map (λ s. s.now) train ≡ first_of (codes "train") given) × IsFile (first_of (codes "journal") given) journal
 HasValues given (Layout table at) = (table.now ≡ table_in given) × (option_map (λ s. s.now) at ≡ first_of (codes "at") given)
 
 -- The subcommand of this name, with what was found for its options, asks for the order.

@@ -104,6 +104,12 @@ const OF_RUN: Choice = Choice::Value {
     help: "The orders of one run: that of a journal behind the document, or one drawn from this number; with 0, trains near their ends go first",
 };
 
+const JOURNAL: Choice = Choice::Value {
+    name: "journal",
+    value: "FILE",
+    help: "The lines of the run, in a file: then standard input is the document alone",
+};
+
 const CSV: Choice = Choice::Flag {
     name: "csv",
     help: "With commas instead of columns",
@@ -157,17 +163,17 @@ const SUBCOMMANDS: [Subcommand; 9] = [
     Subcommand {
         name: "order",
         about: "Reads a document and writes it with sections for the order that its tracks force on trains",
-        choices: &[OF_RUN],
+        choices: &[OF_RUN, JOURNAL],
     },
     Subcommand {
         name: "timetable",
         about: "Reads a document, a line `journal` and what `ats sim` wrote; writes when each train arrives, leaves and waits",
-        choices: &[CSV],
+        choices: &[CSV, JOURNAL],
     },
     Subcommand {
         name: "graph",
         about: "Reads what `timetable` reads; writes a picture (SVG) of the trains over time",
-        choices: &[TRAIN],
+        choices: &[TRAIN, JOURNAL],
     },
     Subcommand {
         name: "layout",

@@ -40,17 +40,21 @@ pub enum Order<'a> {
     },
     /// Add sections to a document that keep trains in the order that its tracks force.
     AddOrders,
-    /// Add sections to a document that keep trains in the order of a run, which is given or drawn from a seed.
+    /// Add sections to a document that keep trains in the order of a run, which is given or drawn from a seed. The lines that
+    /// are given may be in a file.
     OrderByRun {
         seed: u32,
+        journal: Option<&'a str>,
     },
-    /// Write the timetable of a timed run, as columns or with commas.
+    /// Write the timetable of a timed run, whose lines may be in a file, as columns or with commas.
     Timetable {
         csv: bool,
+        journal: Option<&'a str>,
     },
-    /// Draw a timed run along the route of a train.
+    /// Draw a timed run, whose lines may be in a file, along the route of a train.
     Graph {
         train: Option<&'a str>,
+        journal: Option<&'a str>,
     },
     /// Draw the layout of a document, with its trains at the start of a table or at these positions.
     Layout {

@@ -28,6 +28,8 @@ const NO_SEARCHES: &str = "planner protect: --effort takes small, usual or great
 
 const NO_SEED: &str = "planner order: --of-run takes a number, 0 to 4294967295\n";
 
+const NO_RUN: &str = "planner order: --journal goes with --of-run\n";
+
 const MOST_NODES: u32 = 1_000_000;
 
 // The most nodes of a certificate that `protect` looks for, where none are named.
@@ -113,9 +115,11 @@ fn order_called<'a>(
         "order" => order_by(alloc, matches),
         "timetable" => Ok(Order::Timetable {
             csv: matches.get_flag("csv"),
+            journal: matches.get_str("journal"),
         }),
         "graph" => Ok(Order::Graph {
             train: matches.get_str("train"),
+            journal: matches.get_str("journal"),
         }),
         "layout" => Ok(Order::Layout {
             table: table_in(matches),
@@ -219,12 +223,13 @@ fn order_by<'a>(alloc: Global, matches: &ArgMatches<'a>) -> Result<Order<'a>, Wo
     ensures asked { IfOk result (λ order. AsksFor order (codes "order", rows_of (found_of matches.now))) }
     ensures answered { IfErr result (MissesNone (Some (codes "order", rows_of (found_of matches.now)))) }
 {
-    let Some(text) = matches.get_str("of-run") else {
-        return Ok(Order::AddOrders);
-    };
-    match number_of(text.as_bytes()) {
-        Some(seed) => Ok(Order::OrderByRun { seed }),
-        None => refused(alloc, NO_SEED),
+    match (matches.get_str("of-run"), matches.get_str("journal")) {
+        (Some(text), journal) => match number_of(text.as_bytes()) {
+            Some(seed) => Ok(Order::OrderByRun { seed, journal }),
+            None => refused(alloc, NO_SEED),
+        },
+        (None, None) => Ok(Order::AddOrders),
+        (None, Some(_)) => refused(alloc, NO_RUN),
     }
 }
 

@@ -8,11 +8,18 @@ returns-in-lint-clause-asked c = (search rules, c.get_str.ensures ∙ first_valu
 
 pub returns-in-timetable-clause-asked : goal.returns-in-timetable-clause-asked
 returns-in-timetable-clause-asked c =
-    let found = one_text-rows (found_of c.args.matches.now) (codes "csv") in
-    (search rules, (λ up. c.get_flag.ensures.value (found ∙ up), λ down. c.get_flag.ensures.other (found ∙ down)))
+    let found = one_text-rows (found_of c.args.matches.now) (codes "csv") in (
+      search rules,
+      (
+        (λ up. c.get_flag.ensures.value (found ∙ up), λ down. c.get_flag.ensures.other (found ∙ down)),
+        c.get_str-in-timetable.ensures ∙ first_value-rows (found_of c.args.matches.now) (codes "journal"),
+      ),
+    )
 
 pub returns-in-graph-clause-asked : goal.returns-in-graph-clause-asked
-returns-in-graph-clause-asked c = (search rules, c.get_str-in-graph.ensures ∙ first_value-rows (found_of c.args.matches.now) (codes "train"))
+returns-in-graph-clause-asked c =
+    let found = first_value-rows (found_of c.args.matches.now) in
+    (search rules, (c.get_str-in-graph.ensures ∙ found (codes "train"), c.get_str-in-graph-2.ensures ∙ found (codes "journal")))
 
 pub returns-in-layout-clause-asked : goal.returns-in-layout-clause-asked
 returns-in-layout-clause-asked c =
