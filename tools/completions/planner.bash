@@ -5,10 +5,11 @@ _planner() {
     COMPREPLY=($(compgen -W "plan explain lint certify protect order timetable graph layout --help --version" -- "$word"))
     return
   fi
-  if [ "${COMP_WORDS[COMP_CWORD-1]}" = --before ]; then
-    COMPREPLY=($(compgen -f -- "$word"))
-    return
-  fi
+  case ${COMP_WORDS[COMP_CWORD-1]} in
+    --before|--journal)
+      COMPREPLY=($(compgen -f -- "$word"))
+      return ;;
+  esac
   if [ "${COMP_WORDS[COMP_CWORD-1]}" = --effort ]; then
     COMPREPLY=($(compgen -W "small usual great" -- "$word"))
     return
@@ -18,9 +19,9 @@ _planner() {
     lint) options="--before" ;;
     certify) options="--budget --effort" ;;
     protect) options="--budget --effort --rounds" ;;
-    order) options="--of-run" ;;
-    timetable) options="--csv" ;;
-    graph) options="--train" ;;
+    order) options="--of-run --journal" ;;
+    timetable) options="--csv --journal" ;;
+    graph) options="--train --journal" ;;
     layout) options="--at --table" ;;
   esac
   COMPREPLY=($(compgen -W "$options --help" -- "$word"))

@@ -21,3 +21,4 @@ complete -c planner -f -n '__fish_seen_subcommand_from protect' -l rounds -x -d 
 complete -c planner -f -n '__fish_seen_subcommand_from order' -l of-run -x -d 'the orders of one run, given by a journal or drawn from a number'
 complete -c planner -f -n '__fish_seen_subcommand_from timetable' -l csv -d 'with commas instead of columns'
 complete -c planner -f -n '__fish_seen_subcommand_from graph' -l train -x -d 'the train whose route is the axis of places'
+complete -c planner -n '__fish_seen_subcommand_from order timetable graph' -l journal -r -d 'the lines of the run'
