@@ -13,7 +13,7 @@ use crate::receipts::Receipts;
 use crate::replies::Board;
 use crate::steps::{board_seat, join, look};
 use crate::views::Place;
-use crate::yard::{Control, Driver, Root, TurnRoom, Yard};
+use crate::yard::{Asker, Control, Driver, Root, TurnRoom, Yard};
 use move_claim::{Known, Owed};
 use std::alloc::Global;
 use std::marker::Brand;
@@ -91,14 +91,17 @@ impl<'a> Yard<'a> {
             return Err(Board::Memory);
         };
         let seat = seat_of(self, root, train);
-        Ok(Driver {
+        let asker = Asker {
             seat,
-            train,
-            position,
-            entries: 0,
             receipts,
             known,
             owed,
+        };
+        Ok(Driver {
+            asker,
+            train,
+            position,
+            entries: 0,
         })
     }
 
@@ -109,15 +112,12 @@ impl<'a> Yard<'a> {
         ensures { TakesBack root.old driver root.new }
     {
         let Driver {
-            seat,
+            asker,
             train,
             position: _position,
             entries: _entries,
-            receipts,
-            known: _known,
-            owed: _owed,
         } = driver;
-        take_back(self, root, seat, train, receipts);
+        take_back(self, root, asker.seat, train, asker.receipts);
     }
 
     /// The pass that tries tables, which boards once in a yard's life.

@@ -20,7 +20,7 @@ use crate::cells::{pay_all, read_all};
 use crate::receipts::{Receipts, enter_answer};
 use crate::steps::{read_table, word_of};
 use crate::views::Place;
-use crate::yard::Yard;
+use crate::yard::{Asker, Yard};
 use crate::zones::{HowToTake, release_all, zones};
 use ats_io::{Gate, Moment};
 use move_claim::{Cell, Claim, Footprint, Known, Owed};
@@ -176,33 +176,30 @@ fn holder_of(word: u64) -> u32
 // `None` where another table is in force.
 pub(crate) fn ask_once<T: HowToTake, G: Gate>(
     yard: &Yard<'_>,
-    seat: &mut Place,
-    receipts: &mut Receipts,
+    asker: &mut Asker,
     wanted: Wanted,
     footprint: &Footprint<'_>,
-    known: &mut Known,
-    owed: &mut Owed,
     how: &T,
     gate: &G,
 ) -> Option<Attempt>
-    requires ours { IsOurs yard.now seat.old.table_id seat.old.me.0 }
-    requires train { (wanted.train < 32) × (seat.old.me.0.number ≡ wanted.train) }
-    requires aboard { seat.old.me.0.aboard ≡ true }
-    requires idle { IsIdle seat.old.me.0.actor.position seat.old.me.0.actor }
+    requires ours { IsOurs yard.now asker.old.seat.table_id asker.old.seat.me.0 }
+    requires train { (wanted.train < 32) × (asker.old.seat.me.0.number ≡ wanted.train) }
+    requires aboard { asker.old.seat.me.0.aboard ≡ true }
+    requires idle { IsIdle asker.old.seat.me.0.actor.position asker.old.seat.me.0.actor }
     requires listed { wanted.table < length yard.now.setup.tables }
-    requires place { wanted.place ≡ seat.old.me.0.actor.position }
+    requires place { wanted.place ≡ asker.old.seat.me.0.actor.position }
     requires steps { (1 ≤ wanted.steps) × (wanted.steps ≤ 4) }
-    requires footprint { footprint.now ≡ needs yard.now.setup wanted seat.old.me.0.actor.position }
-    requires room { length seat.old.me.0.mine + wanted.steps ≤ yard.now.setup.calls }
-    requires lines { AreLines seat.old.me.0 receipts.old }
-    ensures same { (seat.new.table_id ≡ seat.old.table_id) × (seat.new.id ≡ seat.old.id) }
-    ensures lines { AreLines seat.new.me.0 receipts.new }
-    ensures attempts { Attempts seat.old.table_id wanted yard.now.setup.layout.zones footprint.now.zones seat.old.me result seat.new.me }
+    requires footprint { footprint.now ≡ needs yard.now.setup wanted asker.old.seat.me.0.actor.position }
+    requires room { length asker.old.seat.me.0.mine + wanted.steps ≤ yard.now.setup.calls }
+    requires lines { AreLines asker.old.seat.me.0 asker.old.receipts }
+    ensures same { (asker.new.seat.table_id ≡ asker.old.seat.table_id) × (asker.new.seat.id ≡ asker.old.seat.id) }
+    ensures lines { AreLines asker.new.seat.me.0 asker.new.receipts }
+    ensures attempts { Attempts asker.old.seat.table_id wanted yard.now.setup.layout.zones footprint.now.zones asker.old.seat.me result asker.new.seat.me }
     ensures waits { T.waits ≡ true → IfSome result FoundNoZoneHeld }
 {
     let needed = footprint.zones();
-    if let Some((zone, found)) = how.take_zones(yard, seat, wanted.train, needed) {
-        release_all(yard, seat, needed, zone);
+    if let Some((zone, found)) = how.take_zones(yard, &mut asker.seat, wanted.train, needed) {
+        release_all(yard, &mut asker.seat, needed, zone);
         if needed.first_from(0) != Some(zone) {
             gate.at(wanted.train, Moment::Released);
         }
@@ -210,19 +207,33 @@ pub(crate) fn ask_once<T: HowToTake, G: Gate>(
         return Some(Attempt::Busy { zone, holder });
     }
     gate.at(wanted.train, Moment::Taken);
-    if !know_all(yard, seat, wanted, footprint, known) {
-        release_all(yard, seat, needed, zones(yard));
+    if !know_all(yard, &mut asker.seat, wanted, footprint, &mut asker.known) {
+        release_all(yard, &mut asker.seat, needed, zones(yard));
         gate.at(wanted.train, Moment::Released);
         return None;
     }
     gate.at(wanted.train, Moment::Read);
-    let (answer, ticket) = enter(yard, seat, receipts, wanted, footprint, known);
+    let (answer, ticket) = enter(
+        yard,
+        &mut asker.seat,
+        &mut asker.receipts,
+        wanted,
+        footprint,
+        &asker.known,
+    );
     gate.at(wanted.train, Moment::Appended);
-    pay_due(yard, seat, footprint, known, owed, answer);
+    pay_due(
+        yard,
+        &mut asker.seat,
+        footprint,
+        &asker.known,
+        &mut asker.owed,
+        answer,
+    );
     if let BlockAsk::Yes = answer {
         gate.at(wanted.train, Moment::Paid);
     }
-    release_all(yard, seat, needed, zones(yard));
+    release_all(yard, &mut asker.seat, needed, zones(yard));
     gate.at(wanted.train, Moment::Released);
     Some(Attempt::Told {
         answer,

@@ -80,16 +80,22 @@ impl Model for Root {
     ghost invariant = { λ r. IsRoot r.boarded r.out r.seat.id r.seat.me.0 × AreLeft r.seat.me.0 r.lines.items };
 }
 
-/// The pass of a train. It has room for all numbers that a request reads and writes.
+/// Who asks for steps: its seat, the lines that it keeps, and room for all numbers that a request reads and writes.
 #[derive(Drop)]
-pub struct Driver {
+pub(crate) struct Asker {
     pub(crate) seat: Place,
-    pub(crate) train: u32,
-    pub(crate) position: u32,
-    pub(crate) entries: u32,
     pub(crate) receipts: Receipts,
     pub(crate) known: Known,
     pub(crate) owed: Owed,
+}
+
+/// The pass of a train.
+#[derive(Drop)]
+pub struct Driver {
+    pub(crate) asker: Asker,
+    pub(crate) train: u32,
+    pub(crate) position: u32,
+    pub(crate) entries: u32,
 }
 
 impl Model for Driver {
@@ -100,9 +106,9 @@ impl Model for Driver {
 
     ghost Value = { Pass };
 
-    ghost view = { λ d. pass_of d.seat.table_id d.seat.me.0 };
+    ghost view = { λ d. pass_of d.asker.seat.table_id d.asker.seat.me.0 };
 
-    ghost invariant = { λ d. IsDriver d.train d.position d.entries d.seat.me × AreLines d.seat.me.0 d.receipts };
+    ghost invariant = { λ d. IsDriver d.train d.position d.entries d.asker.seat.me × AreLines d.asker.seat.me.0 d.asker.receipts };
 }
 
 /// Room for what a try of the control reads and writes.
