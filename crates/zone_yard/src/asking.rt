@@ -30,15 +30,15 @@ pub(crate) fn ask_on<T: HowToTake, G: Gate>(
     how: &T,
     gate: &G,
 ) -> Attempt
-    requires ours { IsOurs yard.now asker.old.seat.table_id asker.old.seat.me.0 }
-    requires train { (claim.train < trains (offer yard.now.setup.tables 0).table) × (asker.old.seat.me.0.number ≡ claim.train) }
-    requires aboard { asker.old.seat.me.0.aboard ≡ true }
-    requires idle { IsIdle claim.place asker.old.seat.me.0.actor }
+    requires ours { IsOurs yard.now asker.old.seat.table_id asker.old.seat.me.view }
+    requires train { (claim.train < trains (offer yard.now.setup.tables 0).table) × (asker.old.seat.me.view.number ≡ claim.train) }
+    requires aboard { asker.old.seat.me.view.aboard ≡ true }
+    requires idle { IsIdle claim.place asker.old.seat.me.view.actor }
     requires steps { (1 ≤ claim.steps) × (claim.steps ≤ 4) }
-    requires room { length asker.old.seat.me.0.mine + claim.steps ≤ yard.now.setup.calls }
-    requires lines { AreLines asker.old.seat.me.0 asker.old.receipts }
+    requires room { length asker.old.seat.me.view.mine + claim.steps ≤ yard.now.setup.calls }
+    requires lines { AreLines asker.old.seat.me.view asker.old.receipts }
     ensures same { (asker.new.seat.table_id ≡ asker.old.seat.table_id) × (asker.new.seat.id ≡ asker.old.seat.id) }
-    ensures lines { AreLines asker.new.seat.me.0 asker.new.receipts }
+    ensures lines { AreLines asker.new.seat.me.view asker.new.receipts }
     ensures asks { Asks asker.old.seat.table_id claim.steps asker.old.seat.me result asker.new.seat.me }
     ensures waits { T.waits ≡ true → FoundNoZoneHeld result }
     ensures formed { IsSetup (core yard.now.setup) }

@@ -61,21 +61,21 @@ pub(crate) fn know_all(
     footprint: &Footprint<'_>,
     known: &mut Known,
 ) -> bool
-    requires ours { IsOurs yard.now seat.old.table_id seat.old.me.0 }
+    requires ours { IsOurs yard.now seat.old.table_id seat.old.me.view }
     requires train { wanted.train < 32 }
-    requires aboard { (seat.old.me.0.aboard ≡ true) × (seat.old.me.0.actor.closing ≡ false) }
+    requires aboard { (seat.old.me.view.aboard ≡ true) × (seat.old.me.view.actor.closing ≡ false) }
     requires listed { wanted.table < length yard.now.setup.tables }
     requires steps { wanted.steps ≤ 4 }
-    requires footprint { footprint.now ≡ needs yard.now.setup wanted seat.old.me.0.actor.position }
-    requires held { seat.old.me.0.actor.held ≡ span footprint.now.zones 0 yard.now.setup.layout.zones }
-    requires nothing { seat.old.me.0.actor.known ≡ [] }
+    requires footprint { footprint.now ≡ needs yard.now.setup wanted seat.old.me.view.actor.position }
+    requires held { seat.old.me.view.actor.held ≡ span footprint.now.zones 0 yard.now.setup.layout.zones }
+    requires nothing { seat.old.me.view.actor.known ≡ [] }
     ensures same { (seat.new.table_id ≡ seat.old.table_id) × (seat.new.id ≡ seat.old.id) }
     ensures learns { Learns seat.old.me seat.new.me }
-    ensures known { result ≡ true → (known.new ≡ seat.new.me.0.actor.known) × AreSmall footprint.now.table footprint.now.claim known.new }
+    ensures known { result ≡ true → (known.new ≡ seat.new.me.view.actor.known) × AreSmall footprint.now.table footprint.now.claim known.new }
     ensures table { result ≡ true → number_of TableCell known.new ≡ Some wanted.table }
     ensures cells { result ≡ true → first_unknown (cells_of footprint.now.table footprint.now.claim) known.new ≡ None }
-    ensures moved { result ≡ false → seat.new.me.0.noted ≢ wanted.table }
-    ensures some { seat.new.me.0.actor.held ≢ [] }
+    ensures moved { result ≡ false → seat.new.me.view.noted ≢ wanted.table }
+    ensures some { seat.new.me.view.actor.held ≢ [] }
 {
     let word = word_of(yard, Cell::Table);
     if read_table(yard, seat, word) != wanted.table as u64 {
@@ -96,30 +96,30 @@ pub(crate) fn enter(
     footprint: &Footprint<'_>,
     known: &Known,
 ) -> (BlockAsk, u64)
-    requires ours { IsOurs yard.now seat.old.table_id seat.old.me.0 }
-    requires train { (wanted.train < 32) × (seat.old.me.0.number ≡ wanted.train) }
-    requires aboard { (seat.old.me.0.aboard ≡ true) × (seat.old.me.0.actor.closing ≡ false) }
-    requires place { wanted.place ≡ seat.old.me.0.actor.position }
+    requires ours { IsOurs yard.now seat.old.table_id seat.old.me.view }
+    requires train { (wanted.train < 32) × (seat.old.me.view.number ≡ wanted.train) }
+    requires aboard { (seat.old.me.view.aboard ≡ true) × (seat.old.me.view.actor.closing ≡ false) }
+    requires place { wanted.place ≡ seat.old.me.view.actor.position }
     requires listed { wanted.table < length yard.now.setup.tables }
     requires steps { (1 ≤ wanted.steps) × (wanted.steps ≤ 4) }
-    requires footprint { footprint.now ≡ needs yard.now.setup wanted seat.old.me.0.actor.position }
-    requires known { (known.now ≡ seat.old.me.0.actor.known) × AreSmall footprint.now.table footprint.now.claim known.now }
+    requires footprint { footprint.now ≡ needs yard.now.setup wanted seat.old.me.view.actor.position }
+    requires known { (known.now ≡ seat.old.me.view.actor.known) × AreSmall footprint.now.table footprint.now.claim known.now }
     requires table { number_of TableCell known.now ≡ Some wanted.table }
     requires cells { first_unknown (cells_of footprint.now.table footprint.now.claim) known.now ≡ None }
-    requires held { seat.old.me.0.actor.held ≡ span footprint.now.zones 0 yard.now.setup.layout.zones }
-    requires room { length seat.old.me.0.mine + wanted.steps ≤ yard.now.setup.calls }
-    requires lines { AreLines seat.old.me.0 receipts.old }
+    requires held { seat.old.me.view.actor.held ≡ span footprint.now.zones 0 yard.now.setup.layout.zones }
+    requires room { length seat.old.me.view.mine + wanted.steps ≤ yard.now.setup.calls }
+    requires lines { AreLines seat.old.me.view receipts.old }
     ensures same { (seat.new.table_id ≡ seat.old.table_id) × (seat.new.id ≡ seat.old.id) }
-    ensures lines { AreLines seat.new.me.0 receipts.new }
+    ensures lines { AreLines seat.new.me.view receipts.new }
     ensures appends { Appends wanted.steps seat.old.me result.1 seat.new.me }
-    ensures told { new_entries wanted.steps seat.old.me.0 ≡ told wanted.train (replies_of footprint.now.claim.steps result.0) }
+    ensures told { new_entries wanted.steps seat.old.me.view ≡ told wanted.train (replies_of footprint.now.claim.steps result.0) }
     ensures answer { result.0 ≡ decided footprint.now.table footprint.now.claim (number_in known.now) }
     ensures can { CanAnswer footprint.now.claim.steps result.0 }
-    ensures owes { seat.new.me.0.actor.owed ≡ owing footprint.now.table footprint.now.claim (number_in known.now) result.0 }
-    ensures keeps { (seat.new.me.0.setup ≡ seat.old.me.0.setup) × (seat.new.me.0.aboard ≡ true) × (seat.new.me.0.actor.held ≡ seat.old.me.0.actor.held) }
-    ensures cells { AreCells (core yard.now.setup) seat.new.me.0.actor.owed }
-    ensures stands { seat.new.me.0.actor.position ≡ seat.old.me.0.actor.position + granted_steps footprint.now.claim.steps result.0 }
-    ensures stage { (seat.new.me.0.actor.stage ≡ seat.old.me.0.actor.stage) × (seat.new.me.1 ≡ seat.old.me.1) }
+    ensures owes { seat.new.me.view.actor.owed ≡ owing footprint.now.table footprint.now.claim (number_in known.now) result.0 }
+    ensures keeps { (seat.new.me.view.setup ≡ seat.old.me.view.setup) × (seat.new.me.view.aboard ≡ true) × (seat.new.me.view.actor.held ≡ seat.old.me.view.actor.held) }
+    ensures cells { AreCells (core yard.now.setup) seat.new.me.view.actor.owed }
+    ensures stands { seat.new.me.view.actor.position ≡ seat.old.me.view.actor.position + granted_steps footprint.now.claim.steps result.0 }
+    ensures stage { (seat.new.me.view.actor.stage ≡ seat.old.me.view.actor.stage) × (seat.new.me.slots ≡ seat.old.me.slots) }
 {
     let answer = footprint.decide_block(known);
     let claim = Claim {
@@ -148,13 +148,13 @@ pub(crate) fn pay_due(
     owed: &mut Owed,
     answer: BlockAsk,
 )
-    requires ours { IsOurs yard.now seat.old.table_id seat.old.me.0 }
-    requires aboard { seat.old.me.0.aboard ≡ true }
+    requires ours { IsOurs yard.now seat.old.table_id seat.old.me.view }
+    requires aboard { seat.old.me.view.aboard ≡ true }
     requires known { AreSmall footprint.now.table footprint.now.claim known.now }
     requires answer { answer ≡ decided footprint.now.table footprint.now.claim (number_in known.now) }
-    requires owes { seat.old.me.0.actor.owed ≡ owing footprint.now.table footprint.now.claim (number_in known.now) answer }
-    requires once { AreDistinct seat.old.me.0.actor.owed }
-    requires cells { AreCells (core yard.now.setup) seat.old.me.0.actor.owed }
+    requires owes { seat.old.me.view.actor.owed ≡ owing footprint.now.table footprint.now.claim (number_in known.now) answer }
+    requires once { AreDistinct seat.old.me.view.actor.owed }
+    requires cells { AreCells (core yard.now.setup) seat.old.me.view.actor.owed }
     ensures same { (seat.new.table_id ≡ seat.old.table_id) × (seat.new.id ≡ seat.old.id) }
     ensures pays { StillOwes seat.old.me [] seat.new.me }
 {
@@ -182,18 +182,18 @@ pub(crate) fn ask_once<T: HowToTake, G: Gate>(
     how: &T,
     gate: &G,
 ) -> Option<Attempt>
-    requires ours { IsOurs yard.now asker.old.seat.table_id asker.old.seat.me.0 }
-    requires train { (wanted.train < 32) × (asker.old.seat.me.0.number ≡ wanted.train) }
-    requires aboard { asker.old.seat.me.0.aboard ≡ true }
-    requires idle { IsIdle asker.old.seat.me.0.actor.position asker.old.seat.me.0.actor }
+    requires ours { IsOurs yard.now asker.old.seat.table_id asker.old.seat.me.view }
+    requires train { (wanted.train < 32) × (asker.old.seat.me.view.number ≡ wanted.train) }
+    requires aboard { asker.old.seat.me.view.aboard ≡ true }
+    requires idle { IsIdle asker.old.seat.me.view.actor.position asker.old.seat.me.view.actor }
     requires listed { wanted.table < length yard.now.setup.tables }
-    requires place { wanted.place ≡ asker.old.seat.me.0.actor.position }
+    requires place { wanted.place ≡ asker.old.seat.me.view.actor.position }
     requires steps { (1 ≤ wanted.steps) × (wanted.steps ≤ 4) }
-    requires footprint { footprint.now ≡ needs yard.now.setup wanted asker.old.seat.me.0.actor.position }
-    requires room { length asker.old.seat.me.0.mine + wanted.steps ≤ yard.now.setup.calls }
-    requires lines { AreLines asker.old.seat.me.0 asker.old.receipts }
+    requires footprint { footprint.now ≡ needs yard.now.setup wanted asker.old.seat.me.view.actor.position }
+    requires room { length asker.old.seat.me.view.mine + wanted.steps ≤ yard.now.setup.calls }
+    requires lines { AreLines asker.old.seat.me.view asker.old.receipts }
     ensures same { (asker.new.seat.table_id ≡ asker.old.seat.table_id) × (asker.new.seat.id ≡ asker.old.seat.id) }
-    ensures lines { AreLines asker.new.seat.me.0 asker.new.receipts }
+    ensures lines { AreLines asker.new.seat.me.view asker.new.receipts }
     ensures attempts { Attempts asker.old.seat.table_id wanted yard.now.setup.layout.zones footprint.now.zones asker.old.seat.me result asker.new.seat.me }
     ensures waits { T.waits ≡ true → IfSome result FoundNoZoneHeld }
 {

@@ -75,9 +75,9 @@ impl Model for Root {
 
     ghost Value = { RootValue };
 
-    ghost view = { λ r. root_of r.seat.table_id r.seat.me.0 };
+    ghost view = { λ r. root_of r.seat.table_id r.seat.me.view };
 
-    ghost invariant = { λ r. IsRoot r.boarded r.out r.seat.id r.seat.me.0 × AreLeft r.seat.me.0 r.lines.items };
+    ghost invariant = { λ r. IsRoot r.boarded r.out r.seat.id r.seat.me.view × AreLeft r.seat.me.view r.lines.items };
 }
 
 /// Who asks for steps: its seat, the lines that it keeps, and room for all numbers that a request reads and writes.
@@ -106,9 +106,9 @@ impl Model for Driver {
 
     ghost Value = { Pass };
 
-    ghost view = { λ d. pass_of d.asker.seat.table_id d.asker.seat.me.0 };
+    ghost view = { λ d. pass_of d.asker.seat.table_id d.asker.seat.me.view };
 
-    ghost invariant = { λ d. IsDriver d.train d.position d.entries d.asker.seat.me × AreLines d.asker.seat.me.0 d.asker.receipts };
+    ghost invariant = { λ d. IsDriver d.train d.position d.entries d.asker.seat.me × AreLines d.asker.seat.me.view d.asker.receipts };
 }
 
 /// Room for what a try of the control reads and writes.
@@ -152,9 +152,9 @@ impl Model for Control {
 
     ghost Value = { Pass };
 
-    ghost view = { λ c. pass_of c.seat.table_id c.seat.me.0 };
+    ghost view = { λ c. pass_of c.seat.table_id c.seat.me.view };
 
-    ghost invariant = { λ c. IsControl c.tried c.entries c.room.positions c.seat.me × AreLines c.seat.me.0 c.receipts };
+    ghost invariant = { λ c. IsControl c.tried c.entries c.room.positions c.seat.me × AreLines c.seat.me.view c.receipts };
 }
 
 impl Root {

@@ -1,8 +1,8 @@
 use Rattle.std.proofs.Common.{◌≡◌, ◌∙◌, ℕ, List, refl, sym, ap, subst}
 use Rattle.move_claim.specs.declared.cells.Cell.TheVariants.{Table as TableCell}
 use Rattle.move_claim.specs.Cells.{number_of}
+use Rattle.zone_yard.specs.Views.{Seat}
 use Rattle.zone_yard.specs.Holding.{span}
-use Rattle.zone_yard.specs.Tells.{Sat}
 use Rattle.zone_yard.specs.Attempts.{RefusesZone, IsToldBlock}
 use Rattle.zone_yard.proofs.Attempted.{moves_back, refused_back, told_back}
 use Rattle.zone_yard.proofs.requests.ask_once.Goals as goal
@@ -10,8 +10,8 @@ use Rattle.zone_yard.proofs.requests.ask_once.Goals as goal
 pub returns-in-Some-clause-attempts : goal.returns-in-Some-clause-attempts
 returns-in-Some-clause-attempts g c =
     let zones = c.args.yard.now.setup.layout.zones in
-    let old : Sat = c.args.asker.now.seat.me in
-    let new : Sat = c.release_all.new.seat.me in
+    let old : Seat = c.args.asker.now.seat.me in
+    let new : Seat = c.release_all.new.seat.me in
     subst (λ (x : List ℕ × ℕ). RefusesZone zones x.0 old new c.in-Some.zone x.1) (λ i. (c.zones-needed.ensures i, sym c.holder_of-holder.ensures i))
     (refused_back zones c.zones-needed.result.now old c.take_zones.new.seat.me new c.in-Some.zone c.in-Some.found c.in-Some.ensures.takes c.release_all.ensures.frees)
 
