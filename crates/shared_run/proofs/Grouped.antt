@@ -11,10 +11,10 @@ use Rattle.std.proofs.lemmas.List.Elements.{All-weaker, All-push}
 use Rattle.zone_yard.specs.Setup.{SharedYard}
 use Rattle.zone_yard.specs.Passes.{Pass, Root}
 use Rattle.zone_yard.specs.Boarding.{fresh_root, boarded_pass}
-use Rattle.dispatch_workers.specs.declared.groups.Group.{Group}
-use Rattle.dispatch_workers.specs.declared.groups.Group.TheVariants.{Drivers}
-use Rattle.dispatch_workers.specs.Rounds.{AllOurs}
-use Rattle.dispatch_workers.specs.Groups.{IsOurGroup}
+use Rattle.shared_run.specs.declared.groups.Group.{Group}
+use Rattle.shared_run.specs.declared.groups.Group.TheVariants.{Drivers}
+use Rattle.shared_run.specs.Rounds.{AllOurs}
+use Rattle.shared_run.specs.Groups.{IsOurGroup}
 use Rattle.shared_run.specs.Boarding.{passes_of, passes_in, IsFresh, HaveBoarded, HasDrivers}
 use Rattle.shared_run.specs.Crews.{trains_of, dealt}
 use Rattle.shared_run.specs.Leaving.{HaveLeft}

@@ -16,9 +16,9 @@ use Rattle.zone_yard.specs.declared.replies.Turn.TheVariants as turn
 use Rattle.zone_yard.specs.Passes.{Pass, receipts_from, told}
 use Rattle.zone_yard.specs.Entering.{Enters}
 use Rattle.zone_yard.specs.Replies.{Replies, BlockReplies, Turns, IsGranted, steps_after}
-use Rattle.dispatch_workers.specs.declared.rounds.Round.{Round}
-use Rattle.dispatch_workers.specs.declared.rounds.Round.TheVariants.{One, Block, Halved}
-use Rattle.dispatch_workers.specs.Rounds.{GoesRound, AllGoRound, MakesRounds, MakesTurns}
+use Rattle.shared_run.specs.declared.rounds.Round.{Round}
+use Rattle.shared_run.specs.declared.rounds.Round.TheVariants.{One, Block, Halved}
+use Rattle.shared_run.specs.Rounds.{GoesRound, AllGoRound, MakesRounds, MakesTurns}
 use Rattle.shared_run.proofs.Lists.{zip_same, zip_then}
 
 -- It is the same pass, with at most this many entries more.

@@ -8,8 +8,8 @@ use Rattle.zone_yard.specs.Passes.{Pass, Root}
 use Rattle.zone_yard.specs.Boarding.{fresh_root, with_pass}
 use Rattle.zone_yard.proofs.Samples.{boarded, yes, one_zone, four_zones}
 use Rattle.zone_yard.proofs.Rows.{granted_after}
-use Rattle.dispatch_workers.specs.declared.groups.Group.TheVariants.{Control}
-use Rattle.dispatch_workers.specs.Rounds.{Worked}
+use Rattle.shared_run.specs.declared.groups.Group.TheVariants.{Control}
+use Rattle.shared_run.specs.Rounds.{Worked}
 use Rattle.shared_run.specs.Crews.{crew_of, IsCrew, trains_of, dealt}
 use Rattle.shared_run.specs.Shared.{fresh_pass, fresh_passes, IsRecorded, IsWorked, IsShared, IsAddedBy}
 use Rattle.shared_run.specs.Boarding.{onto, AreOnce, passes_in, IsFresh, HaveBoarded, AreAshore, IsControlGroup}

@@ -20,9 +20,9 @@ use Rattle.zone_yard.specs.Entering.{Enters}
 use Rattle.zone_yard.specs.Replies.{Replies, BlockReplies, IsGranted, IsUnhindered, steps_after}
 use Rattle.zone_yard.proofs.Samples.{layout_of, table_of, yard_of, boarded, grant, yes}
 use Rattle.zone_yard.proofs.Rows.{goes, enters}
-use Rattle.dispatch_workers.specs.declared.rounds.Round.{Round}
-use Rattle.dispatch_workers.specs.declared.rounds.Round.TheVariants.{One, Block, Halved}
-use Rattle.dispatch_workers.specs.Rounds.{GoesRound, AllGoRound, MakesRounds, HasFinished, EndsAtFirst, Worked}
+use Rattle.shared_run.specs.declared.rounds.Round.{Round}
+use Rattle.shared_run.specs.declared.rounds.Round.TheVariants.{One, Block, Halved}
+use Rattle.shared_run.specs.Rounds.{GoesRound, AllGoRound, MakesRounds, HasFinished, EndsAtFirst, Worked}
 use Rattle.shared_run.specs.Crews.{crew_of}
 use Rattle.shared_run.specs.Shared.{IsRecorded, IsWorked}
 

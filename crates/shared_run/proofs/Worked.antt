@@ -10,11 +10,11 @@ use Rattle.zone_yard.specs.Setup.{SharedYard, most_passes, state_after, IsLegalH
 use Rattle.zone_yard.specs.Passes.{Pass, Root, done_of}
 use Rattle.zone_yard.specs.Entering.{HasRoom}
 use Rattle.zone_yard.specs.Boarding.{fresh_root, Closes}
-use Rattle.dispatch_workers.specs.declared.groups.Group.{Group}
-use Rattle.dispatch_workers.specs.declared.groups.Group.TheVariants.{Drivers, Control}
-use Rattle.dispatch_workers.specs.Rounds.{HasFinished, IsLastTurn, Worked, Turned}
-use Rattle.dispatch_workers.specs.Groups.{GroupWorked}
-use Rattle.dispatch_workers.proofs.Ended.{ended_within}
+use Rattle.shared_run.specs.declared.groups.Group.{Group}
+use Rattle.shared_run.specs.declared.groups.Group.TheVariants.{Drivers, Control}
+use Rattle.shared_run.specs.Rounds.{HasFinished, IsLastTurn, Worked, Turned}
+use Rattle.shared_run.specs.Groups.{GroupWorked}
+use Rattle.shared_run.proofs.Ended.{ended_within}
 use Rattle.shared_run.specs.declared.crews.Crew.{Crew}
 use Rattle.shared_run.specs.Crews.{IsCrew}
 use Rattle.shared_run.specs.Shared.{fresh_pass, fresh_passes, IsRecorded, IsWorkedTo}

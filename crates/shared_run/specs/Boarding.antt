@@ -5,8 +5,8 @@ use Rattle.rail_model.specs.Yard.{control as control_number}
 use Rattle.zone_locks.specs.Zones.{has}
 use Rattle.zone_yard.specs.Setup.{SharedYard, most_passes}
 use Rattle.zone_yard.specs.Passes.{Pass, Root, HasBoarded}
-use Rattle.dispatch_workers.specs.declared.groups.Group.{Group}
-use Rattle.dispatch_workers.specs.declared.groups.Group.TheVariants.{Drivers, Control}
+use Rattle.shared_run.specs.declared.groups.Group.{Group}
+use Rattle.shared_run.specs.declared.groups.Group.TheVariants.{Drivers, Control}
 use Rattle.shared_run.specs.Shared.{fresh_pass, fresh_passes}
 
 -- the second list with the items of the first put before it one by one

@@ -4,7 +4,7 @@ use Rattle.rail_model.specs.Yard.{control as control_number}
 use Rattle.zone_yard.specs.Setup.{SharedYard, most_passes}
 use Rattle.zone_yard.specs.Passes.{Pass, Root, Receipt, StartsWith, done_of}
 use Rattle.zone_yard.specs.Entering.{HasRoom}
-use Rattle.dispatch_workers.specs.Rounds.{Worked, Turned}
+use Rattle.shared_run.specs.Rounds.{Worked, Turned}
 use Rattle.shared_run.specs.declared.crews.Crew.{Crew}
 use Rattle.shared_run.specs.Boarding.{onto}
 use Rattle.shared_run.specs.Shared.{fresh_pass, fresh_passes}

@@ -12,7 +12,7 @@ use Rattle.zone_yard.specs.Setup.{Setup, SharedYard, state_after, IsLegalHistory
 use Rattle.zone_yard.specs.Passes.{Pass, StartsWith, entries_of}
 use Rattle.zone_yard.specs.Entering.{HasRoom}
 use Rattle.zone_yard.specs.Boarding.{fresh_root, boarded_pass}
-use Rattle.dispatch_workers.specs.Rounds.{Worked, Turned}
+use Rattle.shared_run.specs.Rounds.{Worked, Turned}
 use Rattle.shared_run.specs.declared.crews.Crew.{Crew}
 use Rattle.shared_run.specs.Crews.{trains_of, dealt}
 

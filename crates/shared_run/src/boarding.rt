@@ -2,11 +2,11 @@
 ghost use Rattle.std.specs.Prelude.{◌≡◌, ◌+◌, ◌≤◌, ◌<◌, [], map, All, OnOk, vec_len};
 ghost use Rattle.std.specs.Vec.{vec_capacity};
 ghost use Rattle.zone_yard.specs.Boarding.{fresh_root, boarded_pass};
-ghost use Rattle.dispatch_workers.specs.Groups.{IsOurGroup};
+ghost use Rattle.shared_run.specs.Groups.{IsOurGroup};
 ghost use Rattle.shared_run.specs.Boarding.{HaveBoarded, AreAshore, AreDealt, passes_in};
 ghost use Rattle.shared_run.specs.Crews.{trains_of, dealt};
 
-use dispatch_workers::Group;
+use crate::groups::Group;
 use std::alloc::{AllocError, Global};
 use zone_yard::{Board, Driver, Root, Yard};
 

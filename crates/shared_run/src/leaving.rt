@@ -1,11 +1,11 @@
 // Groups leave.
 ghost use Rattle.std.specs.Prelude.{◌≡◌, All};
-ghost use Rattle.dispatch_workers.specs.Rounds.{AllOurs};
-ghost use Rattle.dispatch_workers.specs.Groups.{IsOurGroup};
+ghost use Rattle.shared_run.specs.Rounds.{AllOurs};
+ghost use Rattle.shared_run.specs.Groups.{IsOurGroup};
 ghost use Rattle.shared_run.specs.Boarding.{passes_of, passes_in};
 ghost use Rattle.shared_run.specs.Leaving.{HaveLeft};
 
-use dispatch_workers::Group;
+use crate::groups::Group;
 use zone_yard::{Driver, Root, Yard};
 
 // All drivers leave, in order.

@@ -3,7 +3,9 @@
 
 mod boarding;
 mod crews;
+mod groups;
 mod leaving;
+mod rounds;
 mod working;
 
 pub use crews::Crew;

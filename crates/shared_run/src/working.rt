@@ -3,17 +3,17 @@ ghost use Rattle.std.specs.Prelude.{◌≡◌, ◌≤◌, ◌<◌, All, OnOk, If
 ghost use Rattle.std.specs.List.{AllZip};
 ghost use Rattle.zone_yard.specs.Setup.{IsSetup};
 ghost use Rattle.zone_yard.specs.Boarding.{fresh_root};
-ghost use Rattle.dispatch_workers.specs.Groups.{IsOurGroup, GroupWorked};
+ghost use Rattle.shared_run.specs.Groups.{IsOurGroup, GroupWorked};
 ghost use Rattle.shared_run.specs.Crews.{IsCrew, trains_of};
 ghost use Rattle.shared_run.specs.Leaving.{HasWorked};
 ghost use Rattle.shared_run.specs.Shared.{IsWorkedTo, setup};
 
 use crate::Crew;
 use crate::boarding::board_all;
+use crate::groups::{Group, run_groups};
 use crate::leaving::leave_all;
 use ats_io::Gate;
 use cert_checker::Accepted;
-use dispatch_workers::{Group, run_groups};
 use rail_model::{Layout, PlainState, trains_of};
 use std::alloc::{AllocError, Global};
 use std::sync::Wait;

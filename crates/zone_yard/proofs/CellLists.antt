@@ -6,8 +6,7 @@ use Rattle.move_claim.specs.Cells.{same_cell, number_of, put, without_cell, firs
 use Rattle.zone_machine.specs.World.{Setup as CoreSetup, is_cell}
 use Rattle.zone_machine.proofs.OwnSteps.{same_self, cells, number_of-put_same, number_of-put_other}
 use Rattle.zone_machine.proofs.Places.{same_some}
-use Rattle.zone_yard.specs.Views.{read, paid}
-use Rattle.zone_yard.specs.Tells.{Sat}
+use Rattle.zone_yard.specs.Views.{read, paid, Seat}
 use Rattle.zone_yard.specs.Holding.{AreAllSmall, Knows, StillOwes, AreCells}
 
 pub put-length : (c : Cell) (n : ℕ) (xs : List (Cell × ℕ)) → length (put c n xs) ≤ suc (length xs)
@@ -64,12 +63,12 @@ paid_first [] k d distinct lt = absurd (omega arith)
 paid_first (x ∷ xs) zero d distinct lt = rw (same_self x.0) (without_absent x.0 xs distinct.0)
 paid_first (x ∷ xs) (suc k) d distinct lt = paid_first xs k d distinct.1 (omega arith)
 
-pub pays_next : (owed : List (Cell × ℕ)) (k : ℕ) (d : Cell × ℕ) (old l new : Sat) → AreDistinct owed → k < length owed → StillOwes old (drop k owed) l → new ≡ (paid (get_or owed k d).0 l.0, l.1)
+pub pays_next : (owed : List (Cell × ℕ)) (k : ℕ) (d : Cell × ℕ) (old l new : Seat) → AreDistinct owed → k < length owed → StillOwes old (drop k owed) l → new ≡ record l { view = paid (get_or owed k d).0 l.view }
     → StillOwes old (drop (k + 1) owed) new
 pays_next owed k d old l new distinct lt p is =
-    is ∙ (ap (λ (m : Sat). (paid (get_or owed k d).0 m.0, m.1)) p
-    ∙ ap (λ (o : List (Cell × ℕ)). (record old.0 { actor = record old.0.actor { owed = o } }, old.1)) (paid_first owed k d distinct lt ∙ ap (λ n. drop n owed) (let e : suc k ≡ k + 1 = omega arith in e)))
+    is ∙ (ap (λ (m : Seat). record m { view = paid (get_or owed k d).0 m.view }) p
+    ∙ ap (λ (o : List (Cell × ℕ)). record old { view = record old.view { actor = record old.view.actor { owed = o } } }) (paid_first owed k d distinct lt ∙ ap (λ n. drop n owed) (let e : suc k ≡ k + 1 = omega arith in e)))
 
-pub knows_next : (c : Cell) (n : ℕ) (known more : List (Cell × ℕ)) (old l new : Sat) → Knows old l known → new ≡ (read c n l.0, l.1) → more ≡ put c n known → Knows old new more
+pub knows_next : (c : Cell) (n : ℕ) (known more : List (Cell × ℕ)) (old l new : Seat) → Knows old l known → new ≡ record l { view = read c n l.view } → more ≡ put c n known → Knows old new more
 knows_next c n known more old l new k is now =
-    is ∙ (ap (λ (m : Sat). (read c n m.0, m.1)) k ∙ ap (λ (o : List (Cell × ℕ)). (record old.0 { actor = record old.0.actor { known = o } }, old.1)) (sym now))
+    is ∙ (ap (λ (m : Seat). record m { view = read c n m.view }) k ∙ ap (λ (o : List (Cell × ℕ)). record old { view = record old.view { actor = record old.view.actor { known = o } } }) (sym now))

@@ -5,7 +5,7 @@ use Rattle.std.proofs.lemmas.List.{set-get_or}
 use Rattle.std.proofs.lemmas.Option.{slice_get-get_or}
 use mathlib.Core.Option.{none, some}
 use lib.ListN.{get_elem?}
-use Rattle.atomic_table.specs.Table.{step, keeps, stepped, Allows}
+use Rattle.atomic_table.specs.Table.{Me, step, keeps, stepped, Allows}
 use Rattle.table_exchange.proofs.Histories.{stands_history}
 use Rattle.move_claim.specs.declared.cells.Cell.{Cell}
 use Rattle.move_claim.specs.declared.cells.Cell.TheVariants.{Point, Count, Position, Table as TableCell}
@@ -19,9 +19,9 @@ use Rattle.zone_machine.specs.Steps.{step_of}
 use Rattle.zone_machine.proofs.Together.{step_sound}
 use Rattle.zone_machine.proofs.Words.{word_apart, cell_word}
 use Rattle.zone_yard.specs.Setup.{Setup, core}
-use Rattle.zone_yard.specs.Views.{View, glanced, read, read_table, paid}
+use Rattle.zone_yard.specs.Views.{View, glanced, read, read_table, paid, seat_of}
 use Rattle.zone_yard.specs.Kept.{KeepsRule}
-use Rattle.zone_yard.specs.Tells.{Sat, Glances, ReadsCell, ReadsInForce, PaysCell}
+use Rattle.zone_yard.specs.Tells.{Glances, ReadsCell, ReadsInForce, PaysCell}
 use Rattle.zone_yard.proofs.Apart.{found_apart}
 use Rattle.zone_yard.proofs.Keeps.{St, own_keeps, Stays}
 
@@ -59,8 +59,8 @@ load_keeps S s k id i j v v' c is at aboard stays stage noted sound =
     (subst (λ x. word (core S) w TableCell ≤ word (core S) x TableCell) same (omega arith))
     (subst (λ x. v'.noted ≤ word (core S) x TableCell) same noted))
 
-pub glance_allows : (S : Setup) → (slots id i : ℕ) (me : Sat) → i ≡ 8 * word_of (core S) TableCell → me.0.aboard ≡ true → me.0.actor.held ≡ []
-    → Allows (KeepsRule S) slots id me i (λ n. n) (Glances (step slots i 0 0 none) me)
+pub glance_allows : (S : Setup) → (slots id i : ℕ) (me : Me (Unit {0}) View) → i ≡ 8 * word_of (core S) TableCell → me.0.aboard ≡ true → me.0.actor.held ≡ []
+    → Allows (KeepsRule S) slots id me i (λ n. n) (λ found after. Glances (step slots i 0 0 none) (seat_of me) found (seat_of after))
 glance_allows S slots id i me is aboard free s k _ at _ =
     let v : View = me.0 in
     let w : World = k.world in
@@ -82,8 +82,8 @@ glance_allows S slots id i me is aboard free s k _ at _ =
     )
 
 -- the table in force is read under a zone
-pub read_table_allows : (S : Setup) → (slots id i : ℕ) (me : Sat) → i ≡ 8 * word_of (core S) TableCell → me.0.aboard ≡ true → me.0.actor.closing ≡ false
-    → may_read (core S) me.0.actor.held TableCell ≡ true → Allows (KeepsRule S) slots id me i (λ n. n) (ReadsInForce (step slots i 0 0 none) me)
+pub read_table_allows : (S : Setup) → (slots id i : ℕ) (me : Me (Unit {0}) View) → i ≡ 8 * word_of (core S) TableCell → me.0.aboard ≡ true → me.0.actor.closing ≡ false
+    → may_read (core S) me.0.actor.held TableCell ≡ true → Allows (KeepsRule S) slots id me i (λ n. n) (λ found after. ReadsInForce (step slots i 0 0 none) (seat_of me) found (seat_of after))
 read_table_allows S slots id i me is aboard still guard s k _ at _ =
     let v : View = me.0 in
     let w : World = k.world in
@@ -105,8 +105,8 @@ read_table_allows S slots id i me is aboard still guard s k _ at _ =
     )
 
 -- a cell is read under its guard
-pub read_allows : (S : Setup) → (slots id i : ℕ) (c : Cell) (me : Sat) → i ≡ 8 * word_of (core S) c → me.0.aboard ≡ true → me.0.actor.closing ≡ false
-    → is_cell (core S) c ≡ true → may_read (core S) me.0.actor.held c ≡ true → Allows (KeepsRule S) slots id me i (λ n. n) (ReadsCell c me)
+pub read_allows : (S : Setup) → (slots id i : ℕ) (c : Cell) (me : Me (Unit {0}) View) → i ≡ 8 * word_of (core S) c → me.0.aboard ≡ true → me.0.actor.closing ≡ false
+    → is_cell (core S) c ≡ true → may_read (core S) me.0.actor.held c ≡ true → Allows (KeepsRule S) slots id me i (λ n. n) (λ found after. ReadsCell c (seat_of me) found (seat_of after))
 read_allows S slots id i c me is aboard still cell guard s k _ at _ =
     let v : View = me.0 in
     let w : World = k.world in
@@ -155,8 +155,8 @@ table_rises S w p n c a a' ok sound is low due =
     (table_or c)
 
 -- an owed cell is written
-pub pay_allows : (S : Setup) → (slots id i n : ℕ) (c : Cell) (me : Sat) → i ≡ 8 * word_of (core S) c → me.0.aboard ≡ true
-    → number_of c me.0.actor.owed ≡ Some n → Allows (KeepsRule S) slots id me i (λ _. n) (λ _. PaysCell c me)
+pub pay_allows : (S : Setup) → (slots id i n : ℕ) (c : Cell) (me : Me (Unit {0}) View) → i ≡ 8 * word_of (core S) c → me.0.aboard ≡ true
+    → number_of c me.0.actor.owed ≡ Some n → Allows (KeepsRule S) slots id me i (λ _. n) (λ _ after. PaysCell c (seat_of me) (seat_of after))
 pay_allows S slots id i n c me is aboard due s k _ at _ =
     let v : View = me.0 in
     let w : World = k.world in

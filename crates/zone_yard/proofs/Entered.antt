@@ -4,7 +4,7 @@ use Rattle.std.proofs.lemmas.List.{length-replicate}
 use Rattle.std.specs.Prelude.{slice_get, is_none}
 use mathlib.Core.Logic.{dite}
 use native.Mathlib.Decide.{ℕ_discrete}
-use Rattle.atomic_table.specs.Table.{step, keeps, stepped, Allows}
+use Rattle.atomic_table.specs.Table.{Me, step, keeps, stepped, Allows}
 use Rattle.rail_model.specs.declared.types.Ask.TheVariants.{Yes}
 use Rattle.rail_model.specs.declared.types.Reply.TheVariants.{Driver, Control}
 use Rattle.rail_model.specs.declared.types.Entry.{Entry}
@@ -33,9 +33,9 @@ use Rattle.zone_machine.proofs.Together.{step_sound}
 use Rattle.zone_yard.specs.Core.{MayEnter}
 use Rattle.zone_yard.specs.Setup.{Setup, core, most_passes, state_after, IsLegalHistory}
 use Rattle.zone_yard.specs.Passes.{StartsWith, entries_from, entries_of, receipts_from, standing}
-use Rattle.zone_yard.specs.Views.{View, new_entries, actor_after, entered}
+use Rattle.zone_yard.specs.Views.{View, new_entries, actor_after, entered, seat_of}
 use Rattle.zone_yard.specs.Kept.{KeepsRule, Fits, IsPassNumber}
-use Rattle.zone_yard.specs.Tells.{Sat, Appends}
+use Rattle.zone_yard.specs.Tells.{Appends}
 use Rattle.zone_yard.proofs.Apart.{found_apart, spread-set}
 use Rattle.zone_yard.proofs.Lists.{by_set, set_here, starts_itself, starts_on, same_of}
 use Rattle.zone_yard.proofs.Counts.{bounded}
@@ -140,8 +140,8 @@ told_ready S w p steps a ok s ready at e =
     is_told S ok w a s (ap (slice_get w.actors) (sym e) ∙ at) ready.still
     (find-none (λ c. is_none (number_of c a.known)) (cells S control a (known_table a) 1) TableCell known (inl refl)) held known (ready.more e)
 
-pub append_allows : (S : Setup) → (slots id k steps : ℕ) (me : Sat) → me.0.aboard ≡ true → k ≡ length (new_entries steps me.0) → MayEnter S steps me.0
-    → Allows (KeepsRule S) slots id me 0 (λ n. (n + k) % 2 ^ 64) (Appends steps me)
+pub append_allows : (S : Setup) → (slots id k steps : ℕ) (me : Me (Unit {0}) View) → me.0.aboard ≡ true → k ≡ length (new_entries steps me.0) → MayEnter S steps me.0
+    → Allows (KeepsRule S) slots id me 0 (λ n. (n + k) % 2 ^ 64) (λ found after. Appends steps (seat_of me) found (seat_of after))
 append_allows S slots id k steps me aboard count may s kept _ at _ =
     let v : View = me.0 in
     let w : World = kept.world in

@@ -9,41 +9,40 @@ use Rattle.zone_machine.specs.Steps.{still_known}
 use Rattle.zone_machine.proofs.Guards.{may_read-bare}
 use Rattle.zone_yard.specs.Setup.{core}
 use Rattle.zone_yard.specs.Passes.{Try, StartsWith}
-use Rattle.zone_yard.specs.Views.{took, gave}
-use Rattle.zone_yard.specs.Tells.{Sat}
+use Rattle.zone_yard.specs.Views.{took, gave, Seat}
 use Rattle.zone_yard.specs.Holding.{span, HoldsZones, GivesBack}
 use Rattle.zone_yard.proofs.Spans.{span_next, span_skip, given_back, not_needed}
 
 -- a zone is held besides
-pub takes_one : (z : ℕ) (held : List ℕ) (old l new : Sat) → HoldsZones old l held → new ≡ (took z l.0, l.1) → HoldsZones old new (held ++ z ∷ [])
+pub takes_one : (z : ℕ) (held : List ℕ) (old l new : Seat) → HoldsZones old l held → new ≡ record l { view = took z l.view } → HoldsZones old new (held ++ z ∷ [])
 takes_one z held old l new h is =
-    let t : Try = record { zone = z; found = 0; glanced = option_map_or (λ t. t) l.0.actor.glance 0 } in
-    let was : Sat = (record old.0 { tries = l.0.tries; actor = record old.0.actor { held = held } }, old.1) in
-    let at : new ≡ (took z was.0, was.1) = is ∙ ap (λ (m : Sat). (took z m.0, m.1)) h.now in
-    let tries = ap (λ (m : Sat). m.0.tries) at in
+    let t : Try = record { zone = z; found = 0; glanced = option_map_or (λ t. t) l.view.actor.glance 0 } in
+    let was : Seat = record old { view = record old.view { tries = l.view.tries; actor = record old.view.actor { held = held } } } in
+    let at : new ≡ record was { view = took z was.view } = is ∙ ap (λ (m : Seat). record m { view = took z m.view }) h.now in
+    let tries = ap (λ (m : Seat). m.view.tries) at in
     record {
-      tries = subst (λ (m : Sat). StartsWith m.0.tries old.0.tries) (sym is) (h.tries.0 ++ t ∷ [], ap (λ x. x ++ t ∷ []) h.tries.1 ∙ append_assoc old.0.tries h.tries.0 (t ∷ []));
-      now = at ∙ (λ i. (record old.0 { tries = sym tries i; actor = record old.0.actor { held = held ++ z ∷ [] } }, old.1));
+      tries = subst (λ (m : Seat). StartsWith m.view.tries old.view.tries) (sym is) (h.tries.0 ++ t ∷ [], ap (λ x. x ++ t ∷ []) h.tries.1 ∙ append_assoc old.view.tries h.tries.0 (t ∷ []));
+      now = at ∙ (λ i. record old { view = record old.view { tries = sym tries i; actor = record old.view.actor { held = held ++ z ∷ [] } } });
     }
 
 -- what is held after one row of tries, and then another
-pub holds_on : (held more : List ℕ) (old m new : Sat) → HoldsZones old m held → HoldsZones m new more → HoldsZones old new more
+pub holds_on : (held more : List ℕ) (old m new : Seat) → HoldsZones old m held → HoldsZones m new more → HoldsZones old new more
 holds_on held more old m new h k = record {
-  tries = (h.tries.0 ++ k.tries.0, k.tries.1 ∙ (ap (λ x. x ++ k.tries.0) h.tries.1 ∙ append_assoc old.0.tries h.tries.0 k.tries.0));
-  now = k.now ∙ ap (λ (x : Sat). (record x.0 { tries = new.0.tries; actor = record x.0.actor { held = more } }, x.1)) h.now;
+  tries = (h.tries.0 ++ k.tries.0, k.tries.1 ∙ (ap (λ x. x ++ k.tries.0) h.tries.1 ∙ append_assoc old.view.tries h.tries.0 k.tries.0));
+  now = k.now ∙ ap (λ (x : Seat). record x { view = record x.view { tries = new.view.tries; actor = record x.view.actor { held = more } } }) h.now;
 }
 
-pub takes_more : (needed : List ℕ) (z : ℕ) (old l new : Sat) → HoldsZones old l (span needed 0 z) → has z needed ≡ true → new ≡ (took z l.0, l.1) → HoldsZones old new (span needed 0 (z + 1))
+pub takes_more : (needed : List ℕ) (z : ℕ) (old l new : Seat) → HoldsZones old l (span needed 0 z) → has z needed ≡ true → new ≡ record l { view = took z l.view } → HoldsZones old new (span needed 0 (z + 1))
 takes_more needed z old l new h wanted is = subst (HoldsZones old new) (sym (span_next needed z wanted)) (takes_one z (span needed 0 z) old l new h is)
 
 -- a zone was waited for, which comes after those that are held
-pub waits_more : (needed : List ℕ) (z : ℕ) (old l new : Sat) → HoldsZones old l (span needed 0 z) → has z needed ≡ true → HoldsZones l new (l.0.actor.held ++ z ∷ [])
+pub waits_more : (needed : List ℕ) (z : ℕ) (old l new : Seat) → HoldsZones old l (span needed 0 z) → has z needed ≡ true → HoldsZones l new (l.view.actor.held ++ z ∷ [])
     → HoldsZones old new (span needed 0 (z + 1))
 waits_more needed z old l new h wanted k =
-    let held : l.0.actor.held ++ z ∷ [] ≡ span needed 0 (z + 1) = ap (λ (m : Sat). m.0.actor.held ++ z ∷ []) h.now ∙ sym (span_next needed z wanted) in
+    let held : l.view.actor.held ++ z ∷ [] ≡ span needed 0 (z + 1) = ap (λ (m : Seat). m.view.actor.held ++ z ∷ []) h.now ∙ sym (span_next needed z wanted) in
     holds_on (span needed 0 z) (span needed 0 (z + 1)) old l new h (subst (HoldsZones l new) held k)
 
-pub takes_none : (needed : List ℕ) (z : ℕ) (old l : Sat) → HoldsZones old l (span needed 0 z) → has z needed ≡ false → HoldsZones old l (span needed 0 (z + 1))
+pub takes_none : (needed : List ℕ) (z : ℕ) (old l : Seat) → HoldsZones old l (span needed 0 z) → has z needed ≡ false → HoldsZones old l (span needed 0 (z + 1))
 takes_none needed z old l h none = subst (HoldsZones old l) (sym (span_skip needed z none)) h
 
 -- without a zone nothing is known
@@ -55,31 +54,31 @@ forgets S p zones (x ∷ xs) = go (may_read S [] x.0) refl (forgets S p zones xs
     go true e later = absurd (may_read-bare S x.0 zones e)
     go false e later = later
 
-pub gives_more : (needed : List ℕ) (k top : ℕ) (old l new : Sat) → k < top → 0 < l.0.setup.layout.zones → has k needed ≡ true → GivesBack needed k top old l → new ≡ (gave k l.0, l.1)
+pub gives_more : (needed : List ℕ) (k top : ℕ) (old l new : Seat) → k < top → 0 < l.view.setup.layout.zones → has k needed ≡ true → GivesBack needed k top old l → new ≡ record l { view = gave k l.view }
     → GivesBack needed (k + 1) top old new
 gives_more needed k top old l new lt zones wanted g is =
-    let was : Sat = (record old.0 { actor = record old.0.actor { held = span needed k (top - k); known = l.0.actor.known; closing = l.0.actor.closing; glance = l.0.actor.glance } }, old.1) in
-    let at : new ≡ (gave k was.0, was.1) = is ∙ ap (λ (m : Sat). (gave k m.0, m.1)) g.now in
+    let was : Seat = record old { view = record old.view { actor = record old.view.actor { held = span needed k (top - k); known = l.view.actor.known; closing = l.view.actor.closing; glance = l.view.actor.glance } } } in
+    let at : new ≡ record was { view = gave k was.view } = is ∙ ap (λ (m : Seat). record m { view = gave k m.view }) g.now in
     let held = given_back needed k top lt wanted in
-    let known = ap (λ (m : Sat). m.0.actor.known) at in
-    let closing = ap (λ (m : Sat). m.0.actor.closing) at in
-    let glance = ap (λ (m : Sat). m.0.actor.glance) at in
+    let known = ap (λ (m : Seat). m.view.actor.known) at in
+    let closing = ap (λ (m : Seat). m.view.actor.closing) at in
+    let glance = ap (λ (m : Seat). m.view.actor.glance) at in
     record {
       bare = λ none.
-          let h : without k l.0.actor.held ≡ [] = sym (ap (λ (m : Sat). m.0.actor.held) is) ∙ none in (
-            ap (λ (m : Sat). m.0.actor.known) is
-                ∙ (ap (λ x. still_known (core l.0.setup) l.0.number x l.0.actor.known) h ∙ forgets (core l.0.setup) l.0.number zones l.0.actor.known),
-            ap (λ (m : Sat). m.0.actor.closing) is ∙ ap (λ x. not (is_bare x)) h,
+          let h : without k l.view.actor.held ≡ [] = sym (ap (λ (m : Seat). m.view.actor.held) is) ∙ none in (
+            ap (λ (m : Seat). m.view.actor.known) is
+                ∙ (ap (λ x. still_known (core l.view.setup) l.view.number x l.view.actor.known) h ∙ forgets (core l.view.setup) l.view.number zones l.view.actor.known),
+            ap (λ (m : Seat). m.view.actor.closing) is ∙ ap (λ x. not (is_bare x)) h,
           );
       now = at
-          ∙ (λ i. (record old.0 { actor = record old.0.actor { held = held i; known = sym known i; closing = sym closing i; glance = sym glance i } }, old.1));
+          ∙ (λ i. record old { view = record old.view { actor = record old.view.actor { held = held i; known = sym known i; closing = sym closing i; glance = sym glance i } } });
     }
 
-pub gives_none : (needed : List ℕ) (k top : ℕ) (old l : Sat) → k < top → has k needed ≡ false → GivesBack needed k top old l → GivesBack needed (k + 1) top old l
+pub gives_none : (needed : List ℕ) (k top : ℕ) (old l : Seat) → k < top → has k needed ≡ false → GivesBack needed k top old l → GivesBack needed (k + 1) top old l
 gives_none needed k top old l lt none g =
     let held = not_needed needed k top lt none in
     record {
       bare = g.bare;
       now = g.now
-          ∙ (λ i. (record old.0 { actor = record old.0.actor { held = held i; known = l.0.actor.known; closing = l.0.actor.closing; glance = l.0.actor.glance } }, old.1));
+          ∙ (λ i. record old { view = record old.view { actor = record old.view.actor { held = held i; known = l.view.actor.known; closing = l.view.actor.closing; glance = l.view.actor.glance } } });
     }

@@ -33,9 +33,9 @@ use Rattle.ticket_lines.proofs.Counted.{places_counted, tables_counted}
 use Rattle.zone_machine.specs.Sound.{IsSetup as IsCoreSetup}
 use Rattle.zone_yard.specs.Setup.{Setup, core, state_after, IsLegalHistory, most_passes}
 use Rattle.zone_yard.specs.Passes.{Receipt, StartsWith, entries_from, entries_of, done_of}
-use Rattle.zone_yard.specs.Views.{View, new_entries, pass_view}
+use Rattle.zone_yard.specs.Views.{View, new_entries, pass_view, Seat}
 use Rattle.zone_yard.specs.Lines.{Lines, AreLines, IsLeft, AreLeft, most_lines, moves_from}
-use Rattle.zone_yard.specs.Tells.{Sat, Appends}
+use Rattle.zone_yard.specs.Tells.{Appends}
 use Rattle.zone_yard.specs.Blocks.{CanAnswer}
 use Rattle.zone_yard.proofs.Lists.{first_of, second_of, starts_on}
 use Rattle.zone_yard.proofs.Counts.{all_few}
@@ -60,36 +60,36 @@ same_lines S p seen rest same =
     ∙ (ap (λ l. lines_of S.tables S.opening.yard p seen ++ l) (silent S.tables (after S.opening.yard seen) p (length seen) rest (others p (0 + length seen) rest none))
     ∙ append-nil (lines_of S.tables S.opening.yard p seen))
 
-module _ (steps found : ℕ) (m after_it : Sat) (a : Appends steps m found after_it) (own : entries_of m.0.number m.0.seen ≡ m.0.mine) where
+module _ (steps found : ℕ) (m after_it : Seat) (a : Appends steps m found after_it) (own : entries_of m.view.number m.view.seen ≡ m.view.mine) where
   abbrev S : Setup
-  S = m.0.setup
+  S = m.view.setup
 
   abbrev p : ℕ
-  p = m.0.number
+  p = m.view.number
 
   -- what others added before the entry gives the pass no line
-  before_lines : lines_of S.tables S.opening.yard p a.before ≡ lines_of S.tables S.opening.yard p m.0.seen
-  before_lines = ap (lines_of S.tables S.opening.yard p) a.begins.1 ∙ same_lines S p m.0.seen a.begins.0 (ap (entries_of p) (sym a.begins.1) ∙ (a.so_far ∙ sym own))
+  before_lines : lines_of S.tables S.opening.yard p a.before ≡ lines_of S.tables S.opening.yard p m.view.seen
+  before_lines = ap (lines_of S.tables S.opening.yard p) a.begins.1 ∙ same_lines S p m.view.seen a.begins.0 (ap (entries_of p) (sym a.begins.1) ∙ (a.so_far ∙ sym own))
 
   -- the pass's lines grow by those of its new entries
-  pub lines_grow : lines_of S.tables S.opening.yard p after_it.0.seen
-      ≡ lines_of S.tables S.opening.yard p m.0.seen ++ own_lines p found (marks_of S.tables (state_after S a.before) (new_entries steps m.0))
+  pub lines_grow : lines_of S.tables S.opening.yard p after_it.view.seen
+      ≡ lines_of S.tables S.opening.yard p m.view.seen ++ own_lines p found (marks_of S.tables (state_after S a.before) (new_entries steps m.view))
   lines_grow =
-      ap (λ (x : Sat). lines_of S.tables S.opening.yard p x.0.seen) a.now
-      ∙ (own_lines_go_on S.tables S.opening.yard p a.before (new_entries steps m.0)
-      ∙ ((λ i. before_lines i ++ own_lines p (a.counted i) (marks_of S.tables (state_after S a.before) (new_entries steps m.0)))))
+      ap (λ (x : Seat). lines_of S.tables S.opening.yard p x.view.seen) a.now
+      ∙ (own_lines_go_on S.tables S.opening.yard p a.before (new_entries steps m.view)
+      ∙ ((λ i. before_lines i ++ own_lines p (a.counted i) (marks_of S.tables (state_after S a.before) (new_entries steps m.view)))))
 
   -- with the lines that it gains a pass has its lines
-  pub lines_kept : (old new : Lines) → AreLines m.0 old → new.room ≡ old.room
-      → new.items ≡ old.items ++ own_lines p found (marks_of S.tables (state_after S a.before) (new_entries steps m.0)) → AreLines after_it.0 new
+  pub lines_kept : (old new : Lines) → AreLines m.view old → new.room ≡ old.room
+      → new.items ≡ old.items ++ own_lines p found (marks_of S.tables (state_after S a.before) (new_entries steps m.view)) → AreLines after_it.view new
   lines_kept old new h room items =
-      let named : after_it.0.number ≡ p = ap (λ (x : Sat). x.0.number) a.now in
-      let made : after_it.0.setup ≡ S = ap (λ (x : Sat). x.0.setup) a.now in
+      let named : after_it.view.number ≡ p = ap (λ (x : Seat). x.view.number) a.now in
+      let made : after_it.view.setup ≡ S = ap (λ (x : Seat). x.view.setup) a.now in
       record {
-        own = ap (λ q. entries_of q after_it.0.seen) named ∙ a.own;
+        own = ap (λ q. entries_of q after_it.view.seen) named ∙ a.own;
         items = items
-            ∙ (ap (λ l. l ++ own_lines p found (marks_of S.tables (state_after S a.before) (new_entries steps m.0))) h.items
-            ∙ (sym lines_grow ∙ (λ i. lines_of (sym made i).tables (sym made i).opening.yard (sym named i) after_it.0.seen)));
+            ∙ (ap (λ l. l ++ own_lines p found (marks_of S.tables (state_after S a.before) (new_entries steps m.view))) h.items
+            ∙ (sym lines_grow ∙ (λ i. lines_of (sym made i).tables (sym made i).opening.yard (sym named i) after_it.view.seen)));
         room = subst (λ (x : ℕ × ℕ). most_lines x.0 ≤ x.1) (λ i. (sym named i, sym room i)) h.room;
       }
 
@@ -166,24 +166,24 @@ pub record Tells (v : View) (t steps : ℕ) (c : Claim) (x : BlockAsk) : Type 0 
   pub claim : c ≡ claim_of (offer v.setup.tables t).table c.train v.actor.position steps
   pub answer : x ≡ decided (offer v.setup.tables t).table c (number_in v.actor.known)
 
-module _ (t steps found : ℕ) (c : Claim) (m w : Sat) (a : Appends steps m found w) (own : entries_of m.0.number m.0.seen ≡ m.0.mine) (x : BlockAsk) (tells : Tells m.0 t steps c x) where
+module _ (t steps found : ℕ) (c : Claim) (m w : Seat) (a : Appends steps m found w) (own : entries_of m.view.number m.view.seen ≡ m.view.mine) (x : BlockAsk) (tells : Tells m.view t steps c x) where
   abbrev R : Setup
-  R = m.0.setup
+  R = m.view.setup
 
   abbrev y : Yard
   y = state_after R a.before
 
-  off : (m.0.number == control) ≡ false
-  off = ne_eqb m.0.number control (λ e. (let n = tells.named in let l = tells.low in omega arith))
+  off : (m.view.number == control) ≡ false
+  off = ne_eqb m.view.number control (λ e. (let n = tells.named in let l = tells.low in omega arith))
 
   -- the entries of a driver that knows the table in force
-  entries : new_entries steps m.0 ≡ block_entries c.train c.steps x
+  entries : new_entries steps m.view ≡ block_entries c.train c.steps x
   entries =
-      let under : ℕ → ℕ → List Entry = λ k q. block_entries q (claim_of (offer R.tables k).table q m.0.actor.position steps).steps
-      (decided (offer R.tables k).table (claim_of (offer R.tables k).table q m.0.actor.position steps) (number_in m.0.actor.known)) in
-      second_of (m.0.number == control) _ (under (known_table m.0.actor) m.0.number) off
+      let under : ℕ → ℕ → List Entry = λ k q. block_entries q (claim_of (offer R.tables k).table q m.view.actor.position steps).steps
+      (decided (offer R.tables k).table (claim_of (offer R.tables k).table q m.view.actor.position steps) (number_in m.view.actor.known)) in
+      second_of (m.view.number == control) _ (under (known_table m.view.actor) m.view.number) off
       ∙ ((λ i. under (unwrap_or (tells.table i) 0) (tells.named i))
-      ∙ (ap (λ (d : Claim). block_entries c.train d.steps (decided (offer R.tables t).table d (number_in m.0.actor.known))) (sym tells.claim)
+      ∙ (ap (λ (d : Claim). block_entries c.train d.steps (decided (offer R.tables t).table d (number_in m.view.actor.known))) (sym tells.claim)
       ∙ ap (block_entries c.train c.steps) (sym tells.answer)))
 
   -- the entry's table and place
@@ -193,33 +193,33 @@ module _ (t steps found : ℕ) (c : Claim) (m w : Sat) (a : Appends steps m foun
   place_is : place y.positions c.train ≡ c.place
   place_is =
       sym (ap (place y.positions) tells.named)
-      ∙ (sym (a.stood ∙ second_of (m.0.number == control) y.tried (place y.positions m.0.number) off) ∙ sym (ap (λ (d : Claim). d.place) tells.claim))
+      ∙ (sym (a.stood ∙ second_of (m.view.number == control) y.tried (place y.positions m.view.number) off) ∙ sym (ap (λ (d : Claim). d.place) tells.claim))
 
   legal_entries : IsHistory R.tables y (block_entries c.train c.steps x)
   legal_entries = subst (IsHistory R.tables y) entries
-      ((history_parts R.tables R.opening.yard a.before (new_entries steps m.0)).0 (subst (λ (z : Sat). IsLegalHistory R z.0.seen) a.now a.legal)).1
+      ((history_parts R.tables R.opening.yard a.before (new_entries steps m.view)).0 (subst (λ (z : Seat). IsLegalHistory R z.view.seen) a.now a.legal)).1
 
-  pub granted : x ≡ block.Yes → own_lines m.0.number found (marks_of R.tables y (new_entries steps m.0)) ≡ moves_from found (offer R.tables t).table c.train c.place c.steps
+  pub granted : x ≡ block.Yes → own_lines m.view.number found (marks_of R.tables y (new_entries steps m.view)) ≡ moves_from found (offer R.tables t).table c.train c.place c.steps
   granted is_yes =
       let all : IsHistory R.tables y (replicate c.steps (record { who = c.train; reply = Driver Yes })) = subst (λ z. IsHistory R.tables y (block_entries c.train c.steps z)) is_yes legal_entries in
       (λ i. own_lines (tells.named i) found (marks_of R.tables y ((entries ∙ ap (block_entries c.train c.steps) is_yes) i)))
       ∙ (granted_lines R.tables y c.train found c.steps all
       ∙ (λ i. moves_from found (table_is i) c.train (place_is i) c.steps))
 
-  pub none_granted : (x ≡ block.Yes → ⊥) → own_lines m.0.number found (marks_of R.tables y (new_entries steps m.0)) ≡ []
+  pub none_granted : (x ≡ block.Yes → ⊥) → own_lines m.view.number found (marks_of R.tables y (new_entries steps m.view)) ≡ []
   none_granted not_yes =
       (λ i. own_lines (tells.named i) found (marks_of R.tables y (entries i)))
-      ∙ quiet_lines R.tables y c.train found c.steps x (subst (CanAnswer c.steps) (sym tells.answer) (can_answer (offer R.tables t).table c (number_in m.0.actor.known))) not_yes
+      ∙ quiet_lines R.tables y c.train found c.steps x (subst (CanAnswer c.steps) (sym tells.answer) (can_answer (offer R.tables t).table c (number_in m.view.actor.known))) not_yes
 
   -- there is room for the lines of the moves
-  pub moves_fit : (old : Lines) → IsCoreSetup (core R) → AreLines m.0 old → x ≡ block.Yes → length old.items + c.steps ≤ old.room
+  pub moves_fit : (old : Lines) → IsCoreSetup (core R) → AreLines m.view old → x ≡ block.Yes → length old.items + c.steps ≤ old.room
   moves_fit old formed h is_yes =
-      let legal : IsLegalHistory R w.0.seen = a.legal in
-      let few = few_of_train R m.0.number w.0.seen formed legal (let n = tells.named in let l = tells.low in omega arith) in
-      let grow : length (lines_of R.tables R.opening.yard m.0.number w.0.seen) ≡ length old.items + c.steps =
+      let legal : IsLegalHistory R w.view.seen = a.legal in
+      let few = few_of_train R m.view.number w.view.seen formed legal (let n = tells.named in let l = tells.low in omega arith) in
+      let grow : length (lines_of R.tables R.opening.yard m.view.number w.view.seen) ≡ length old.items + c.steps =
       ap length (lines_grow steps found m w a own ∙ (λ i. sym h.items i ++ granted is_yes i))
       ∙ (length-append old.items (moves_from found (offer R.tables t).table c.train c.place c.steps) ∙ ap (λ n. length old.items + n) (moves_count (offer R.tables t).table c.train c.place found c.steps)) in
-      let room : 127 ≤ old.room = subst (λ n. n ≤ old.room) (second_of (m.0.number == control) 15 127 off) h.room in
+      let room : 127 ≤ old.room = subst (λ n. n ≤ old.room) (second_of (m.view.number == control) 15 127 off) h.room in
       omega arith
 
 -- What the control has that enters its answer to the next table.
@@ -228,37 +228,37 @@ pub record Tries (v : View) (next : ℕ) (x : Tried) : Type 0 where
   pub next_is : next ≡ v.actor.position + 1
   pub answer : x ≡ tried (core v.setup) v.actor
 
-module _ (next found : ℕ) (m w : Sat) (a : Appends 1 m found w) (own : entries_of m.0.number m.0.seen ≡ m.0.mine) (x : Tried) (tries : Tries m.0 next x) where
+module _ (next found : ℕ) (m w : Seat) (a : Appends 1 m found w) (own : entries_of m.view.number m.view.seen ≡ m.view.mine) (x : Tried) (tries : Tries m.view next x) where
   abbrev pub entry : Entry
   entry = record { who = control; reply = Control x }
 
-  on : (m.0.number == control) ≡ true
-  on = eq-eqb m.0.number control tries.named
+  on : (m.view.number == control) ≡ true
+  on = eq-eqb m.view.number control tries.named
 
-  one_told : new_entries 1 m.0 ≡ entry ∷ []
-  one_told = first_of (m.0.number == control) _ _ on ∙ (λ i. record { who = tries.named i; reply = Control (sym tries.answer i) } ∷ [])
+  one_told : new_entries 1 m.view ≡ entry ∷ []
+  one_told = first_of (m.view.number == control) _ _ on ∙ (λ i. record { who = tries.named i; reply = Control (sym tries.answer i) } ∷ [])
 
   -- the table that is tried is the first without an answer
-  pub next_tried : next ≡ (state_after m.0.setup a.before).tried + 1
-  next_tried = tries.next_is ∙ ap (λ k. k + 1) (a.stood ∙ first_of (m.0.number == control) _ _ on)
+  pub next_tried : next ≡ (state_after m.view.setup a.before).tried + 1
+  next_tried = tries.next_is ∙ ap (λ k. k + 1) (a.stood ∙ first_of (m.view.number == control) _ _ on)
 
-  pub table_lines : own_lines m.0.number found (marks_of m.0.setup.tables (state_after m.0.setup a.before) (new_entries 1 m.0))
-      ≡ at_ticket found (line_of m.0.setup.tables (state_after m.0.setup a.before) entry)
+  pub table_lines : own_lines m.view.number found (marks_of m.view.setup.tables (state_after m.view.setup a.before) (new_entries 1 m.view))
+      ≡ at_ticket found (line_of m.view.setup.tables (state_after m.view.setup a.before) entry)
   table_lines =
-      let y = state_after m.0.setup a.before in
-      (λ i. own_lines (tries.named i) found (marks_of m.0.setup.tables y (one_told i)))
-      ∙ (own_here control found (record { who = control; line = line_of m.0.setup.tables y entry }) [] refl
-      ∙ append-nil (at_ticket found (line_of m.0.setup.tables y entry)))
+      let y = state_after m.view.setup a.before in
+      (λ i. own_lines (tries.named i) found (marks_of m.view.setup.tables y (one_told i)))
+      ∙ (own_here control found (record { who = control; line = line_of m.view.setup.tables y entry }) [] refl
+      ∙ append-nil (at_ticket found (line_of m.view.setup.tables y entry)))
 
-  pub line_fits : (old : Lines) (l : Line) → AreLines m.0 old → line_of m.0.setup.tables (state_after m.0.setup a.before) entry ≡ Some l → length old.items < old.room
+  pub line_fits : (old : Lines) (l : Line) → AreLines m.view old → line_of m.view.setup.tables (state_after m.view.setup a.before) entry ≡ Some l → length old.items < old.room
   line_fits old l h is =
-      let few = few_of_control m.0.setup w.0.seen a.formed a.legal in
-      let grow : length (lines_of m.0.setup.tables m.0.setup.opening.yard m.0.number w.0.seen) ≡ length old.items + 1 =
+      let few = few_of_control m.view.setup w.view.seen a.formed a.legal in
+      let grow : length (lines_of m.view.setup.tables m.view.setup.opening.yard m.view.number w.view.seen) ≡ length old.items + 1 =
       ap length (lines_grow 1 found m w a own ∙ (λ i. sym h.items i ++ (table_lines ∙ ap (at_ticket found) is) i))
       ∙ length-append old.items (record { ticket = found; line = l } ∷ []) in
-      let same : length (lines_of m.0.setup.tables m.0.setup.opening.yard m.0.number w.0.seen) ≡ length (lines_of m.0.setup.tables m.0.setup.opening.yard 32 w.0.seen) =
-      ap (λ q. length (lines_of m.0.setup.tables m.0.setup.opening.yard q w.0.seen)) tries.named in
-      let room : 15 ≤ old.room = subst (λ n. n ≤ old.room) (first_of (m.0.number == control) 15 127 on) h.room in
+      let same : length (lines_of m.view.setup.tables m.view.setup.opening.yard m.view.number w.view.seen) ≡ length (lines_of m.view.setup.tables m.view.setup.opening.yard 32 w.view.seen) =
+      ap (λ q. length (lines_of m.view.setup.tables m.view.setup.opening.yard q w.view.seen)) tries.named in
+      let room : 15 ≤ old.room = subst (λ n. n ≤ old.room) (first_of (m.view.number == control) 15 127 on) h.room in
       omega arith
 
 -- a pass that boards has no line

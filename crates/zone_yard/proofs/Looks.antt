@@ -5,15 +5,15 @@ use Rattle.std.proofs.lemmas.List.Elements.{All-nil}
 use Rattle.std.proofs.lemmas.Option.{slice_get-get_or}
 use mathlib.Core.Option.{some}
 use lib.ListN.{get_elem?}
-use Rattle.atomic_table.specs.Table.{keeps, stepped, Allows}
+use Rattle.atomic_table.specs.Table.{Me, keeps, stepped, Allows}
 use Rattle.zone_locks.specs.Zones.{has}
 use Rattle.zone_machine.specs.Sound.{IsSetup as IsCoreSetup}
 use Rattle.zone_machine.specs.World.{World, Actor, gone, actor}
 use Rattle.zone_yard.specs.Setup.{Setup, core, most_passes, IsLegalHistory}
 use Rattle.zone_yard.specs.Passes.{StartsWith, IsAshore, entries_of, done_of}
-use Rattle.zone_yard.specs.Views.{View, looked}
+use Rattle.zone_yard.specs.Views.{View, looked, seat_of}
 use Rattle.zone_yard.specs.Kept.{KeepsRule, Fits, IsPassNumber, Rests, Sits}
-use Rattle.zone_yard.specs.Tells.{Sat, Looks}
+use Rattle.zone_yard.specs.Tells.{Looks}
 use Rattle.zone_yard.proofs.Apart.{found_apart}
 use Rattle.zone_yard.proofs.Lists.{by_set, set_here, starts_itself}
 use Rattle.zone_yard.proofs.Closes.{none_aboard, seen_whole}
@@ -75,7 +75,7 @@ looked_keeps S s k v c at =
       };
     }
 
-pub looks : (S : Setup) (slots : ℕ) (me : Sat) → Allows (KeepsRule S) slots 0 me 0 (λ n. n) (Looks me)
+pub looks : (S : Setup) (slots : ℕ) (me : Me (Unit {0}) View) → Allows (KeepsRule S) slots 0 me 0 (λ n. n) (λ found after. Looks (seat_of me) found (seat_of after))
 looks S slots me s k _ at _ =
     let w : World = k.world in
     let v : View = me.0 in

@@ -7,10 +7,10 @@ use Rattle.rail_model.specs.Table.{trains}
 use Rattle.rail_model.specs.Yard.{Yard, offer, control}
 use Rattle.table_exchange.proofs.Histories.{stands_history}
 use Rattle.zone_machine.specs.Sound.{IsSetup as IsCoreSetup}
+use Rattle.zone_yard.specs.Views.{Seat}
 use Rattle.zone_yard.specs.Setup.{Setup, core, state_after, IsLegalHistory}
 use Rattle.zone_yard.specs.Passes.{standing}
 use Rattle.zone_yard.specs.Blocks.{granted_steps}
-use Rattle.zone_yard.specs.Tells.{Sat}
 use Rattle.zone_yard.specs.Attempts.{IsToldBlock}
 
 pub low_place : (S : Setup) (H : List Entry) (p : ℕ) → IsCoreSetup (core S) → IsLegalHistory S H → p < trains (offer S.tables 0).table
@@ -28,10 +28,10 @@ low_place S H p made legal train =
     rw (ne_eqb p control driver) (omega (arith, reached, short))
 
 -- a driver that was told this is no further than that
-pub low_told : (S : Setup) (id : TableId) (asked steps ticket p position : ℕ) (answer : BlockAsk) (old new : Sat) → IsCoreSetup (core S) → old.0.setup ≡ S → old.0.number ≡ p
-    → p < trains (offer old.0.setup.tables 0).table → old.0.actor.position ≡ position → IsToldBlock id asked answer steps ticket old new → position + granted_steps steps answer < 2 ^ 32
+pub low_told : (S : Setup) (id : TableId) (asked steps ticket p position : ℕ) (answer : BlockAsk) (old new : Seat) → IsCoreSetup (core S) → old.view.setup ≡ S → old.view.number ≡ p
+    → p < trains (offer old.view.setup.tables 0).table → old.view.actor.position ≡ position → IsToldBlock id asked answer steps ticket old new → position + granted_steps steps answer < 2 ^ 32
 low_told S id asked steps ticket p position answer old new made same number train at h =
-    let low = low_place old.0.setup new.0.seen p (subst (λ (T : Setup). IsCoreSetup (core T)) (sym same) made) h.0.entered.legal train in
-    let is : position + granted_steps steps answer ≡ standing (state_after old.0.setup new.0.seen) p =
-    ap (λ a. a + granted_steps steps answer) (sym at) ∙ (sym h.1.idle.stands ∙ (h.0.entered.stands ∙ ap (standing (state_after old.0.setup new.0.seen)) (h.0.entered.number ∙ number))) in
+    let low = low_place old.view.setup new.view.seen p (subst (λ (T : Setup). IsCoreSetup (core T)) (sym same) made) h.0.entered.legal train in
+    let is : position + granted_steps steps answer ≡ standing (state_after old.view.setup new.view.seen) p =
+    ap (λ a. a + granted_steps steps answer) (sym at) ∙ (sym h.1.idle.stands ∙ (h.0.entered.stands ∙ ap (standing (state_after old.view.setup new.view.seen)) (h.0.entered.number ∙ number))) in
     omega (arith, low, is)

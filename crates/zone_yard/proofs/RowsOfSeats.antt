@@ -7,16 +7,15 @@ use Rattle.move_claim.specs.Cells.{number_of}
 use Rattle.zone_yard.specs.Blocks.{granted_steps}
 use Rattle.zone_yard.specs.Setup.{SharedYard}
 use Rattle.zone_yard.specs.Spread.{spread}
-use Rattle.zone_yard.specs.Views.{root_view, pass_view, knower}
-use Rattle.zone_yard.specs.Tells.{Sat}
+use Rattle.zone_yard.specs.Views.{root_view, pass_view, knower, Seat}
 use Rattle.zone_yard.specs.Aboard.{IsDriver, IsControl}
 use Rattle.zone_yard.specs.Attempts.{RefusesZone, Moves, Since, TurnsAway}
 use Rattle.zone_yard.proofs.Roots.{fresh}
 use Rattle.zone_yard.proofs.Samples.{four_zones, one_zone, two_tables}
 
 -- the seat of a train that has boarded a new yard
-abbrev pub seat : SharedYard → ℕ → Sat
-seat yard p = (pass_view p (root_view yard.setup []), [])
+abbrev pub seat : SharedYard → ℕ → Seat
+seat yard p = record { view = pass_view p (root_view yard.setup []); slots = [] }
 
 driver : IsDriver 1 0 0 (seat one_zone 1)
 driver = record {
@@ -57,12 +56,12 @@ part_way : granted_steps 3 (NotWhole 2 (Occupied 1)) ≡ 0
 part_way = refl
 
 -- E to F where A to B holds both its zones: the seat after its look at the first table and its try at zone 1
-abbrev pub old : Sat
+abbrev pub old : Seat
 old = seat (four_zones 9) 2
 
-abbrev pub found : ℕ → Sat
+abbrev pub found : ℕ → Seat
 found word =
-    (record old.0 { tries = record { zone = 1; found = word; glanced = 0 } ∷ []; actor = record old.0.actor { glance = Some 0 } }, [])
+    record old { view = record old.view { tries = record { zone = 1; found = word; glanced = 0 } ∷ []; actor = record old.view.actor { glance = Some 0 } } }
 
 turned_away : TurnsAway 1 old (found 1) 1 1
 turned_away = record {
@@ -75,11 +74,11 @@ turned_away = record {
   since = record { tries = (record { zone = 1; found = 1; glanced = 0 } ∷ [], refl); noted = lit≤ tt; now = refl };
 }
 
-not_by_itself : (new : Sat) → TurnsAway 1 old new 1 3 → ⊥
+not_by_itself : (new : Seat) → TurnsAway 1 old new 1 3 → ⊥
 not_by_itself new h = h.another.1 refl
 
 -- the same, where the look came before
-refused : RefusesZone 4 (1 ∷ []) (record old.0 { actor = record old.0.actor { glance = Some 0 } }, []) (found 1) 1 1
+refused : RefusesZone 4 (1 ∷ []) (record old { view = record old.view { actor = record old.view.actor { glance = Some 0 } } }) (found 1) 1 1
 refused = record {
   low = lit< tt;
   wanted = refl;
@@ -90,8 +89,8 @@ refused = record {
 }
 
 -- the second table is noted in place of the first
-abbrev pub noted : ℕ → Sat
-noted t = (record (seat two_tables 0).0 { noted = t }, [])
+abbrev pub noted : ℕ → Seat
+noted t = record (seat two_tables 0) { view = record (seat two_tables 0).view { noted = t } }
 
 moved : Moves 0 (seat two_tables 0) (noted 1)
 moved = record { tries = ([], refl); noted = lit≤ tt; listed = lit< tt; another = (λ e. cc e); now = refl }

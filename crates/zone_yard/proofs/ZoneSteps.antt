@@ -8,7 +8,7 @@ use mathlib.Core.Option.{none, some}
 use native.Mathlib.Decide.{ℕ_discrete}
 use lib.ListN.{get_elem?}
 use prog.Atomic.{either}
-use Rattle.atomic_table.specs.Table.{step, keeps, stepped, Allows}
+use Rattle.atomic_table.specs.Table.{Me, step, keeps, stepped, Allows}
 use Rattle.zone_locks.specs.Zones.{has}
 use Rattle.move_claim.specs.declared.cells.Cell.TheVariants.{Table as TableCell}
 use Rattle.zone_machine.specs.declared.steps.Stage.TheVariants.{Aboard}
@@ -19,9 +19,9 @@ use Rattle.zone_machine.specs.Sound.{Sound}
 use Rattle.zone_machine.specs.Steps.{is_above, releasing, step_of}
 use Rattle.zone_machine.proofs.Together.{step_sound}
 use Rattle.zone_yard.specs.Setup.{Setup, core, most_passes}
-use Rattle.zone_yard.specs.Views.{View, tried_at, took, gave}
+use Rattle.zone_yard.specs.Views.{View, tried_at, took, gave, seat_of}
 use Rattle.zone_yard.specs.Kept.{KeepsRule}
-use Rattle.zone_yard.specs.Tells.{Sat, TakesZone, Releases}
+use Rattle.zone_yard.specs.Tells.{TakesZone, Releases}
 use Rattle.zone_yard.proofs.Lists.{both_true}
 use Rattle.zone_yard.proofs.Apart.{found_apart}
 use Rattle.zone_yard.proofs.Keeps.{St, seated, own_keeps, Stays}
@@ -82,9 +82,9 @@ look_keeps S s k id i j v v' c is at aboard stays same noted =
     (subst (λ x. v'.noted ≤ word (core S) x TableCell) (sym unchanged) noted))
 
 -- a zone is tried: where it was free it is taken, and else another pass holds it
-pub take_allows : (S : Setup) → (slots id z i new : ℕ) (me : Sat) → new ≡ suc me.0.number → i ≡ 8 * suc z → me.0.aboard ≡ true
+pub take_allows : (S : Setup) → (slots id z i new : ℕ) (me : Me (Unit {0}) View) → new ≡ suc me.0.number → i ≡ 8 * suc z → me.0.aboard ≡ true
     → me.0.actor.closing ≡ false → z < me.0.setup.layout.zones → is_above z me.0.actor.held ≡ true
-    → Allows (KeepsRule S) slots id me i (λ n. either (n == 0) new n) (TakesZone (step slots i 0 new none) me)
+    → Allows (KeepsRule S) slots id me i (λ n. either (n == 0) new n) (λ found after. TakesZone (step slots i 0 new none) (seat_of me) found (seat_of after))
 take_allows S slots id z i new me writes is aboard still low above s k _ at _ =
     let v : View = me.0 in
     let w : World = k.world in
@@ -138,8 +138,8 @@ take_allows S slots id z i new me writes is aboard still low above s k _ at _ =
         by (suc q) nz e = let h = held_by S k.world q z k.sound low' (sym e) in let lt = h.1 in omega arith
 
 -- a zone is given back
-pub release_allows : (S : Setup) → (slots id z i : ℕ) (me : Sat) → i ≡ 8 * suc z → me.0.aboard ≡ true → has z me.0.actor.held ≡ true → me.0.actor.owed ≡ []
-    → Allows (KeepsRule S) slots id me i (λ _. 0) (λ _. Releases (step slots i 0 0 none) me 0)
+pub release_allows : (S : Setup) → (slots id z i : ℕ) (me : Me (Unit {0}) View) → i ≡ 8 * suc z → me.0.aboard ≡ true → has z me.0.actor.held ≡ true → me.0.actor.owed ≡ []
+    → Allows (KeepsRule S) slots id me i (λ _. 0) (λ _ after. Releases (step slots i 0 0 none) (seat_of me) 0 (seat_of after))
 release_allows S slots id z i me is aboard has_it paid s k _ at _ =
     let v : View = me.0 in
     let w : World = k.world in

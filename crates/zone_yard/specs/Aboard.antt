@@ -1,6 +1,5 @@
 -- What the code of a pass keeps between two calls.
 use Rattle.std.specs.Prelude.{◌≡◌, ℕ, suc, ◌∷◌, ◌+◌, ◌*◌, ◌<◌, ◌≤◌, ◌^◌, List, [], length, slice_index_or, Bool, true, false}
-use Rattle.atomic_table.specs.Table.{Me}
 use Rattle.atomic_table.specs.Seated.{TableId}
 use Rattle.rail_model.specs.Table.{trains}
 use Rattle.rail_model.specs.Yard.{offer, control}
@@ -11,7 +10,7 @@ use Rattle.zone_machine.specs.World.{Actor, words_of, trains_of}
 use Rattle.zone_machine.specs.Sound.{IsActor, IsSetup as IsCoreSetup}
 use Rattle.zone_yard.specs.Setup.{Setup, core, state_after, IsLegalHistory, most_passes}
 use Rattle.zone_yard.specs.Passes.{IsAshore, entries_of}
-use Rattle.zone_yard.specs.Views.{View}
+use Rattle.zone_yard.specs.Views.{View, Seat}
 
 -- The actor is aboard and stands there. It holds no zone, knows no number, owes none, and isn't closing.
 pub record IsIdle (position : ℕ) (a : Actor) : Type 0 where
@@ -23,27 +22,27 @@ pub record IsIdle (position : ℕ) (a : Actor) : Type 0 where
   pub stands : a.position ≡ position
 
 -- The seat is this pass, stands there, has made this many entries, and is idle.
-pub record IsPass (number position entries : ℕ) (me : Me (Unit {0}) View) : Type 0 where
-  pub aboard : me.0.aboard ≡ true
-  pub number_is : me.0.number ≡ number
-  pub idle : IsIdle position me.0.actor
-  pub made : length me.0.mine ≡ entries
-  pub room : entries ≤ me.0.setup.calls
-  pub few_calls : me.0.setup.calls < 2 ^ 32
-  pub legal : IsLegalHistory me.0.setup me.0.seen
-  pub slots : me.1 ≡ []
+pub record IsPass (number position entries : ℕ) (me : Seat) : Type 0 where
+  pub aboard : me.view.aboard ≡ true
+  pub number_is : me.view.number ≡ number
+  pub idle : IsIdle position me.view.actor
+  pub made : length me.view.mine ≡ entries
+  pub room : entries ≤ me.view.setup.calls
+  pub few_calls : me.view.setup.calls < 2 ^ 32
+  pub legal : IsLegalHistory me.view.setup me.view.seen
+  pub slots : me.slots ≡ []
 
 -- The seat is the pass of a train that the tables have.
-pub record IsDriver (train position entries : ℕ) (me : Me (Unit {0}) View) : Type 0 where
+pub record IsDriver (train position entries : ℕ) (me : Seat) : Type 0 where
   pub pass : IsPass train position entries me
-  pub named : train < trains (offer me.0.setup.tables 0).table
+  pub named : train < trains (offer me.view.setup.tables 0).table
 
 -- The seat is the control, and the last table that has its answer is that of the history that it has seen. There is room for a position
 -- of each train.
-pub record IsControl (tried entries : ℕ) (positions : List ℕ) (me : Me (Unit {0}) View) : Type 0 where
+pub record IsControl (tried entries : ℕ) (positions : List ℕ) (me : Seat) : Type 0 where
   pub pass : IsPass control tried entries me
-  pub answered : tried ≡ (state_after me.0.setup me.0.seen).tried
-  pub one_each : length positions ≡ trains_of (core me.0.setup)
+  pub answered : tried ≡ (state_after me.view.setup me.view.seen).tried
+  pub one_each : length positions ≡ trains_of (core me.view.setup)
 
 -- how many of these are true
 abbrev pub many : List Bool → ℕ

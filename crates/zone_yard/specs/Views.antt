@@ -1,6 +1,7 @@
 -- What a seat at the shared table knows: the root's, a pass's, or one that was given up.
 use Rattle.std.specs.Prelude.{ℕ, ◌+◌, ◌-◌, ◌==◌, nat_lt, List, [], ◌∷◌, ◌++◌, length, Bool, true, false, if◌then◌else◌, Some}
 use Rattle.std.specs.Option.{option_map_or}
+use Rattle.atomic_table.specs.Table.{Me}
 use Rattle.atomic_table.specs.Seated.{TableId}
 use Rattle.rail_model.specs.declared.types.Entry.{Entry}
 use Rattle.rail_model.specs.declared.types.Reply.TheVariants.{Control}
@@ -32,6 +33,21 @@ pub record View : Type 0 where
   pub out : ℕ
   pub done : List (ℕ × List Receipt)
   pub joined : List (List Entry)
+
+-- A seat's view, and the slots that it has taken: a yard's table has none.
+pub record Seat : Type 0 where
+  pub view : View
+  pub slots : List (ℕ × Unit {0})
+
+-- the seat that a pair of the table is
+abbrev pub seat_of : Me (Unit {0}) View → Seat
+seat_of me = record { view = me.0; slots = me.1 }
+
+-- A seat at a table, by its number.
+pub record Place : Type 0 where
+  pub table_id : TableId
+  pub id : ℕ
+  pub me : Seat
 
 -- a root that has seen this
 abbrev pub root_view : Setup → List Entry → View

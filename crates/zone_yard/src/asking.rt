@@ -13,63 +13,55 @@ ghost use Rattle.zone_yard.specs.Passes.{IsFree};
 ghost use Rattle.zone_yard.specs.Setup.{core};
 ghost use Rattle.zone_yard.specs.Tells.{IsOurs};
 
-use crate::receipts::{Receipts, entries_of};
+use crate::receipts::entries_of;
 use crate::requests::{Attempt, Wanted, ask_once};
 use crate::steps::{glance, word_of};
-use crate::views::Place;
-use crate::yard::{Driver, Yard};
+use crate::yard::{Asker, Driver, Yard};
 use crate::zones::HowToTake;
 use ats_io::{Gate, Moment};
-use move_claim::{Cell, Footprint, Known, Owed};
+use move_claim::{Cell, Claim, Footprint};
 use rail_model::BlockAsk;
 
 // Asks for a block of steps, and asks again where another table came into force meanwhile: each round sees a later one.
 pub(crate) fn ask_on<T: HowToTake, G: Gate>(
     yard: &Yard<'_>,
-    seat: &mut Place,
-    receipts: &mut Receipts,
-    train: u32,
-    position: u32,
-    steps: u32,
-    known: &mut Known,
-    owed: &mut Owed,
+    asker: &mut Asker,
+    claim: Claim,
     how: &T,
     gate: &G,
 ) -> Attempt
-    requires ours { IsOurs yard.now seat.old.table_id seat.old.me.0 }
-    requires train { (train < trains (offer yard.now.setup.tables 0).table) × (seat.old.me.0.number ≡ train) }
-    requires aboard { seat.old.me.0.aboard ≡ true }
-    requires idle { IsIdle position seat.old.me.0.actor }
-    requires steps { (1 ≤ steps) × (steps ≤ 4) }
-    requires room { length seat.old.me.0.mine + steps ≤ yard.now.setup.calls }
-    requires lines { AreLines seat.old.me.0 receipts.old }
-    ensures same { (seat.new.table_id ≡ seat.old.table_id) × (seat.new.id ≡ seat.old.id) }
-    ensures lines { AreLines seat.new.me.0 receipts.new }
-    ensures asks { Asks seat.old.table_id steps seat.old.me result seat.new.me }
+    requires ours { IsOurs yard.now asker.old.seat.table_id asker.old.seat.me.view }
+    requires train { (claim.train < trains (offer yard.now.setup.tables 0).table) × (asker.old.seat.me.view.number ≡ claim.train) }
+    requires aboard { asker.old.seat.me.view.aboard ≡ true }
+    requires idle { IsIdle claim.place asker.old.seat.me.view.actor }
+    requires steps { (1 ≤ claim.steps) × (claim.steps ≤ 4) }
+    requires room { length asker.old.seat.me.view.mine + claim.steps ≤ yard.now.setup.calls }
+    requires lines { AreLines asker.old.seat.me.view asker.old.receipts }
+    ensures same { (asker.new.seat.table_id ≡ asker.old.seat.table_id) × (asker.new.seat.id ≡ asker.old.seat.id) }
+    ensures lines { AreLines asker.new.seat.me.view asker.new.receipts }
+    ensures asks { Asks asker.old.seat.table_id claim.steps asker.old.seat.me result asker.new.seat.me }
     ensures waits { T.waits ≡ true → FoundNoZoneHeld result }
     ensures formed { IsSetup (core yard.now.setup) }
 {
     let word = word_of(yard, Cell::Table);
     let mut footprint = Footprint::new();
     'rounds: loop {
-        let table = glance(yard, seat, word) as u32;
-        gate.at(train, Moment::Glanced);
+        let table = glance(yard, &mut asker.seat, word) as u32;
+        gate.at(claim.train, Moment::Glanced);
         footprint.fill_block(
             yard.key.layout,
             yard.key.table(table),
-            train,
-            position,
-            steps,
+            claim.train,
+            claim.place,
+            claim.steps,
         );
         let wanted = Wanted {
-            train,
-            place: position,
+            train: claim.train,
+            place: claim.place,
             table,
-            steps,
+            steps: claim.steps,
         };
-        if let Some(attempt) = ask_once(
-            yard, seat, receipts, wanted, &footprint, known, owed, how, gate,
-        ) {
+        if let Some(attempt) = ask_once(yard, asker, wanted, &footprint, how, gate) {
             return attempt;
         }
     }
@@ -109,18 +101,12 @@ pub(crate) fn ask_steps<T: HowToTake, G: Gate>(
     ensures waits { T.waits ≡ true → FoundNoZoneHeld result }
     ensures same { IsSamePass driver.old driver.new }
 {
-    let attempt = ask_on(
-        yard,
-        &mut driver.seat,
-        &mut driver.receipts,
-        driver.train,
-        driver.position,
+    let claim = Claim {
+        train: driver.train,
+        place: driver.position,
         steps,
-        &mut driver.known,
-        &mut driver.owed,
-        how,
-        gate,
-    );
+    };
+    let attempt = ask_on(yard, &mut driver.asker, claim, how, gate);
     if let Attempt::Told { answer, steps, .. } = attempt {
         driver.position += count_granted(answer, steps);
         driver.entries += entries_of(answer, steps);

@@ -15,10 +15,10 @@ use std::marker::Brand;
 
 // Reads these cells, each under its guard.
 pub(crate) fn read_all(yard: &Yard<'_>, seat: &mut Place, cells: &[Cell], known: &mut Known)
-    requires ours { IsOurs yard.now seat.old.table_id seat.old.me.0 }
-    requires aboard { (seat.old.me.0.aboard ≡ true) × (seat.old.me.0.actor.closing ≡ false) }
-    requires guard { AreReadable (core yard.now.setup) seat.old.me.0.actor.held cells.now }
-    requires known { (known.old ≡ seat.old.me.0.actor.known) × AreAllSmall known.old }
+    requires ours { IsOurs yard.now seat.old.table_id seat.old.me.view }
+    requires aboard { (seat.old.me.view.aboard ≡ true) × (seat.old.me.view.actor.closing ≡ false) }
+    requires guard { AreReadable (core yard.now.setup) seat.old.me.view.actor.held cells.now }
+    requires known { (known.old ≡ seat.old.me.view.actor.known) × AreAllSmall known.old }
     requires room { length known.old + length cells.now ≤ 609 }
     ensures same { (seat.new.table_id ≡ seat.old.table_id) × (seat.new.id ≡ seat.old.id) }
     ensures knows { Knows seat.old.me seat.new.me known.new }
@@ -34,9 +34,9 @@ pub(crate) fn read_all(yard: &Yard<'_>, seat: &mut Place, cells: &[Cell], known:
 
 // Writes all that is owed, in its order.
 pub(crate) fn pay_all(yard: &Yard<'_>, seat: &mut Place, owed: &Owed)
-    requires ours { IsOurs yard.now seat.old.table_id seat.old.me.0 }
-    requires aboard { seat.old.me.0.aboard ≡ true }
-    requires owed { (owed.now ≡ seat.old.me.0.actor.owed) × AreDistinct owed.now }
+    requires ours { IsOurs yard.now seat.old.table_id seat.old.me.view }
+    requires aboard { seat.old.me.view.aboard ≡ true }
+    requires owed { (owed.now ≡ seat.old.me.view.actor.owed) × AreDistinct owed.now }
     requires cells { AreCells (core yard.now.setup) owed.now }
     ensures same { (seat.new.table_id ≡ seat.old.table_id) × (seat.new.id ≡ seat.old.id) }
     ensures pays { PaysAll seat.old.me [] seat.new.me }

@@ -38,7 +38,7 @@ fn read_back(yard: Yard<'_>, root: Root, mut positions: State, lines: Vec<Line>)
         out: _out,
         lines: rows,
     } = root;
-    let closed = table.close_with(seat);
+    let closed = table.close_with(seat.seat);
     for train in 0..positions.len() {
         positions.set(train as u32, closed.word(8 * (first + train)) as u32);
     }

@@ -42,10 +42,10 @@ fn trains(yard: &Yard<'_>) -> u32
 
 // All zones are held. Reads every train's position.
 fn read_positions(yard: &Yard<'_>, seat: &mut Place, known: &mut Known)
-    requires ours { IsOurs yard.now seat.old.table_id seat.old.me.0 }
-    requires aboard { (seat.old.me.0.aboard ≡ true) × (seat.old.me.0.actor.closing ≡ false) }
-    requires guard { holds_all (core yard.now.setup) seat.old.me.0.actor.held ≡ true }
-    requires known { (known.old ≡ seat.old.me.0.actor.known) × (length known.old ≤ 1) }
+    requires ours { IsOurs yard.now seat.old.table_id seat.old.me.view }
+    requires aboard { (seat.old.me.view.aboard ≡ true) × (seat.old.me.view.actor.closing ≡ false) }
+    requires guard { holds_all (core yard.now.setup) seat.old.me.view.actor.held ≡ true }
+    requires known { (known.old ≡ seat.old.me.view.actor.known) × (length known.old ≤ 1) }
     ensures same { (seat.new.table_id ≡ seat.old.table_id) × (seat.new.id ≡ seat.old.id) }
     ensures knows { Knows seat.old.me seat.new.me known.new }
     ensures all { first_unknown (map (λ (i : ℕ). Position i) (below (trains_in (core yard.now.setup)))) known.new ≡ None }
@@ -60,14 +60,14 @@ fn read_positions(yard: &Yard<'_>, seat: &mut Place, known: &mut Known)
 
 // All zones are held. Reads the table in force and every train's position.
 fn know_state(yard: &Yard<'_>, seat: &mut Place, known: &mut Known)
-    requires ours { IsOurs yard.now seat.old.table_id seat.old.me.0 }
-    requires aboard { (seat.old.me.0.aboard ≡ true) × (seat.old.me.0.actor.closing ≡ false) }
-    requires held { seat.old.me.0.actor.held ≡ span (below yard.now.setup.layout.zones) 0 yard.now.setup.layout.zones }
-    requires nothing { seat.old.me.0.actor.known ≡ [] }
+    requires ours { IsOurs yard.now seat.old.table_id seat.old.me.view }
+    requires aboard { (seat.old.me.view.aboard ≡ true) × (seat.old.me.view.actor.closing ≡ false) }
+    requires held { seat.old.me.view.actor.held ≡ span (below yard.now.setup.layout.zones) 0 yard.now.setup.layout.zones }
+    requires nothing { seat.old.me.view.actor.known ≡ [] }
     ensures same { (seat.new.table_id ≡ seat.old.table_id) × (seat.new.id ≡ seat.old.id) }
     ensures learns { Learns seat.old.me seat.new.me }
-    ensures known { known.new ≡ seat.new.me.0.actor.known }
-    ensures some { seat.new.me.0.actor.held ≢ [] }
+    ensures known { known.new ≡ seat.new.me.view.actor.known }
+    ensures some { seat.new.me.view.actor.held ≢ [] }
     ensures all { first_unknown (TableCell ∷ map (λ (i : ℕ). Position i) (below (trains_in (core yard.now.setup)))) known.new ≡ None }
 {
     let word = word_of(yard, Cell::Table);
@@ -106,25 +106,25 @@ fn enter_turn(
     room: &mut TurnRoom,
     receipts: &mut Receipts,
 ) -> (Tried, u64)
-    requires ours { IsOurs yard.now seat.old.table_id seat.old.me.0 }
-    requires pass { (seat.old.me.0.number ≡ control_number) × (seat.old.me.0.actor.position ≡ tried) }
-    requires aboard { (seat.old.me.0.aboard ≡ true) × (seat.old.me.0.actor.closing ≡ false) }
-    requires held { seat.old.me.0.actor.held ≡ span (below yard.now.setup.layout.zones) 0 yard.now.setup.layout.zones }
-    requires known { room.old.known ≡ seat.old.me.0.actor.known }
+    requires ours { IsOurs yard.now seat.old.table_id seat.old.me.view }
+    requires pass { (seat.old.me.view.number ≡ control_number) × (seat.old.me.view.actor.position ≡ tried) }
+    requires aboard { (seat.old.me.view.aboard ≡ true) × (seat.old.me.view.actor.closing ≡ false) }
+    requires held { seat.old.me.view.actor.held ≡ span (below yard.now.setup.layout.zones) 0 yard.now.setup.layout.zones }
+    requires known { room.old.known ≡ seat.old.me.view.actor.known }
     requires all { first_unknown (TableCell ∷ map (λ (i : ℕ). Position i) (below (trains_in (core yard.now.setup)))) room.old.known ≡ None }
     requires more { tried + 1 < length yard.now.setup.tables }
     requires one_each { length room.old.positions ≡ trains_in (core yard.now.setup) }
-    requires room { length seat.old.me.0.mine + 1 ≤ yard.now.setup.calls }
-    requires lines { AreLines seat.old.me.0 receipts.old }
+    requires room { length seat.old.me.view.mine + 1 ≤ yard.now.setup.calls }
+    requires lines { AreLines seat.old.me.view receipts.old }
     ensures same { (seat.new.table_id ≡ seat.old.table_id) × (seat.new.id ≡ seat.old.id) }
     ensures appends { Appends 1 seat.old.me result.1 seat.new.me }
-    ensures entry { new_entries 1 seat.old.me.0 ≡ told control_number (ControlEntry result.0 ∷ []) }
-    ensures actor { seat.new.me.0.actor ≡ control_after (core yard.now.setup) seat.old.me.0.actor }
-    ensures told { result.0 ≡ tried_by (core yard.now.setup) seat.old.me.0.actor }
-    ensures owes { room.new.owed ≡ seat.new.me.0.actor.owed }
+    ensures entry { new_entries 1 seat.old.me.view ≡ told control_number (ControlEntry result.0 ∷ []) }
+    ensures actor { seat.new.me.view.actor ≡ control_after (core yard.now.setup) seat.old.me.view.actor }
+    ensures told { result.0 ≡ tried_by (core yard.now.setup) seat.old.me.view.actor }
+    ensures owes { room.new.owed ≡ seat.new.me.view.actor.owed }
     ensures cells { AreCells (core yard.now.setup) room.new.owed }
     ensures one_each { length room.new.positions ≡ length room.old.positions }
-    ensures lines { AreLines seat.new.me.0 receipts.new }
+    ensures lines { AreLines seat.new.me.view receipts.new }
 {
     let (told, ticket) = enter_tried(
         yard,

@@ -6,7 +6,7 @@ ghost use Rattle.zone_yard.specs.Spread.{spread};
 ghost use Rattle.zone_machine.specs.Weave.{first_words as first_words_of};
 ghost use Rattle.table_exchange.specs.Tables.{Stands};
 
-use crate::views::Key;
+use crate::views::{Key, Place};
 use crate::yard::{Root, Yard};
 use atomic_table::Table;
 use cert_checker::Accepted;
@@ -132,7 +132,7 @@ impl<'a> Yard<'a> {
             Ok((table, seat)) => Ok((
                 Yard { table, key },
                 Root {
-                    seat,
+                    seat: Place { seat },
                     boarded: [false; 33],
                     out: 0,
                     lines,

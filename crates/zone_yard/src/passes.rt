@@ -13,7 +13,7 @@ use crate::receipts::Receipts;
 use crate::replies::Board;
 use crate::steps::{board_seat, join, look};
 use crate::views::Place;
-use crate::yard::{Control, Driver, Root, TurnRoom, Yard};
+use crate::yard::{Asker, Control, Driver, Root, TurnRoom, Yard};
 use move_claim::{Known, Owed};
 use std::alloc::Global;
 use std::marker::Brand;
@@ -28,11 +28,11 @@ pub(crate) fn take_back(
     receipts: Receipts,
 )
     requires root { root.old.yard ≡ yard.now }
-    requires seat { IsOurs yard.now seat.table_id seat.me.0 × (seat.me.1 ≡ []) }
-    requires free { (seat.me.0.aboard ≡ true) × (seat.me.0.actor.held ≡ []) }
-    requires number { (seat.me.0.number ≡ number) × IsPassNumber yard.now.setup number }
-    requires lines { AreLines seat.me.0 receipts }
-    ensures { TakesBack root.old (pass_of seat.table_id seat.me.0) root.new }
+    requires seat { IsOurs yard.now seat.table_id seat.me.view × (seat.me.slots ≡ []) }
+    requires free { (seat.me.view.aboard ≡ true) × (seat.me.view.actor.held ≡ []) }
+    requires number { (seat.me.view.number ≡ number) × IsPassNumber yard.now.setup number }
+    requires lines { AreLines seat.me.view receipts }
+    ensures { TakesBack root.old (pass_of seat.table_id seat.me.view) root.new }
 {
     join(yard, &mut root.seat, seat);
     look(yard, &mut root.seat);
@@ -46,10 +46,10 @@ fn seat_of(yard: &Yard<'_>, root: &mut Root, number: u32) -> Place
     requires pass { IsPassNumber yard.now.setup number × (number < most_passes) }
     requires ashore { HasBoarded root.old number → ⊥ }
     ensures root { root.new ≡ with_pass root.old number }
-    ensures pass { pass_of result.table_id result.me.0 ≡ boarded_pass root.old number }
+    ensures pass { pass_of result.table_id result.me.view ≡ boarded_pass root.old number }
     ensures fresh { IsPass number (standing root.old.yard.setup.opening.yard number) 0 result.me }
-    ensures stands { standing (state_after result.me.0.setup result.me.0.seen) number ≡ standing root.old.yard.setup.opening.yard number }
-    ensures lines { (l : Lines) → l.items ≡ [] → most_lines number ≤ l.room → AreLines result.me.0 l }
+    ensures stands { standing (state_after result.me.view.setup result.me.view.seen) number ≡ standing root.old.yard.setup.opening.yard number }
+    ensures lines { (l : Lines) → l.items ≡ [] → most_lines number ≤ l.room → AreLines result.me.view l }
 {
     let seat = board_seat::<Brand>(yard, &mut root.seat, number);
     root.boarded[number as usize] = true;
@@ -91,14 +91,17 @@ impl<'a> Yard<'a> {
             return Err(Board::Memory);
         };
         let seat = seat_of(self, root, train);
-        Ok(Driver {
+        let asker = Asker {
             seat,
-            train,
-            position,
-            entries: 0,
             receipts,
             known,
             owed,
+        };
+        Ok(Driver {
+            asker,
+            train,
+            position,
+            entries: 0,
         })
     }
 
@@ -109,15 +112,12 @@ impl<'a> Yard<'a> {
         ensures { TakesBack root.old driver root.new }
     {
         let Driver {
-            seat,
+            asker,
             train,
             position: _position,
             entries: _entries,
-            receipts,
-            known: _known,
-            owed: _owed,
         } = driver;
-        take_back(self, root, seat, train, receipts);
+        take_back(self, root, asker.seat, train, asker.receipts);
     }
 
     /// The pass that tries tables, which boards once in a yard's life.

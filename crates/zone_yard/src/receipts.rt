@@ -119,18 +119,18 @@ pub(crate) fn enter_answer<J: HowMany>(
     answer: BlockAsk,
     steps: u32,
 ) -> u64
-    requires ours { IsOurs yard.now seat.old.table_id seat.old.me.0 }
+    requires ours { IsOurs yard.now seat.old.table_id seat.old.me.view }
     requires steps { steps ≡ J.steps }
-    requires aboard { seat.old.me.0.aboard ≡ true }
-    requires train { (claim.train < 32) × (seat.old.me.0.number ≡ claim.train) }
-    requires table { (table < length yard.now.setup.tables) × (number_of TableCell seat.old.me.0.actor.known ≡ Some table) }
-    requires claim { claim ≡ claim_of (offer yard.now.setup.tables table).table claim.train seat.old.me.0.actor.position steps }
-    requires answer { answer ≡ decided (offer yard.now.setup.tables table).table claim (number_in seat.old.me.0.actor.known) }
-    requires may { MayEnter yard.now.setup steps seat.old.me.0 }
-    requires lines { AreLines seat.old.me.0 receipts.old }
+    requires aboard { seat.old.me.view.aboard ≡ true }
+    requires train { (claim.train < 32) × (seat.old.me.view.number ≡ claim.train) }
+    requires table { (table < length yard.now.setup.tables) × (number_of TableCell seat.old.me.view.actor.known ≡ Some table) }
+    requires claim { claim ≡ claim_of (offer yard.now.setup.tables table).table claim.train seat.old.me.view.actor.position steps }
+    requires answer { answer ≡ decided (offer yard.now.setup.tables table).table claim (number_in seat.old.me.view.actor.known) }
+    requires may { MayEnter yard.now.setup steps seat.old.me.view }
+    requires lines { AreLines seat.old.me.view receipts.old }
     ensures same { (seat.new.table_id ≡ seat.old.table_id) × (seat.new.id ≡ seat.old.id) }
     ensures appends { Appends steps seat.old.me result seat.new.me }
-    ensures lines { AreLines seat.new.me.0 receipts.new }
+    ensures lines { AreLines seat.new.me.view receipts.new }
 {
     let ticket = append::<J>(yard, seat, steps, entries_of(answer, claim.steps) as u64);
     if let BlockAsk::Yes = answer {
@@ -149,19 +149,19 @@ pub(crate) fn enter_tried(
     known: &Known,
     positions: &mut State,
 ) -> (Tried, u64)
-    requires ours { IsOurs yard.now seat.old.table_id seat.old.me.0 }
-    requires aboard { seat.old.me.0.aboard ≡ true }
-    requires pass { (seat.old.me.0.number ≡ control) × (seat.old.me.0.actor.position ≡ last) }
-    requires known { known.now ≡ seat.old.me.0.actor.known }
+    requires ours { IsOurs yard.now seat.old.table_id seat.old.me.view }
+    requires aboard { seat.old.me.view.aboard ≡ true }
+    requires pass { (seat.old.me.view.number ≡ control) × (seat.old.me.view.actor.position ≡ last) }
+    requires known { known.now ≡ seat.old.me.view.actor.known }
     requires one_each { length positions.old ≡ trains_of (core yard.now.setup) }
     requires more { last + 1 < length yard.now.setup.tables }
-    requires may { MayEnter yard.now.setup 1 seat.old.me.0 }
-    requires lines { AreLines seat.old.me.0 receipts.old }
+    requires may { MayEnter yard.now.setup 1 seat.old.me.view }
+    requires lines { AreLines seat.old.me.view receipts.old }
     ensures same { (seat.new.table_id ≡ seat.old.table_id) × (seat.new.id ≡ seat.old.id) }
     ensures appends { Appends 1 seat.old.me result.1 seat.new.me }
-    ensures told { result.0 ≡ tried (core yard.now.setup) seat.old.me.0.actor }
-    ensures noted { positions.new ≡ known_positions (core yard.now.setup) seat.old.me.0.actor }
-    ensures lines { AreLines seat.new.me.0 receipts.new }
+    ensures told { result.0 ≡ tried (core yard.now.setup) seat.old.me.view.actor }
+    ensures noted { positions.new ≡ known_positions (core yard.now.setup) seat.old.me.view.actor }
+    ensures lines { AreLines seat.new.me.view receipts.new }
 {
     let ticket = append::<Brand>(yard, seat, 1, 1);
     let told = told_of_next(yard, last, known, positions);

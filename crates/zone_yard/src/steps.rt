@@ -23,72 +23,78 @@ use rail_model::{points_of, zones_of};
 
 // One try at a zone: the word that was found.
 pub(crate) fn take(yard: &Yard<'_>, seat: &mut Place, pass: u32, zone: u32) -> u64
-    requires ours { IsOurs yard.now seat.old.table_id seat.old.me.0 }
-    requires pass { (seat.old.me.0.aboard ≡ true) × (seat.old.me.0.number ≡ pass) }
-    requires zone { (zone < yard.now.setup.layout.zones) × (is_above zone seat.old.me.0.actor.held ≡ true) }
-    requires still { seat.old.me.0.actor.closing ≡ false }
+    requires ours { IsOurs yard.now seat.old.table_id seat.old.me.view }
+    requires pass { (seat.old.me.view.aboard ≡ true) × (seat.old.me.view.number ≡ pass) }
+    requires zone { (zone < yard.now.setup.layout.zones) × (is_above zone seat.old.me.view.actor.held ≡ true) }
+    requires still { seat.old.me.view.actor.closing ≡ false }
     ensures same { (seat.new.table_id ≡ seat.old.table_id) × (seat.new.id ≡ seat.old.id) }
-    ensures free { result ≡ 0 → seat.new.me ≡ (took zone seat.old.me.0, seat.old.me.1) }
-    ensures held { result ≢ 0 → (seat.new.me ≡ (tried_at zone result seat.old.me.0, seat.old.me.1)) × (result ≢ suc pass) × (result ≤ most_passes) }
+    ensures free { result ≡ 0 → seat.new.me ≡ record seat.old.me { view = took zone seat.old.me.view } }
+    ensures held { result ≢ 0 → (seat.new.me ≡ record seat.old.me { view = tried_at zone result seat.old.me.view }) × (result ≢ suc pass) × (result ≤ most_passes) }
 {
-    yard.table
-        .shared
-        .compare_exchange::<Taking>(seat, 8 * (zone as usize + 1), 0, pass as u64 + 1)
+    yard.table.shared.compare_exchange::<Taking>(
+        &mut seat.seat,
+        8 * (zone as usize + 1),
+        0,
+        pass as u64 + 1,
+    )
 }
 
 // A zone that is held is given back.
 pub(crate) fn release(yard: &Yard<'_>, seat: &mut Place, zone: u32)
-    requires ours { IsOurs yard.now seat.old.table_id seat.old.me.0 }
-    requires zone { (zone < yard.now.setup.layout.zones) × (has zone seat.old.me.0.actor.held ≡ true) }
-    requires paid { (seat.old.me.0.aboard ≡ true) × (seat.old.me.0.actor.owed ≡ []) }
+    requires ours { IsOurs yard.now seat.old.table_id seat.old.me.view }
+    requires zone { (zone < yard.now.setup.layout.zones) × (has zone seat.old.me.view.actor.held ≡ true) }
+    requires paid { (seat.old.me.view.aboard ≡ true) × (seat.old.me.view.actor.owed ≡ []) }
     ensures same { (seat.new.table_id ≡ seat.old.table_id) × (seat.new.id ≡ seat.old.id) }
-    ensures gave { seat.new.me ≡ (gave zone seat.old.me.0, seat.old.me.1) }
+    ensures gave { seat.new.me ≡ record seat.old.me { view = gave zone seat.old.me.view } }
 {
     yard.table
         .shared
-        .store::<Releasing>(seat, 8 * (zone as usize + 1), 0)
+        .store::<Releasing>(&mut seat.seat, 8 * (zone as usize + 1), 0)
 }
 
 // The seat of the pass that the caller picks, cut from the root's.
 pub(crate) fn board_seat<J: Which>(yard: &Yard<'_>, root: &mut Place, number: u32) -> Place
     requires which { number ≡ J.number }
-    requires root { IsOurs yard.now root.old.table_id root.old.me.0 × (root.old.id ≡ 0) }
-    requires pass { IsPassNumber yard.now.setup number × (has number root.old.me.0.boarded ≡ false) }
-    ensures root { (root.new.table_id ≡ root.old.table_id) × (root.new.id ≡ root.old.id) × (root.new.me ≡ (boarding number root.old.me.0, root.old.me.1)) }
-    ensures seat { (result.table_id ≡ root.old.table_id) × (result.me ≡ (pass_view number root.old.me.0, [])) }
+    requires root { IsOurs yard.now root.old.table_id root.old.me.view × (root.old.id ≡ 0) }
+    requires pass { IsPassNumber yard.now.setup number × (has number root.old.me.view.boarded ≡ false) }
+    ensures root { (root.new.table_id ≡ root.old.table_id) × (root.new.id ≡ root.old.id) × (root.new.me ≡ record root.old.me { view = boarding number root.old.me.view }) }
+    ensures seat { (result.table_id ≡ root.old.table_id) × (result.me ≡ record { view = pass_view number root.old.me.view; slots = [] }) }
 {
-    yard.table.shared.split_seat::<Boards<J>>(root)
+    let seat = yard.table.shared.split_seat::<Boards<J>>(&mut root.seat);
+    Place { seat }
 }
 
 // A pass's seat is joined to the root's.
 pub(crate) fn join(yard: &Yard<'_>, root: &mut Place, seat: Place)
-    requires root { IsOurs yard.now root.old.table_id root.old.me.0 × (root.old.id ≡ 0) }
-    requires seat { IsOurs yard.now seat.table_id seat.me.0 × (seat.me.1 ≡ []) }
-    requires free { (seat.me.0.aboard ≡ true) × (seat.me.0.actor.held ≡ []) }
-    ensures root { (root.new.table_id ≡ root.old.table_id) × (root.new.id ≡ root.old.id) × (root.new.me ≡ (leaving root.old.me.0 seat.me.0, root.old.me.1)) }
+    requires root { IsOurs yard.now root.old.table_id root.old.me.view × (root.old.id ≡ 0) }
+    requires seat { IsOurs yard.now seat.table_id seat.me.view × (seat.me.slots ≡ []) }
+    requires free { (seat.me.view.aboard ≡ true) × (seat.me.view.actor.held ≡ []) }
+    ensures root { (root.new.table_id ≡ root.old.table_id) × (root.new.id ≡ root.old.id) × (root.new.me ≡ record root.old.me { view = leaving root.old.me.view seat.me.view }) }
 {
-    yard.table.shared.join_seat::<Leaves>(root, seat)
+    yard.table
+        .shared
+        .join_seat::<Leaves>(&mut root.seat, seat.seat)
 }
 
 // The root looks at the history: how long it is.
 pub(crate) fn look(yard: &Yard<'_>, root: &mut Place) -> u64
-    requires { IsOurs yard.now root.old.table_id root.old.me.0 × (root.old.id ≡ 0) }
+    requires { IsOurs yard.now root.old.table_id root.old.me.view × (root.old.id ≡ 0) }
     ensures root { (root.new.table_id ≡ root.old.table_id) × (root.new.id ≡ root.old.id) }
     ensures looks { Looks root.old.me result root.new.me }
 {
-    yard.table.shared.load::<Looking>(root, 0)
+    yard.table.shared.load::<Looking>(&mut root.seat, 0)
 }
 
 // A look at the table in force, without a zone.
 pub(crate) fn glance(yard: &Yard<'_>, seat: &mut Place, word: usize) -> u64
-    requires ours { IsOurs yard.now seat.old.table_id seat.old.me.0 }
+    requires ours { IsOurs yard.now seat.old.table_id seat.old.me.view }
     requires word { word ≡ word_at (core yard.now.setup) TableCell }
-    requires free { (seat.old.me.0.aboard ≡ true) × (seat.old.me.0.actor.held ≡ []) }
+    requires free { (seat.old.me.view.aboard ≡ true) × (seat.old.me.view.actor.held ≡ []) }
     ensures same { (seat.new.table_id ≡ seat.old.table_id) × (seat.new.id ≡ seat.old.id) }
-    ensures sees { (seat.old.me.0.noted ≤ result) × (result < length seat.old.me.0.setup.tables) }
-    ensures glanced { seat.new.me ≡ (glanced result seat.old.me.0, seat.old.me.1) }
+    ensures sees { (seat.old.me.view.noted ≤ result) × (result < length seat.old.me.view.setup.tables) }
+    ensures glanced { seat.new.me ≡ record seat.old.me { view = glanced result seat.old.me.view } }
 {
-    yard.table.shared.load::<Glancing>(seat, 8 * word)
+    yard.table.shared.load::<Glancing>(&mut seat.seat, 8 * word)
 }
 
 // The word of a cell.
@@ -109,29 +115,33 @@ pub(crate) fn word_of(yard: &Yard<'_>, cell: Cell) -> usize
 
 // The table in force is read under a zone.
 pub(crate) fn read_table(yard: &Yard<'_>, seat: &mut Place, word: usize) -> u64
-    requires ours { IsOurs yard.now seat.old.table_id seat.old.me.0 }
+    requires ours { IsOurs yard.now seat.old.table_id seat.old.me.view }
     requires word { word ≡ word_at (core yard.now.setup) TableCell }
-    requires aboard { (seat.old.me.0.aboard ≡ true) × (seat.old.me.0.actor.closing ≡ false) }
-    requires guard { may_read (core yard.now.setup) seat.old.me.0.actor.held TableCell ≡ true }
+    requires aboard { (seat.old.me.view.aboard ≡ true) × (seat.old.me.view.actor.closing ≡ false) }
+    requires guard { may_read (core yard.now.setup) seat.old.me.view.actor.held TableCell ≡ true }
     ensures same { (seat.new.table_id ≡ seat.old.table_id) × (seat.new.id ≡ seat.old.id) }
-    ensures sees { (seat.old.me.0.noted ≤ result) × (result < length seat.old.me.0.setup.tables) }
-    ensures reads { seat.new.me ≡ (read_table result seat.old.me.0, seat.old.me.1) }
+    ensures sees { (seat.old.me.view.noted ≤ result) × (result < length seat.old.me.view.setup.tables) }
+    ensures reads { seat.new.me ≡ record seat.old.me { view = read_table result seat.old.me.view } }
 {
-    yard.table.shared.load::<ReadingTable>(seat, 8 * word)
+    yard.table
+        .shared
+        .load::<ReadingTable>(&mut seat.seat, 8 * word)
 }
 
 // A cell is read under its guard.
 pub(crate) fn read<J: WhichCell>(yard: &Yard<'_>, seat: &mut Place, cell: Cell, word: usize) -> u64
-    requires ours { IsOurs yard.now seat.old.table_id seat.old.me.0 }
+    requires ours { IsOurs yard.now seat.old.table_id seat.old.me.view }
     requires cell { cell ≡ J.cell }
     requires word { word ≡ word_at (core yard.now.setup) cell }
-    requires aboard { (seat.old.me.0.aboard ≡ true) × (seat.old.me.0.actor.closing ≡ false) }
-    requires guard { (is_cell (core yard.now.setup) cell ≡ true) × (may_read (core yard.now.setup) seat.old.me.0.actor.held cell ≡ true) }
+    requires aboard { (seat.old.me.view.aboard ≡ true) × (seat.old.me.view.actor.closing ≡ false) }
+    requires guard { (is_cell (core yard.now.setup) cell ≡ true) × (may_read (core yard.now.setup) seat.old.me.view.actor.held cell ≡ true) }
     ensures same { (seat.new.table_id ≡ seat.old.table_id) × (seat.new.id ≡ seat.old.id) }
     ensures small { result < 2 ^ 31 }
-    ensures reads { seat.new.me ≡ (read cell result seat.old.me.0, seat.old.me.1) }
+    ensures reads { seat.new.me ≡ record seat.old.me { view = read cell result seat.old.me.view } }
 {
-    yard.table.shared.load::<Reading<J>>(seat, 8 * word)
+    yard.table
+        .shared
+        .load::<Reading<J>>(&mut seat.seat, 8 * word)
 }
 
 // An owed cell is written.
@@ -142,30 +152,30 @@ pub(crate) fn pay<J: WhichCell>(
     word: usize,
     number: u32,
 )
-    requires ours { IsOurs yard.now seat.old.table_id seat.old.me.0 }
+    requires ours { IsOurs yard.now seat.old.table_id seat.old.me.view }
     requires cell { (cell ≡ J.cell) × (is_cell (core yard.now.setup) cell ≡ true) }
     requires word { word ≡ word_at (core yard.now.setup) cell }
-    requires aboard { seat.old.me.0.aboard ≡ true }
-    requires due { number_of cell seat.old.me.0.actor.owed ≡ Some number }
+    requires aboard { seat.old.me.view.aboard ≡ true }
+    requires due { number_of cell seat.old.me.view.actor.owed ≡ Some number }
     ensures same { (seat.new.table_id ≡ seat.old.table_id) × (seat.new.id ≡ seat.old.id) }
-    ensures paid { seat.new.me ≡ (paid cell seat.old.me.0, seat.old.me.1) }
+    ensures paid { seat.new.me ≡ record seat.old.me { view = paid cell seat.old.me.view } }
 {
     yard.table
         .shared
-        .store::<Paying<J>>(seat, 8 * word, number as u64)
+        .store::<Paying<J>>(&mut seat.seat, 8 * word, number as u64)
 }
 
 // This many entries are added to the history: the place of the first.
 pub(crate) fn append<J: HowMany>(yard: &Yard<'_>, seat: &mut Place, steps: u32, entries: u64) -> u64
-    requires ours { IsOurs yard.now seat.old.table_id seat.old.me.0 }
+    requires ours { IsOurs yard.now seat.old.table_id seat.old.me.view }
     requires steps { steps ≡ J.steps }
-    requires entries { entries ≡ length (new_entries steps seat.old.me.0) }
-    requires may { MayEnter yard.now.setup steps seat.old.me.0 }
-    requires aboard { seat.old.me.0.aboard ≡ true }
+    requires entries { entries ≡ length (new_entries steps seat.old.me.view) }
+    requires may { MayEnter yard.now.setup steps seat.old.me.view }
+    requires aboard { seat.old.me.view.aboard ≡ true }
     ensures same { (seat.new.table_id ≡ seat.old.table_id) × (seat.new.id ≡ seat.old.id) }
     ensures appends { Appends steps seat.old.me result seat.new.me }
 {
     yard.table
         .shared
-        .fetch_add::<Appending<J>>(seat, 0, entries)
+        .fetch_add::<Appending<J>>(&mut seat.seat, 0, entries)
 }

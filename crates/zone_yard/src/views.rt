@@ -58,7 +58,18 @@ impl Model for View {
 }
 
 /// A seat at a yard's table, which has no slots.
-pub type Place = Seat<(), View>;
+#[derive(Drop)]
+pub struct Place {
+    pub(crate) seat: Seat<(), View>,
+}
+
+impl Model for Place {
+    ghost use Rattle.zone_yard.specs.Views.{Place as PlaceValue, seat_of};
+
+    ghost Value = { PlaceValue };
+
+    ghost view = { λ p. record { table_id = p.seat.table_id; id = p.seat.id; me = seat_of p.seat.me } };
+}
 
 /// The rule of a yard's table.
 pub struct Law;
@@ -78,8 +89,9 @@ pub struct Taking;
 
 impl Play<(), View> for Taking {
     ghost use Rattle.zone_yard.specs.Tells.{TakesZone};
+    ghost use Rattle.zone_yard.specs.Views.{seat_of};
 
-    ghost then = { TakesZone };
+    ghost then = { λ step m found after. TakesZone step (seat_of m) found (seat_of after) };
 }
 
 /// A zone is given back.
@@ -87,8 +99,9 @@ pub struct Releasing;
 
 impl Play<(), View> for Releasing {
     ghost use Rattle.zone_yard.specs.Tells.{Releases};
+    ghost use Rattle.zone_yard.specs.Views.{seat_of};
 
-    ghost then = { Releases };
+    ghost then = { λ step m stored after. Releases step (seat_of m) stored (seat_of after) };
 }
 
 /// A look at the table in force, without a zone.
@@ -96,8 +109,9 @@ pub struct Glancing;
 
 impl Play<(), View> for Glancing {
     ghost use Rattle.zone_yard.specs.Tells.{Glances};
+    ghost use Rattle.zone_yard.specs.Views.{seat_of};
 
-    ghost then = { Glances };
+    ghost then = { λ step m found after. Glances step (seat_of m) found (seat_of after) };
 }
 
 /// A cell. Each call picks its own.
@@ -118,8 +132,9 @@ pub struct Reading<J: WhichCell> {
 
 impl<J: WhichCell> Play<(), View> for Reading<J> {
     ghost use Rattle.zone_yard.specs.Tells.{ReadsCell};
+    ghost use Rattle.zone_yard.specs.Views.{seat_of};
 
-    ghost then = { λ step. ReadsCell J.cell };
+    ghost then = { λ step m found after. ReadsCell J.cell (seat_of m) found (seat_of after) };
 }
 
 /// The table in force is read under a zone.
@@ -127,8 +142,9 @@ pub struct ReadingTable;
 
 impl Play<(), View> for ReadingTable {
     ghost use Rattle.zone_yard.specs.Tells.{ReadsInForce};
+    ghost use Rattle.zone_yard.specs.Views.{seat_of};
 
-    ghost then = { ReadsInForce };
+    ghost then = { λ step m found after. ReadsInForce step (seat_of m) found (seat_of after) };
 }
 
 /// An owed cell is written.
@@ -138,8 +154,9 @@ pub struct Paying<J: WhichCell> {
 
 impl<J: WhichCell> Play<(), View> for Paying<J> {
     ghost use Rattle.zone_yard.specs.Tells.{PaysCell};
+    ghost use Rattle.zone_yard.specs.Views.{seat_of};
 
-    ghost then = { λ step m stored. PaysCell J.cell m };
+    ghost then = { λ step m stored after. PaysCell J.cell (seat_of m) (seat_of after) };
 }
 
 /// How many steps a driver asks for; of the control one. Each call picks its own.
@@ -158,8 +175,9 @@ pub struct Appending<J: HowMany> {
 
 impl<J: HowMany> Play<(), View> for Appending<J> {
     ghost use Rattle.zone_yard.specs.Tells.{Appends};
+    ghost use Rattle.zone_yard.specs.Views.{seat_of};
 
-    ghost then = { λ step. Appends J.steps };
+    ghost then = { λ step m found after. Appends J.steps (seat_of m) found (seat_of after) };
 }
 
 /// A look of the root's at the history.
@@ -167,8 +185,9 @@ pub struct Looking;
 
 impl Play<(), View> for Looking {
     ghost use Rattle.zone_yard.specs.Tells.{Looks};
+    ghost use Rattle.zone_yard.specs.Views.{seat_of};
 
-    ghost then = { λ step. Looks };
+    ghost then = { λ step m found after. Looks (seat_of m) found (seat_of after) };
 }
 
 /// The number of the pass that boards. Each call picks its own.

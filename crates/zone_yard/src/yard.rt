@@ -75,21 +75,27 @@ impl Model for Root {
 
     ghost Value = { RootValue };
 
-    ghost view = { λ r. root_of r.seat.table_id r.seat.me.0 };
+    ghost view = { λ r. root_of r.seat.table_id r.seat.me.view };
 
-    ghost invariant = { λ r. IsRoot r.boarded r.out r.seat.id r.seat.me.0 × AreLeft r.seat.me.0 r.lines.items };
+    ghost invariant = { λ r. IsRoot r.boarded r.out r.seat.id r.seat.me.view × AreLeft r.seat.me.view r.lines.items };
 }
 
-/// The pass of a train. It has room for all numbers that a request reads and writes.
+/// Who asks for steps: its seat, the lines that it keeps, and room for all numbers that a request reads and writes.
 #[derive(Drop)]
-pub struct Driver {
+pub(crate) struct Asker {
     pub(crate) seat: Place,
-    pub(crate) train: u32,
-    pub(crate) position: u32,
-    pub(crate) entries: u32,
     pub(crate) receipts: Receipts,
     pub(crate) known: Known,
     pub(crate) owed: Owed,
+}
+
+/// The pass of a train.
+#[derive(Drop)]
+pub struct Driver {
+    pub(crate) asker: Asker,
+    pub(crate) train: u32,
+    pub(crate) position: u32,
+    pub(crate) entries: u32,
 }
 
 impl Model for Driver {
@@ -100,9 +106,9 @@ impl Model for Driver {
 
     ghost Value = { Pass };
 
-    ghost view = { λ d. pass_of d.seat.table_id d.seat.me.0 };
+    ghost view = { λ d. pass_of d.asker.seat.table_id d.asker.seat.me.view };
 
-    ghost invariant = { λ d. IsDriver d.train d.position d.entries d.seat.me × AreLines d.seat.me.0 d.receipts };
+    ghost invariant = { λ d. IsDriver d.train d.position d.entries d.asker.seat.me × AreLines d.asker.seat.me.view d.asker.receipts };
 }
 
 /// Room for what a try of the control reads and writes.
@@ -146,9 +152,9 @@ impl Model for Control {
 
     ghost Value = { Pass };
 
-    ghost view = { λ c. pass_of c.seat.table_id c.seat.me.0 };
+    ghost view = { λ c. pass_of c.seat.table_id c.seat.me.view };
 
-    ghost invariant = { λ c. IsControl c.tried c.entries c.room.positions c.seat.me × AreLines c.seat.me.0 c.receipts };
+    ghost invariant = { λ c. IsControl c.tried c.entries c.room.positions c.seat.me × AreLines c.seat.me.view c.receipts };
 }
 
 impl Root {

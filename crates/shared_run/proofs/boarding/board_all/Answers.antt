@@ -1,6 +1,6 @@
 use Rattle.std.proofs.Common.{◌<◌, ◌+◌, ℕ, get_or, sym, subst, ◌∙◌, arith, rules}
-use Rattle.dispatch_workers.specs.declared.groups.Group.{Group}
-use Rattle.dispatch_workers.specs.declared.groups.Group.TheVariants.{Drivers}
+use Rattle.shared_run.specs.declared.groups.Group.{Group}
+use Rattle.shared_run.specs.declared.groups.Group.TheVariants.{Drivers}
 use Rattle.shared_run.specs.Boarding.{HaveBoarded, HasDrivers, passes_in}
 use Rattle.shared_run.specs.Shared.{fresh_passes}
 use Rattle.shared_run.proofs.Grouped.{group_boards, group_ours, drivers_fresh, groups_have}

@@ -2,8 +2,8 @@ use Rattle.std.proofs.Common.{◌≡◌, ◌<◌, ℕ}
 use Rattle.std.specs.Prelude.{slice_index_or}
 use Rattle.std.specs.List.{All}
 use Rattle.std.specs.Vec.{vec_capacity, vec_len}
-use Rattle.dispatch_workers.specs.declared.groups.Group.{Group}
-use Rattle.dispatch_workers.specs.Groups.{IsOurGroup}
+use Rattle.shared_run.specs.declared.groups.Group.{Group}
+use Rattle.shared_run.specs.Groups.{IsOurGroup}
 use Rattle.shared_run.specs.Boarding.{HaveBoarded, AreAshore, HasDrivers, passes_in}
 use Rattle.shared_run.specs.Shared.{fresh_passes}
 use Rattle.shared_run.proofs.boarding.board_all.Given as goal

@@ -8,16 +8,16 @@ use Rattle.move_claim.specs.Cells.{number_of, put}
 use Rattle.zone_machine.specs.World.{may_read}
 use Rattle.zone_machine.proofs.OwnSteps.{number_of-put_other}
 use Rattle.zone_machine.proofs.Places.{same_some}
+use Rattle.zone_yard.specs.Views.{Seat}
 use Rattle.zone_yard.specs.Setup.{core}
 use Rattle.zone_yard.specs.Holding.{AreAllSmall}
-use Rattle.zone_yard.specs.Tells.{Sat}
 use Rattle.zone_yard.proofs.CellLists.{put-length, put-small, put-new, put-seen, all_seen, knows_next}
 use Rattle.zone_yard.proofs.cells.read_all.Goals as goal
 
 pub read-number-requires-clause-guard : goal.read-number-requires-clause-guard
 read-number-requires-clause-guard c =
     let at = c.requires.guard c.loop-cell.cell-index _ (slice_get-get_or c.args.cells.now c.loop-cell.cell-index (Point 0) (omega (arith, c.loop-cell-test.true))) in
-    (at.0, subst (λ l. may_read (core c.args.yard.now.setup) l (get_or c.args.cells.now c.loop-cell.cell-index (Point 0)) ≡ true) (sym (ap (λ (m : Sat). m.0.actor.held) c.loop-cell.invariant.knows)) at.1)
+    (at.0, subst (λ l. may_read (core c.args.yard.now.setup) l (get_or c.args.cells.now c.loop-cell.cell-index (Point 0)) ≡ true) (sym (ap (λ (m : Seat). m.view.actor.held) c.loop-cell.invariant.knows)) at.1)
 
 pub loop-cell-preserved : goal.loop-cell-preserved
 loop-cell-preserved c =

@@ -15,7 +15,7 @@ if_ok P Q (Err e) f h = tt
 
 pub returns-clause-lines : goal.returns-clause-lines
 returns-clause-lines c =
-    let v : View = c.root.inside.seat.me.0 in
+    let v : View = c.root.inside.seat.me.view in
     let L = c.look.ensures.looks in
     let nobody : v.out ≡ 0 = ap (λ (x : Root). x.out) c.root.view_is ∙ c.requires.nobody in
     let passes : (p : ℕ) → p < most_passes → entries_of p v.seen ≡ done_of p v.done = λ p lt. ap (entries_of p) (L.whole nobody) ∙ L.passes nobody p lt in

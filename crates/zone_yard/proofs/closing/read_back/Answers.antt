@@ -14,7 +14,7 @@ use Rattle.move_claim.specs.declared.cells.Cell.TheVariants.{Position, Table as 
 use Rattle.zone_machine.specs.World.{word_of}
 use Rattle.zone_yard.specs.Setup.{Setup, SharedYard, core, state_after}
 use Rattle.zone_yard.specs.Passes.{Root}
-use Rattle.zone_yard.specs.Views.{View}
+use Rattle.zone_yard.specs.Views.{View, Place}
 use Rattle.zone_yard.specs.Boarding.{Closes}
 use Rattle.zone_yard.specs.Kept.{KeepsRule}
 use Rattle.zone_yard.proofs.Keeps.{St}
@@ -25,7 +25,7 @@ use Rattle.zone_yard.proofs.closing.read_back.Goals as goal
 -- the shared table at its end, where nobody is out
 module _ (c : After-close_with-closed) where
   abbrev v : View
-  v = c.root.inside.seat.me.0
+  v = c.root.inside.seat.me.view
 
   abbrev s : St
   s = c.close_with-closed.ensures.values.2.0
@@ -40,7 +40,8 @@ module _ (c : After-close_with-closed) where
   k = subst (λ (T : Setup). KeepsRule T s) (c.yard.invariant.key_is ∙ made) c.close_with-closed.ensures.values.2.1.0
 
   at : get_elem? s.views 0 ≡ some v
-  at = subst (λ id. get_elem? s.views id ≡ some v) c.root.invariant.0.first c.close_with-closed.ensures.values.2.1.1
+  at = subst (λ (p : Place). get_elem? s.views 0 ≡ some p.me.view) c.seat.view_is
+      (subst (λ id. get_elem? s.views id ≡ some c.seat.inside.seat.me.0) (ap (λ (p : Place). p.id) c.seat.view_is ∙ c.root.invariant.0.first) c.close_with-closed.ensures.values.2.1.1)
 
   nobody : v.out ≡ 0
   nobody = ap (λ (x : Root). x.out) c.root.view_is ∙ c.requires.nobody

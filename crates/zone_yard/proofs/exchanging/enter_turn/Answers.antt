@@ -11,8 +11,7 @@ use Rattle.move_claim.specs.Cells.{number_of, first_unknown}
 use Rattle.zone_machine.specs.Entries.{known_positions, tried, is_exchange, exchange_effects}
 use Rattle.zone_machine.specs.World.{Actor, trains_of, is_cell}
 use Rattle.zone_yard.specs.Setup.{Setup, core}
-use Rattle.zone_yard.specs.Tells.{Sat}
-use Rattle.zone_yard.specs.Views.{View, knower}
+use Rattle.zone_yard.specs.Views.{View, knower, Seat}
 use Rattle.zone_yard.proofs.CellLists.{are_cells}
 use Rattle.zone_yard.proofs.Turning.{ready_control, control_entry, control_actor, offer_here, asked}
 use Rattle.zone_yard.proofs.exchanging.enter_turn.Goals as goal
@@ -20,7 +19,7 @@ use Rattle.zone_yard.proofs.exchanging.enter_turn.Goals as goal
 pub enter_tried-told-requires-clause-may : goal.enter_tried-told-requires-clause-may
 enter_tried-told-requires-clause-may c =
     let S : Setup = c.args.yard.now.setup in
-    let v : View = c.args.seat.now.me.0 in
+    let v : View = c.args.seat.now.me.view in
     ready_control S v c.requires.ours.1 c.requires.pass.0 c.requires.aboard.1 c.requires.held
     (ap (first_unknown (TableCell ∷ map (λ (i : ℕ). Position i) (below (trains_of (core S))))) (sym c.requires.known) ∙ c.requires.all)
     (omega (arith, c.requires.pass.1, c.requires.more)) c.requires.room
@@ -28,7 +27,7 @@ enter_tried-told-requires-clause-may c =
 pub owe_told-requires : goal.owe_told-requires
 owe_told-requires c = λ e.
     let S : Setup = c.args.yard.now.setup in
-    let told = asked S c.args.seat.now.me.0 c.args.room.now.known c.args.tried c.requires.ours.1 (c.enter_tried-told.ensures.appends.turn c.requires.pass.0) c.requires.known c.requires.pass.1 in
+    let told = asked S c.args.seat.now.me.view c.args.room.now.known c.args.tried c.requires.ours.1 (c.enter_tried-told.ensures.appends.turn c.requires.pass.0) c.requires.known c.requires.pass.1 in
     let given = c.tables-tables.ensures.given in
     let low : c.args.tried + 1 < length c.tables-tables.result.now = (let n = ap length given in omega (arith, n, c.requires.more)) in
     let next_is : c.table-next.result.now ≡ (offer S.tables (c.args.tried + 1)).table =
@@ -41,7 +40,7 @@ owe_told-requires c = λ e.
 
 pub returns-clause-entry : goal.returns-clause-entry
 returns-clause-entry c =
-    control_entry c.args.yard.now.setup c.args.seat.now.me.0 c.requires.ours.1 c.requires.pass.0
+    control_entry c.args.yard.now.setup c.args.seat.now.me.view c.requires.ours.1 c.requires.pass.0
     ∙ ap (λ (r : Tried). entry r ∷ []) (sym c.enter_tried-told.ensures.told)
   where
     entry : Tried → Entry
@@ -50,7 +49,7 @@ returns-clause-entry c =
 pub returns-clause-owes : goal.returns-clause-owes
 returns-clause-owes c =
     let S : Setup = c.args.yard.now.setup in
-    let a : Actor = c.args.seat.now.me.0.actor in
+    let a : Actor = c.args.seat.now.me.view.actor in
     let given = c.tables-tables.ensures.given in
     let low : c.args.tried + 1 < length c.tables-tables.result.now = (let n = ap length given in omega (arith, n, c.requires.more)) in
     let next_is : c.table-next.result.now ≡ (offer S.tables (a.position + 1)).table =
@@ -58,11 +57,11 @@ returns-clause-owes c =
     ∙ (λ i. (offer (given i) (sym c.requires.pass.1 i + 1)).table)) in
     c.owe_told.ensures
     ∙ ((λ i. cond (is_exchange (c.enter_tried-told.ensures.told i)) (exchange_effects (next_is i) (sym c.requires.pass.1 i + 1) (c.enter_tried-told.ensures.noted i)) [])
-    ∙ (sym (ap (λ (x : Actor). x.owed) (control_actor S c.args.seat.now.me.0 c.requires.ours.1 c.requires.pass.0)) ∙ sym (ap (λ (m : Sat). m.0.actor.owed) c.enter_tried-told.ensures.appends.now)))
+    ∙ (sym (ap (λ (x : Actor). x.owed) (control_actor S c.args.seat.now.me.view c.requires.ours.1 c.requires.pass.0)) ∙ sym (ap (λ (m : Seat). m.view.actor.owed) c.enter_tried-told.ensures.appends.now)))
 
 pub returns-clause-cells : goal.returns-clause-cells
 returns-clause-cells c =
     let S : Setup = c.args.yard.now.setup in
-    let owes : c.owe_told.new.owed ≡ c.enter_tried-told.new.seat.me.0.actor.owed = returns-clause-owes c in
+    let owes : c.owe_told.new.owed ≡ c.enter_tried-told.new.seat.me.view.actor.owed = returns-clause-owes c in
     are_cells (core S) c.owe_told.new.owed
     (λ d n e. subst (λ (T : Setup). is_cell (core T) d ≡ true) c.requires.ours.1 (c.enter_tried-told.ensures.appends.cells d n (sym (ap (number_of d) owes) ∙ e)))

@@ -7,15 +7,15 @@ use Rattle.move_claim.specs.Cells.{number_of, put}
 use Rattle.zone_machine.specs.World.{holds_all}
 use Rattle.zone_machine.proofs.Entering.{none_unknown}
 use Rattle.zone_machine.proofs.OwnSteps.{number_of-put_other}
+use Rattle.zone_yard.specs.Views.{Seat}
 use Rattle.zone_yard.specs.Setup.{core}
-use Rattle.zone_yard.specs.Tells.{Sat}
 use Rattle.zone_yard.proofs.CellLists.{put-length, put-new, put-seen, knows_next}
 use Rattle.zone_yard.proofs.exchanging.read_positions.Goals as goal
 
 pub read-number-requires-clause-guard : goal.read-number-requires-clause-guard
 read-number-requires-clause-guard c = (
   lt-ltb c.loop-train.train _ (omega (arith, c.loop-train-test.true, c.trains-train-end.ensures.count)),
-  subst (λ l. holds_all (core c.args.yard.now.setup) l ≡ true) (sym (ap (λ (m : Sat). m.0.actor.held) c.loop-train.invariant.knows)) c.requires.guard,
+  subst (λ l. holds_all (core c.args.yard.now.setup) l ≡ true) (sym (ap (λ (m : Seat). m.view.actor.held) c.loop-train.invariant.knows)) c.requires.guard,
 )
 
 pub loop-train-preserved : goal.loop-train-preserved

@@ -3,12 +3,11 @@ use mathlib.Core.Logic.{dite}
 use native.Mathlib.Decide.{ℕ_discrete}
 use Rattle.zone_locks.specs.Zones.{has}
 use Rattle.zone_yard.specs.Setup.{Setup, SharedYard, state_after, IsLegalHistory}
-use Rattle.zone_yard.specs.Tells.{Sat}
 use Rattle.zone_yard.specs.Passes.{Root as RootValue, entries_of, standing}
 use Rattle.zone_yard.specs.Aboard.{IsPass}
 use Rattle.zone_yard.specs.Lines.{AreLeft, AreLines}
 use Rattle.zone_yard.specs.Kept.{IsPassNumber}
-use Rattle.zone_yard.specs.Views.{View, boarding, pass_view}
+use Rattle.zone_yard.specs.Views.{View, boarding, pass_view, Seat}
 use Rattle.zone_yard.proofs.LinesKept.{left_stay, lines_begin}
 use Rattle.zone_yard.proofs.Keeps.{has_less}
 use Rattle.zone_yard.proofs.Roots.{many_few, many_set, fresh}
@@ -31,22 +30,22 @@ overflow_add-root c =
 pub invariant_of-root : goal.invariant_of-root
 invariant_of-root c =
     let r = c.root.invariant.0 in
-    let v : View = c.root.inside.seat.me.0 in
+    let v : View = c.root.inside.seat.me.view in
     let t : ℕ = c.args.number in
     let flags : List Bool = c.root.inside.boarded in
-    let me : c.board_seat-seat.new.root.me.0 ≡ boarding c.args.number c.root.inside.seat.me.0 = ap (λ m. m.0) c.board_seat-seat.ensures.root.2 in
+    let me : c.board_seat-seat.new.root.me.view ≡ boarding c.args.number c.root.inside.seat.me.view = ap (λ (m : Seat). m.view) c.board_seat-seat.ensures.root.2 in
     let wide = r.wide in
     let small = c.requires.pass.1 in
     let low : c.args.number < length c.root.inside.boarded = omega arith in
     let off = r.known t small ∙ ashore v.boarded c.args.root.now.boarded t (ap (λ (x : RootValue). x.boarded) c.root.view_is) c.requires.ashore in
-    let boarded : c.board_seat-seat.new.root.me.0.boarded ≡ t ∷ v.boarded = ap (λ (x : View). x.boarded) me in
-    let out : c.board_seat-seat.new.root.me.0.out ≡ v.out + 1 = ap (λ (x : View). x.out) me in
-    let done : length c.board_seat-seat.new.root.me.0.done ≡ length v.done = ap (λ (x : View). length x.done) me in
+    let boarded : c.board_seat-seat.new.root.me.view.boarded ≡ t ∷ v.boarded = ap (λ (x : View). x.boarded) me in
+    let out : c.board_seat-seat.new.root.me.view.out ≡ v.out + 1 = ap (λ (x : View). x.out) me in
+    let done : length c.board_seat-seat.new.root.me.view.done ≡ length v.done = ap (λ (x : View). length x.done) me in
     let many' = many_set flags t low off in
     let few = r.few in
     let counted = r.counted in
     let out_is = r.out_is in
-    let long : length c.board_seat-seat.new.root.me.0.boarded ≡ suc (length v.boarded) = ap length boarded in (
+    let long : length c.board_seat-seat.new.root.me.view.boarded ≡ suc (length v.boarded) = ap length boarded in (
       record {
         first = c.board_seat-seat.ensures.root.1 ∙ r.first;
         wide = length-set flags t true ∙ r.wide;
@@ -68,13 +67,13 @@ invariant_of-root c =
 pub returns-clause-fresh : goal.returns-clause-fresh
 returns-clause-fresh c =
     let stands = ap (λ (x : RootValue). standing x.yard.setup.opening.yard c.args.number) c.root.view_is in
-    subst (λ (x : ℕ × Sat). IsPass c.args.number x.0 0 x.1) (λ i. (stands i, sym c.board_seat-seat.ensures.seat.1 i))
-    (fresh c.root.inside.seat.me.0 c.args.number c.root.invariant.0.few_calls c.root.invariant.0.legal)
+    subst (λ (x : ℕ × Seat). IsPass c.args.number x.0 0 x.1) (λ i. (stands i, sym c.board_seat-seat.ensures.seat.1 i))
+    (fresh c.root.inside.seat.me.view c.args.number c.root.invariant.0.few_calls c.root.invariant.0.legal)
 
 pub returns-clause-lines : goal.returns-clause-lines
 returns-clause-lines c = λ l none room.
-    let v : View = c.root.inside.seat.me.0 in
-    let me : c.board_seat-seat.result.me.0 ≡ pass_view c.args.number v = ap (λ m. m.0) c.board_seat-seat.ensures.seat.1 in
+    let v : View = c.root.inside.seat.me.view in
+    let me : c.board_seat-seat.result.me.view ≡ pass_view c.args.number v = ap (λ (m : Seat). m.view) c.board_seat-seat.ensures.seat.1 in
     let made : v.setup ≡ c.args.yard.now.setup = ap (λ (x : RootValue). x.yard.setup) c.root.view_is ∙ ap (λ (y : SharedYard). y.setup) c.requires.ours in
     let actor = subst (λ (S : Setup). IsPassNumber S c.args.number) (sym made) c.requires.pass.0 in
     let none_yet = ashore v.boarded c.args.root.now.boarded c.args.number (ap (λ (x : RootValue). x.boarded) c.root.view_is) c.requires.ashore in

@@ -3,7 +3,7 @@ use Rattle.std.proofs.lemmas.List.Elements.{All-head, All-tail}
 use Rattle.rail_model.specs.declared.types.Entry.{Entry}
 use Rattle.zone_yard.specs.Setup.{Setup, SharedYard, core, most_passes, IsLegalHistory}
 use Rattle.zone_yard.specs.Passes.{Root, StartsWith, IsAshore, entries_of}
-use Rattle.zone_yard.specs.Views.{View, pass_of, root_of, leaving, looked}
+use Rattle.zone_yard.specs.Views.{Seat, View, pass_of, root_of, leaving, looked}
 use Rattle.zone_yard.specs.Boarding.{TakesBack}
 use Rattle.rail_model.specs.Table.{trains}
 use Rattle.rail_model.specs.Yard.{offer, control}
@@ -14,13 +14,13 @@ use Rattle.zone_yard.proofs.passes.take_back.Goals as goal
 
 pub returns : goal.returns
 returns c =
-    let v : View = c.root.inside.seat.me.0 in
-    let w : View = c.args.seat.me.0 in
-    let joined : c.join.new.root.me.0 ≡ leaving v w = ap (λ m. m.0) c.join.ensures.root.2 in
+    let v : View = c.root.inside.seat.me.view in
+    let w : View = c.args.seat.me.view in
+    let joined : c.join.new.root.me.view ≡ leaving v w = ap (λ (m : Seat). m.view) c.join.ensures.root.2 in
     let L = c.look.ensures.looks in
     let H : List Entry = L.history in
-    let new : View = c.look.new.root.me.0 in
-    let me : c.look.new.root.me.0 ≡ looked H (leaving v w) = ap (λ m. m.0) L.now ∙ ap (looked H) joined in
+    let new : View = c.look.new.root.me.view in
+    let me : c.look.new.root.me.view ≡ looked H (leaving v w) = ap (λ (m : Seat). m.view) L.now ∙ ap (looked H) joined in
     let seen : new.seen ≡ H = ap (λ (x : View). x.seen) me in
     let all : All (StartsWith H) (v.seen ∷ w.seen ∷ v.joined) = subst (λ (x : View). All (StartsWith H) x.joined) joined L.joined in
     let now : (leaving v w).out + length (leaving v w).done ≡ length (leaving v w).boarded = subst (λ (x : View). x.out + length x.done ≡ length x.boarded) joined L.left in
@@ -40,14 +40,14 @@ returns c =
 
 pub invariant_of-root : goal.invariant_of-root
 invariant_of-root c =
-    let v : View = c.root.inside.seat.me.0 in
-    let w : View = c.args.seat.me.0 in
+    let v : View = c.root.inside.seat.me.view in
+    let w : View = c.args.seat.me.view in
     let r = c.root.invariant.0 in
-    let joined : c.join.new.root.me.0 ≡ leaving v w = ap (λ m. m.0) c.join.ensures.root.2 in
+    let joined : c.join.new.root.me.view ≡ leaving v w = ap (λ (m : Seat). m.view) c.join.ensures.root.2 in
     let L = c.look.ensures.looks in
     let H : List Entry = L.history in
-    let new : View = c.look.new.root.me.0 in
-    let me : c.look.new.root.me.0 ≡ looked H (leaving v w) = ap (λ m. m.0) L.now ∙ ap (looked H) joined in
+    let new : View = c.look.new.root.me.view in
+    let me : c.look.new.root.me.view ≡ looked H (leaving v w) = ap (λ (m : Seat). m.view) L.now ∙ ap (looked H) joined in
     let seen : new.seen ≡ H = ap (λ (x : View). x.seen) me in
     let all : All (StartsWith H) (v.seen ∷ w.seen ∷ v.joined) = subst (λ (x : View). All (StartsWith H) x.joined) joined L.joined in
     let now : (leaving v w).out + length (leaving v w).done ≡ length (leaving v w).boarded = subst (λ (x : View). x.out + length x.done ≡ length x.boarded) joined L.left in
@@ -60,7 +60,7 @@ invariant_of-root c =
     let made : new.setup ≡ v.setup = ap (λ (x : View). x.setup) me in
     let ours : w.setup ≡ v.setup = c.requires.seat.0.1 ∙ (sym (ap (λ (y : SharedYard). y.setup) c.requires.root) ∙ sym (ap (λ (x : Root). x.yard.setup) c.root.view_is)) in
     let few = (L.formed.formed 0 L.formed.tables.some).few_trains in
-    let setup : c.join.new.root.me.0.setup ≡ v.setup = ap (λ (x : View). x.setup) joined in
+    let setup : c.join.new.root.me.view.setup ≡ v.setup = ap (λ (x : View). x.setup) joined in
     let trains_few : trains (offer c.args.yard.now.setup.tables 0).table ≤ 32 = subst (λ (S : Setup). trains (offer S.tables 0).table ≤ 32) (setup ∙ (sym ours ∙ c.requires.seat.0.1)) few in
     let low : c.args.number < most_passes = ⊎_elim (λ (lt : c.args.number < trains (offer c.args.yard.now.setup.tables 0).table). omega arith) (λ (e : c.args.number ≡ control). omega arith) c.requires.number.1 in (
       record {
@@ -70,9 +70,9 @@ invariant_of-root c =
         counted = long ∙ r.counted;
         out_is = omega arith;
         few = omega arith;
-        away = subst (λ (x : View). (p : ℕ) → IsActor (core x.setup) p → has p x.boarded ≡ false → entries_of p x.seen ≡ []) (sym (ap (λ m. m.0) L.now)) L.away;
+        away = subst (λ (x : View). (p : ℕ) → IsActor (core x.setup) p → has p x.boarded ≡ false → entries_of p x.seen ≡ []) (sym (ap (λ (m : Seat). m.view) L.now)) L.away;
         legal = subst (λ (l : List Entry). IsLegalHistory new.setup l) (sym seen) (subst (λ (S : Setup). IsLegalHistory S H) (setup ∙ sym made) L.legal);
-        ashore = subst (λ (x : View). IsAshore x.setup x.boarded x.seen) (sym (ap (λ m. m.0) L.now)) L.ashore;
+        ashore = subst (λ (x : View). IsAshore x.setup x.boarded x.seen) (sym (ap (λ (m : Seat). m.view) L.now)) L.ashore;
         few_calls = subst (λ (S : Setup). S.calls < 2 ^ 32) (sym made) r.few_calls;
       },
       left_more v w new c.root.inside.lines.items c.args.number c.into_lines.result c.args.receipts c.root.invariant.1 c.requires.lines c.requires.number.0 low ours made

@@ -5,10 +5,9 @@ use Rattle.move_claim.specs.Claims.{claim_of}
 use Rattle.move_claim.specs.Deciding.{decided}
 use Rattle.zone_machine.specs.Sound.{IsSetup}
 use Rattle.ticket_lines.specs.Tickets.{marks_of, own_lines}
-use Rattle.zone_yard.specs.Views.{new_entries}
+use Rattle.zone_yard.specs.Views.{new_entries, Seat}
 use Rattle.zone_yard.specs.Setup.{Setup, core, state_after}
 use Rattle.zone_yard.specs.Lines.{Lines, AreLines, moves_from}
-use Rattle.zone_yard.specs.Tells.{Sat}
 use Rattle.zone_yard.proofs.LinesKept.{Tells, granted, none_granted, moves_fit, lines_kept}
 use Rattle.zone_yard.proofs.receipts.enter_answer.Given.{Over}
 use Rattle.zone_yard.proofs.receipts.enter_answer.Goals.{After-append-ticket}
@@ -16,25 +15,25 @@ use Rattle.zone_yard.proofs.receipts.enter_answer.Goals as goal
 
 -- the entry of a driver, before its lines are kept
 module _ (g : Over) (c : After-append-ticket g) where
-  abbrev m : Sat
+  abbrev m : Seat
   m = c.args.seat.now.me
 
-  abbrev w : Sat
+  abbrev w : Seat
   w = c.append-ticket.new.seat.me
 
   abbrev old : Lines
   old = c.args.receipts.now
 
-  asked : Tells m.0 c.args.table c.args.steps c.args.claim c.args.answer
+  asked : Tells m.view c.args.table c.args.steps c.args.claim c.args.answer
   asked = record {
     named = c.requires.train.1;
     low = c.requires.train.0;
     table = c.requires.table.1;
-    claim = c.requires.claim ∙ ap (λ (R : Setup). claim_of (offer R.tables c.args.table).table c.args.claim.train m.0.actor.position c.args.steps) (sym c.requires.ours.1);
-    answer = c.requires.answer ∙ ap (λ (R : Setup). decided (offer R.tables c.args.table).table c.args.claim (number_in m.0.actor.known)) (sym c.requires.ours.1);
+    claim = c.requires.claim ∙ ap (λ (R : Setup). claim_of (offer R.tables c.args.table).table c.args.claim.train m.view.actor.position c.args.steps) (sym c.requires.ours.1);
+    answer = c.requires.answer ∙ ap (λ (R : Setup). decided (offer R.tables c.args.table).table c.args.claim (number_in m.view.actor.known)) (sym c.requires.ours.1);
   }
 
-  kept : (new : Lines) → new.room ≡ old.room → new.items ≡ old.items ++ own_lines m.0.number c.append-ticket.result (marks_of m.0.setup.tables (state_after m.0.setup c.append-ticket.ensures.appends.before) (new_entries c.args.steps m.0)) → AreLines w.0 new
+  kept : (new : Lines) → new.room ≡ old.room → new.items ≡ old.items ++ own_lines m.view.number c.append-ticket.result (marks_of m.view.setup.tables (state_after m.view.setup c.append-ticket.ensures.appends.before) (new_entries c.args.steps m.view)) → AreLines w.view new
   kept new room items = lines_kept c.args.steps c.append-ticket.result m w c.append-ticket.ensures.appends c.requires.lines.own old new c.requires.lines room items
 
 pub push_moves-requires-clause-room : goal.push_moves-requires-clause-room
@@ -46,8 +45,8 @@ push_moves-requires-clause-room g c =
 pub returns-in-Yes-clause-lines : goal.returns-in-Yes-clause-lines
 returns-in-Yes-clause-lines g c =
     let at = (goal.at.returns-in-Yes-clause-lines g c).After-append-ticket in
-    let made : c.yard.inside.key ≡ c.args.seat.now.me.0.setup = ap (λ y. y.setup) c.yard.view_is ∙ sym c.requires.ours.1 in
-    let table : c.table.result.now ≡ (offer (m g at).0.setup.tables c.args.table).table = c.table.ensures ∙ ap (λ (R : Setup). (offer R.tables c.args.table).table) made in
+    let made : c.yard.inside.key ≡ c.args.seat.now.me.view.setup = ap (λ y. y.setup) c.yard.view_is ∙ sym c.requires.ours.1 in
+    let table : c.table.result.now ≡ (offer (m g at).view.setup.tables c.args.table).table = c.table.ensures ∙ ap (λ (R : Setup). (offer R.tables c.args.table).table) made in
     kept g at c.push_moves.new.self (ap (λ (x : Lines). x.room) c.push_moves.ensures)
     (ap (λ (x : Lines). x.items) c.push_moves.ensures
     ∙ ap (λ l. c.args.receipts.now.items ++ l)

@@ -7,8 +7,7 @@ use Rattle.ticket_lines.specs.Tickets.{at_ticket}
 use Rattle.zone_machine.specs.Entries.{known_positions, tried}
 use Rattle.zone_yard.specs.Setup.{core, state_after}
 use Rattle.zone_yard.specs.Lines.{Lines, AreLines}
-use Rattle.zone_yard.specs.Tells.{Sat}
-use Rattle.zone_yard.specs.Views.{knower}
+use Rattle.zone_yard.specs.Views.{knower, Seat}
 use Rattle.zone_yard.proofs.Turning.{asked}
 use Rattle.zone_yard.proofs.LinesKept.{Tries, next_tried, table_lines, line_fits, lines_kept}
 use Rattle.zone_yard.proofs.receipts.enter_tried.Goals.{After-table_line}
@@ -16,40 +15,40 @@ use Rattle.zone_yard.proofs.receipts.enter_tried.Goals as goal
 
 -- the entry of the control, before its line is kept
 module _ (c : After-table_line) where
-  abbrev m : Sat
+  abbrev m : Seat
   m = c.args.seat.now.me
 
-  abbrev w : Sat
+  abbrev w : Seat
   w = c.append-ticket.new.seat.me
 
   abbrev old : Lines
   old = c.args.receipts.now
 
-  tries : Tries m.0 (c.args.last + 1) c.told_of_next-told.result
+  tries : Tries m.view (c.args.last + 1) c.told_of_next-told.result
   tries = record {
     named = c.requires.pass.0;
     next_is = ap (λ k. k + 1) (sym c.requires.pass.1);
     answer = c.told_of_next-told.ensures.told ∙ (λ i. tried (core (sym c.requires.ours.1 i)) (knower (c.requires.known i) (sym c.requires.pass.1 i)));
   }
 
-  line : c.table_line.result ≡ line_of m.0.setup.tables (state_after m.0.setup c.append-ticket.ensures.appends.before) (record { who = control; reply = Control c.told_of_next-told.result })
-  line = c.table_line.ensures m.0.setup.tables (state_after m.0.setup c.append-ticket.ensures.appends.before)
+  line : c.table_line.result ≡ line_of m.view.setup.tables (state_after m.view.setup c.append-ticket.ensures.appends.before) (record { who = control; reply = Control c.told_of_next-told.result })
+  line = c.table_line.ensures m.view.setup.tables (state_after m.view.setup c.append-ticket.ensures.appends.before)
       (next_tried (c.args.last + 1) c.append-ticket.result m w c.append-ticket.ensures.appends c.requires.lines.own c.told_of_next-told.result tries)
 
-  kept : (new : Lines) → new.room ≡ old.room → new.items ≡ old.items ++ at_ticket c.append-ticket.result c.table_line.result → AreLines w.0 new
+  kept : (new : Lines) → new.room ≡ old.room → new.items ≡ old.items ++ at_ticket c.append-ticket.result c.table_line.result → AreLines w.view new
   kept new room items = lines_kept 1 c.append-ticket.result m w c.append-ticket.ensures.appends c.requires.lines.own old new c.requires.lines room
       (items ∙ ap (λ l. old.items ++ l) (ap (at_ticket c.append-ticket.result) line
       ∙ sym (table_lines (c.args.last + 1) c.append-ticket.result m w c.append-ticket.ensures.appends c.requires.lines.own c.told_of_next-told.result tries)))
 
-  told : c.told_of_next-told.result ≡ tried (core c.args.yard.now.setup) m.0.actor
+  told : c.told_of_next-told.result ≡ tried (core c.args.yard.now.setup) m.view.actor
   told = c.told_of_next-told.ensures.told ∙ (λ i. tried (core c.args.yard.now.setup) (knower (c.requires.known i) (sym c.requires.pass.1 i)))
 
-  noted : c.told_of_next-told.new.positions ≡ known_positions (core c.args.yard.now.setup) m.0.actor
+  noted : c.told_of_next-told.new.positions ≡ known_positions (core c.args.yard.now.setup) m.view.actor
   noted = c.told_of_next-told.ensures.noted ∙ (λ i. known_positions (core c.args.yard.now.setup) (knower (c.requires.known i) (sym c.requires.pass.1 i)))
 
 pub told_of_next-told-requires-clause-asked : goal.told_of_next-told-requires-clause-asked
 told_of_next-told-requires-clause-asked c =
-    asked c.args.yard.now.setup c.args.seat.now.me.0 c.args.known.now c.args.last c.requires.ours.1 (c.append-ticket.ensures.appends.turn c.requires.pass.0) c.requires.known c.requires.pass.1
+    asked c.args.yard.now.setup c.args.seat.now.me.view c.args.known.now c.args.last c.requires.ours.1 (c.append-ticket.ensures.appends.turn c.requires.pass.0) c.requires.known c.requires.pass.1
 
 pub push-requires : goal.push-requires
 push-requires c =

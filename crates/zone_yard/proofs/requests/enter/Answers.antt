@@ -7,11 +7,11 @@ use Rattle.move_claim.specs.declared.claims.Claim.{Claim}
 use Rattle.move_claim.specs.Claims.{Footprint, cells_of}
 use Rattle.move_claim.specs.Deciding.{decided}
 use Rattle.zone_machine.specs.World.{is_cell}
+use Rattle.zone_yard.specs.Views.{Seat}
 use Rattle.zone_yard.specs.declared.requests.Wanted.{Wanted}
 use Rattle.zone_yard.specs.Setup.{Setup, core}
 use Rattle.zone_yard.specs.Passes.{told}
 use Rattle.zone_yard.specs.Blocks.{needs, replies_of, granted_steps, CanAnswer}
-use Rattle.zone_yard.specs.Tells.{Sat}
 use Rattle.zone_yard.specs.Holding.{owing}
 use Rattle.zone_yard.proofs.CellLists.{are_cells}
 use Rattle.zone_yard.proofs.BlockEntries.{told_block, owes_block, stands_block, ready_block, can_answer, held_after}
@@ -21,14 +21,14 @@ use Rattle.zone_yard.proofs.requests.enter.Goals as goal
 pub enter_answer-ticket-requires-clause-may : goal.enter_answer-ticket-requires-clause-may
 enter_answer-ticket-requires-clause-may c =
     let same = c.requires.known.0 in
-    ready_block c.args.yard.now.setup c.args.seat.now.me.0 c.args.wanted c.args.footprint.now c.requires.ours.1 c.requires.train.1 c.requires.train.0
+    ready_block c.args.yard.now.setup c.args.seat.now.me.view c.args.wanted c.args.footprint.now c.requires.ours.1 c.requires.train.1 c.requires.train.0
     (ap (number_of TableCell) (sym same) ∙ c.requires.table) c.requires.footprint c.requires.steps c.requires.aboard.1 c.requires.held
     (ap (first_unknown (cells_of c.args.footprint.now.table c.args.footprint.now.claim)) (sym same) ∙ c.requires.cells) c.requires.room
 
 pub returns-clause-told : goal.returns-clause-told
 returns-clause-told c =
     let same = c.requires.known.0 in
-    told_block c.args.yard.now.setup c.args.seat.now.me.0 c.args.wanted c.args.footprint.now c.requires.ours.1 c.requires.train.1 c.requires.train.0
+    told_block c.args.yard.now.setup c.args.seat.now.me.view c.args.wanted c.args.footprint.now c.requires.ours.1 c.requires.train.1 c.requires.train.0
     (ap (number_of TableCell) (sym same) ∙ c.requires.table) c.requires.footprint
     ∙ ap (λ (x : BlockAsk). told c.args.wanted.train (replies_of c.args.footprint.now.claim.steps x))
     (ap (λ (k : List (Cell × ℕ)). decided c.args.footprint.now.table c.args.footprint.now.claim (number_in k)) (sym same) ∙ sym c.decide_block-answer.ensures)
@@ -40,8 +40,8 @@ returns-clause-can c =
 pub returns-clause-owes : goal.returns-clause-owes
 returns-clause-owes c =
     let same = c.requires.known.0 in
-    ap (λ (m : Sat). m.0.actor.owed) c.enter_answer-ticket.ensures.appends.now
-    ∙ (owes_block c.args.yard.now.setup c.args.seat.now.me.0 c.args.wanted c.args.footprint.now c.requires.ours.1 c.requires.train.1 c.requires.train.0
+    ap (λ (m : Seat). m.view.actor.owed) c.enter_answer-ticket.ensures.appends.now
+    ∙ (owes_block c.args.yard.now.setup c.args.seat.now.me.view c.args.wanted c.args.footprint.now c.requires.ours.1 c.requires.train.1 c.requires.train.0
     (ap (number_of TableCell) (sym same) ∙ c.requires.table) c.requires.footprint
     ∙ ((λ i. owing c.args.footprint.now.table c.args.footprint.now.claim (number_in (sym same i)) (decided c.args.footprint.now.table c.args.footprint.now.claim (number_in (sym same i))))
     ∙ ap (owing c.args.footprint.now.table c.args.footprint.now.claim (number_in c.args.known.now)) (sym c.decide_block-answer.ensures)))
@@ -49,29 +49,29 @@ returns-clause-owes c =
 pub returns-clause-stands : goal.returns-clause-stands
 returns-clause-stands c =
     let same = c.requires.known.0 in
-    ap (λ (m : Sat). m.0.actor.position) c.enter_answer-ticket.ensures.appends.now
-    ∙ (stands_block c.args.yard.now.setup c.args.seat.now.me.0 c.args.wanted c.args.footprint.now c.requires.ours.1 c.requires.train.1 c.requires.train.0
+    ap (λ (m : Seat). m.view.actor.position) c.enter_answer-ticket.ensures.appends.now
+    ∙ (stands_block c.args.yard.now.setup c.args.seat.now.me.view c.args.wanted c.args.footprint.now c.requires.ours.1 c.requires.train.1 c.requires.train.0
     (ap (number_of TableCell) (sym same) ∙ c.requires.table) c.requires.footprint
-    ∙ ap (λ (x : BlockAsk). c.args.seat.now.me.0.actor.position + granted_steps c.args.footprint.now.claim.steps x)
+    ∙ ap (λ (x : BlockAsk). c.args.seat.now.me.view.actor.position + granted_steps c.args.footprint.now.claim.steps x)
     (ap (λ (k : List (Cell × ℕ)). decided c.args.footprint.now.table c.args.footprint.now.claim (number_in k)) (sym same) ∙ sym c.decide_block-answer.ensures))
 
 pub returns-clause-keeps : goal.returns-clause-keeps
 returns-clause-keeps c =
     let now = c.enter_answer-ticket.ensures.appends.now in (
-      ap (λ (m : Sat). m.0.setup) now,
-      ap (λ (m : Sat). m.0.aboard) now ∙ c.requires.aboard.0,
-      ap (λ (m : Sat). m.0.actor.held) now ∙ held_after c.args.wanted.steps c.args.seat.now.me.0,
+      ap (λ (m : Seat). m.view.setup) now,
+      ap (λ (m : Seat). m.view.aboard) now ∙ c.requires.aboard.0,
+      ap (λ (m : Seat). m.view.actor.held) now ∙ held_after c.args.wanted.steps c.args.seat.now.me.view,
     )
 
 pub returns-clause-stage : goal.returns-clause-stage
 returns-clause-stage c =
     let now = c.enter_answer-ticket.ensures.appends.now in
-    (ap (λ (m : Sat). m.0.actor.stage) now ∙ stage_after c.args.wanted.steps c.args.seat.now.me.0, ap (λ (m : Sat). m.1) now)
+    (ap (λ (m : Seat). m.view.actor.stage) now ∙ stage_after c.args.wanted.steps c.args.seat.now.me.view, ap (λ (m : Seat). m.slots) now)
 
 pub returns-clause-cells : goal.returns-clause-cells
 returns-clause-cells c =
     let a = c.enter_answer-ticket.ensures.appends in
-    are_cells (core c.args.yard.now.setup) c.enter_answer-ticket.new.seat.me.0.actor.owed (λ d n e. subst (λ (S : Setup). is_cell (core S) d ≡ true) c.requires.ours.1 (a.cells d n e))
+    are_cells (core c.args.yard.now.setup) c.enter_answer-ticket.new.seat.me.view.actor.owed (λ d n e. subst (λ (S : Setup). is_cell (core S) d ≡ true) c.requires.ours.1 (a.cells d n e))
 
 -- the claim of the footprint is the one that was asked for
 claimed : (S : Setup) (w : Wanted) (a steps : ℕ) (f : Footprint) → f ≡ needs S w a → steps ≡ f.claim.steps → w.place ≡ a
@@ -81,11 +81,11 @@ claimed S w a steps f is same place =
 
 pub enter_answer-ticket-requires-clause-claim : goal.enter_answer-ticket-requires-clause-claim
 enter_answer-ticket-requires-clause-claim c =
-    claimed c.args.yard.now.setup c.args.wanted c.args.seat.now.me.0.actor.position c.steps.result c.args.footprint.now c.requires.footprint c.steps.ensures c.requires.place
+    claimed c.args.yard.now.setup c.args.wanted c.args.seat.now.me.view.actor.position c.steps.result c.args.footprint.now c.requires.footprint c.steps.ensures c.requires.place
     ∙ ap (λ (g : Footprint). g.claim) c.requires.footprint
 
 pub enter_answer-ticket-requires-clause-answer : goal.enter_answer-ticket-requires-clause-answer
 enter_answer-ticket-requires-clause-answer c =
-    let claim = claimed c.args.yard.now.setup c.args.wanted c.args.seat.now.me.0.actor.position c.steps.result c.args.footprint.now c.requires.footprint c.steps.ensures c.requires.place in
+    let claim = claimed c.args.yard.now.setup c.args.wanted c.args.seat.now.me.view.actor.position c.steps.result c.args.footprint.now c.requires.footprint c.steps.ensures c.requires.place in
     c.decide_block-answer.ensures
     ∙ (λ i. decided (ap (λ (g : Footprint). g.table) c.requires.footprint i) (sym claim i) (number_in (c.requires.known.0 i)))

@@ -1,6 +1,6 @@
 use Rattle.std.proofs.Common.{◌≡◌, true, ◌∙◌, sym, ap, subst, arith}
 use Rattle.zone_machine.specs.Steps.{is_above}
-use Rattle.zone_yard.specs.Tells.{Sat}
+use Rattle.zone_yard.specs.Views.{Seat}
 use Rattle.zone_yard.proofs.Spans.{above_span}
 use Rattle.zone_yard.proofs.Holdings.{waits_more, takes_none}
 use Rattle.zone_yard.proofs.zones.wait_for_all.Goals as goal
@@ -9,7 +9,7 @@ use Rattle.zone_yard.proofs.zones.wait_for_all.Goals.{then-has, else-has}
 pub wait_for-requires-clause-zone : goal.wait_for-requires-clause-zone
 wait_for-requires-clause-zone g c = (
   omega (arith, c.loop-zone-test.true, c.zones-zone-end.ensures.count),
-  subst (λ l. is_above c.loop-zone.zone l ≡ true) (sym (ap (λ (m : Sat). m.0.actor.held) c.loop-zone.invariant.holds.now)) (above_span c.args.needed.now c.loop-zone.zone 0 c.loop-zone.zone (omega arith)),
+  subst (λ l. is_above c.loop-zone.zone l ≡ true) (sym (ap (λ (m : Seat). m.view.actor.held) c.loop-zone.invariant.holds.now)) (above_span c.args.needed.now c.loop-zone.zone 0 c.loop-zone.zone (omega arith)),
 )
 
 pub loop-zone-preserved : goal.loop-zone-preserved

@@ -15,7 +15,7 @@ invariant_of-result c =
     let few = (setup.formed 0 setup.tables.some).few_trains in
     let train = c.requires.train in
     let low : c.args.train < 32 = omega arith in
-    let made : c.seat_of-seat.result.me.0.setup ≡ c.args.root.now.yard.setup = ap (λ (p : Pass). p.yard.setup) c.seat_of-seat.ensures.pass in
+    let made : c.seat_of-seat.result.me.view.setup ≡ c.args.root.now.yard.setup = ap (λ (p : Pass). p.yard.setup) c.seat_of-seat.ensures.pass in
     let stands : standing c.args.root.now.yard.setup.opening.yard c.args.train ≡ c.place-position.result =
     second_of (c.args.train == control) c.args.root.now.yard.setup.opening.yard.tried (place c.args.root.now.yard.setup.opening.yard.positions c.args.train) (ne_eqb c.args.train control (λ e. omega (arith, e, low)))
     ∙ (ap (λ (y : SharedYard). place y.setup.opening.yard.positions c.args.train) (c.requires.ours ∙ sym c.self.view_is) ∙ sym c.place-position.ensures) in

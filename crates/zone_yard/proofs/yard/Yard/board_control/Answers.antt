@@ -10,7 +10,7 @@ pub invariant_of-result : goal.invariant_of-result
 invariant_of-result c =
     let S : Setup = c.args.self.now.setup in
     let ours : c.args.root.now.yard.setup ≡ S = ap (λ (y : SharedYard). y.setup) c.requires in
-    let made : c.seat_of-seat.result.me.0.setup ≡ S = ap (λ (p : Pass). p.yard.setup) c.seat_of-seat.ensures.pass ∙ ours in
+    let made : c.seat_of-seat.result.me.view.setup ≡ S = ap (λ (p : Pass). p.yard.setup) c.seat_of-seat.ensures.pass ∙ ours in
     let tried_is : c.args.root.now.yard.setup.opening.yard.tried ≡ c.tried.result =
     ap (λ (T : Setup). T.opening.yard.tried) ours ∙ sym (c.tried.ensures ∙ ap (λ (y : Yard). y.tried) c.opening-2.ensures.given) in
     let formed = c.opening.ensures.formed in

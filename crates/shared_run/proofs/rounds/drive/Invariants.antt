@@ -1,8 +1,8 @@
 use Rattle.std.proofs.Common.{◌≡◌, List, length}
-use Rattle.dispatch_workers.specs.declared.rounds.Round.{Round}
-use Rattle.dispatch_workers.specs.Rounds.{AllOurs, MakesRounds, HasFinished}
-use Rattle.dispatch_workers.proofs.Ended.{NoneEnded}
-use Rattle.dispatch_workers.proofs.rounds.drive.Given as goal
+use Rattle.shared_run.specs.declared.rounds.Round.{Round}
+use Rattle.shared_run.specs.Rounds.{AllOurs, MakesRounds, HasFinished}
+use Rattle.shared_run.proofs.Ended.{NoneEnded}
+use Rattle.shared_run.proofs.rounds.drive.Given as goal
 
 abbrev pub invariant-loop-round : goal.invariant-loop-round
 invariant-loop-round g l = record {

@@ -8,11 +8,11 @@ use Rattle.rail_model.specs.declared.types.Ask.TheVariants.{Arrived}
 use Rattle.zone_yard.specs.Passes.{Pass}
 use Rattle.zone_yard.proofs.Samples.{boarded, four_zones}
 use Rattle.zone_yard.proofs.Rows.{granted_after}
-use Rattle.dispatch_workers.specs.declared.rounds.Round.{Round}
-use Rattle.dispatch_workers.specs.declared.rounds.Round.TheVariants.{One, Block}
-use Rattle.dispatch_workers.specs.declared.groups.Group.TheVariants.{Control}
-use Rattle.dispatch_workers.specs.Rounds.{IsBlockAnswer, GoesRound, HasNoMore, AllGoRound, HasFinished, EndsAtFirst, Worked, IsLastTurn, MakesTurns, Turned}
-use Rattle.dispatch_workers.specs.Groups.{IsOurGroup, GroupWorked}
+use Rattle.shared_run.specs.declared.rounds.Round.{Round}
+use Rattle.shared_run.specs.declared.rounds.Round.TheVariants.{One, Block}
+use Rattle.shared_run.specs.declared.groups.Group.TheVariants.{Control}
+use Rattle.shared_run.specs.Rounds.{IsBlockAnswer, GoesRound, HasNoMore, AllGoRound, HasFinished, EndsAtFirst, Worked, IsLastTurn, MakesTurns, Turned}
+use Rattle.shared_run.specs.Groups.{IsOurGroup, GroupWorked}
 
 -- a driver that may make one entry, and has made it
 abbrev made : Pass

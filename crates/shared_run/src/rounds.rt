@@ -1,7 +1,7 @@
 // Rounds of drivers, and turns of the control.
 ghost use Rattle.std.specs.Prelude.{◌≡◌, ◌≤◌, ◌↔◌, IsTrue};
 ghost use Rattle.zone_yard.specs.Entering.{IsSamePass};
-ghost use Rattle.dispatch_workers.specs.Rounds.{GoesRound, HasNoMore, IsLastTurn, AllOurs, AllAsked, Worked, Turned};
+ghost use Rattle.shared_run.specs.Rounds.{GoesRound, HasNoMore, IsLastTurn, AllOurs, AllAsked, Worked, Turned};
 
 use ats_io::Gate;
 use rail_model::Ask;
@@ -12,7 +12,7 @@ use zone_yard::{BlockReply, Control, Driver, Reply, Turn, Yard};
 /// What a driver was told in one round: one request's answer, a block's answer, or that the block can't be made whole and then the answer
 /// to a request for one step.
 #[derive(Clone, Copy)]
-pub enum Round {
+pub(crate) enum Round {
     One(Reply),
     Block(BlockReply),
     Halved {

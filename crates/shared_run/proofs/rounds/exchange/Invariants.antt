@@ -1,9 +1,9 @@
 use Rattle.std.proofs.Common.{◌≡◌, List, length}
 use Rattle.zone_yard.specs.declared.replies.Turn.{Turn}
 use Rattle.zone_yard.specs.Entering.{IsSamePass}
-use Rattle.dispatch_workers.specs.Rounds.{MakesTurns, IsLastTurn}
-use Rattle.dispatch_workers.proofs.Ended.{NoneEnded}
-use Rattle.dispatch_workers.proofs.rounds.exchange.Given as goal
+use Rattle.shared_run.specs.Rounds.{MakesTurns, IsLastTurn}
+use Rattle.shared_run.proofs.Ended.{NoneEnded}
+use Rattle.shared_run.proofs.rounds.exchange.Given as goal
 
 abbrev pub invariant-loop-round : goal.invariant-loop-round
 invariant-loop-round g l = record {

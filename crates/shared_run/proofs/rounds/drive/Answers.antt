@@ -1,8 +1,8 @@
 use Rattle.std.proofs.Common.{◌∷◌, ◌∙◌, sym, true≢false, arith}
 use Rattle.std.proofs.lemmas.List.Elements.{All-cons}
-use Rattle.dispatch_workers.specs.Rounds.{HasFinished}
-use Rattle.dispatch_workers.proofs.Ended.{ended_early, ended_whole}
-use Rattle.dispatch_workers.proofs.rounds.drive.Goals as goal
+use Rattle.shared_run.specs.Rounds.{HasFinished}
+use Rattle.shared_run.proofs.Ended.{ended_early, ended_whole}
+use Rattle.shared_run.proofs.rounds.drive.Goals as goal
 
 pub returns-then-go_all-clause-worked : goal.returns-then-go_all-clause-worked
 returns-then-go_all-clause-worked g c =

@@ -8,8 +8,8 @@ use Rattle.zone_yard.specs.declared.replies.Turn.TheVariants as turn
 use Rattle.zone_yard.specs.Setup.{SharedYard}
 use Rattle.zone_yard.specs.Passes.{Pass}
 use Rattle.zone_yard.specs.Replies.{Replies, IsUnhindered, BlockReplies, IsBlockServed, Turns}
-use Rattle.dispatch_workers.specs.declared.rounds.Round.{Round}
-use Rattle.dispatch_workers.specs.declared.rounds.Round.TheVariants.{One, Block, Halved}
+use Rattle.shared_run.specs.declared.rounds.Round.{Round}
+use Rattle.shared_run.specs.declared.rounds.Round.TheVariants.{One, Block, Halved}
 
 -- The answer to a block isn't that it can't be granted whole.
 abbrev pub IsBlockAnswer : BlockReply → Type 0

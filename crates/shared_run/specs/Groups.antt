@@ -1,9 +1,9 @@
 -- What groups of passes come to.
 use Rattle.std.specs.Prelude.{◌≡◌, ℕ}
 use Rattle.zone_yard.specs.Setup.{SharedYard}
-use Rattle.dispatch_workers.specs.declared.groups.Group.{Group}
-use Rattle.dispatch_workers.specs.declared.groups.Group.TheVariants.{Drivers, Control}
-use Rattle.dispatch_workers.specs.Rounds.{AllOurs, Worked, Turned}
+use Rattle.shared_run.specs.declared.groups.Group.{Group}
+use Rattle.shared_run.specs.declared.groups.Group.TheVariants.{Drivers, Control}
+use Rattle.shared_run.specs.Rounds.{AllOurs, Worked, Turned}
 
 -- All passes of the group are the yard's.
 abbrev pub IsOurGroup : SharedYard → Group → Type 0

@@ -1,8 +1,8 @@
 use Rattle.std.proofs.Common.{◌∷◌, ◌∙◌, sym, true≢false, arith}
 use Rattle.std.proofs.lemmas.List.Elements.{All-cons}
-use Rattle.dispatch_workers.specs.Rounds.{IsLastTurn}
-use Rattle.dispatch_workers.proofs.Ended.{ended_early, ended_whole}
-use Rattle.dispatch_workers.proofs.rounds.exchange.Goals as goal
+use Rattle.shared_run.specs.Rounds.{IsLastTurn}
+use Rattle.shared_run.proofs.Ended.{ended_early, ended_whole}
+use Rattle.shared_run.proofs.rounds.exchange.Goals as goal
 
 pub returns-then-is_last-clause-turned : goal.returns-then-is_last-clause-turned
 returns-then-is_last-clause-turned g c =

@@ -1,6 +1,6 @@
-use Rattle.dispatch_workers.specs.Rounds.{AllOurs}
-use Rattle.dispatch_workers.proofs.Gone.{Gone}
-use Rattle.dispatch_workers.proofs.rounds.go_all.Given as goal
+use Rattle.shared_run.specs.Rounds.{AllOurs}
+use Rattle.shared_run.proofs.Gone.{Gone}
+use Rattle.shared_run.proofs.rounds.go_all.Given as goal
 
 abbrev pub invariant-loop-driver : goal.invariant-loop-driver
 invariant-loop-driver g l = record {

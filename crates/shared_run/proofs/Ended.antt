@@ -4,7 +4,7 @@ use Rattle.std.specs.List.{All}
 use Rattle.std.proofs.lemmas.List.Elements.{All-tail}
 use mathlib.Core.Logic.{dite}
 use native.Mathlib.Decide.{ℕ_discrete}
-use Rattle.dispatch_workers.specs.Rounds.{EndsAtFirst}
+use Rattle.shared_run.specs.Rounds.{EndsAtFirst}
 
 module _ {A : Type 0} (AtEnd : A → Type 0) where
   abbrev pub NoneEnded : List A → Type 0

@@ -1,9 +1,9 @@
 use Rattle.std.proofs.Common.{◌<◌, length, true≢false, sym, ◌∙◌, subst, arith}
 use Rattle.zone_yard.specs.Passes.{Pass}
-use Rattle.dispatch_workers.specs.Rounds.{GoesRound}
-use Rattle.dispatch_workers.proofs.Gone.{any_default, ours_set, one_more, whole_round}
-use Rattle.dispatch_workers.proofs.rounds.go_all.Goals as goal
-use Rattle.dispatch_workers.proofs.rounds.go_all.Goals.{then-not-is_end, else-not-is_end}
+use Rattle.shared_run.specs.Rounds.{GoesRound}
+use Rattle.shared_run.proofs.Gone.{any_default, ours_set, one_more, whole_round}
+use Rattle.shared_run.proofs.rounds.go_all.Goals as goal
+use Rattle.shared_run.proofs.rounds.go_all.Goals.{then-not-is_end, else-not-is_end}
 
 pub loop-driver-preserved : goal.loop-driver-preserved
 loop-driver-preserved g c =

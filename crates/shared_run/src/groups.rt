@@ -1,7 +1,7 @@
 // Groups of passes, each a piece of work of its own.
 ghost use Rattle.std.specs.Prelude.{◌≡◌, ◌≤◌, All};
 ghost use Rattle.std.specs.List.{AllZip};
-ghost use Rattle.dispatch_workers.specs.Groups.{IsOurGroup, GroupWorked};
+ghost use Rattle.shared_run.specs.Groups.{IsOurGroup, GroupWorked};
 
 use crate::rounds::{drive, exchange};
 use ats_io::Gate;
@@ -12,7 +12,7 @@ use zone_yard::{Control, Driver, Yard};
 
 /// Drivers that one thread works in turn, or the control.
 #[derive(Drop)]
-pub enum Group {
+pub(crate) enum Group {
     Drivers(Vec<Driver>),
     Control(Control),
 }
@@ -40,7 +40,7 @@ fn work<R: Wait, G: Gate>(
 /// Works all groups, each beside the others. A group of drivers makes `rounds` rounds of one request for each driver in order, of `block`
 /// steps at once, or of fewer where they can't be granted whole; it ends early after the first round in which every answer was `Arrived`
 /// or `Spent`. The control makes `rounds` exchanges; it ends early with the first `NoMore` or `Spent`.
-pub fn run_groups<R: Threads + Wait + Sync, G: Gate>(
+pub(crate) fn run_groups<R: Threads + Wait + Sync, G: Gate>(
     rt: &R,
     yard: &Yard<'_>,
     groups: &mut [Group],

@@ -8,8 +8,8 @@ use mathlib.Core.Logic.{dite}
 use native.Mathlib.Decide.{ℕ_discrete}
 use Rattle.zone_yard.specs.Setup.{SharedYard}
 use Rattle.zone_yard.specs.Passes.{Pass}
-use Rattle.dispatch_workers.specs.declared.rounds.Round.{Round}
-use Rattle.dispatch_workers.specs.Rounds.{AllOurs, AllAsked, AllGoRound, GoesRound, HasNoMore, HasFinished}
+use Rattle.shared_run.specs.declared.rounds.Round.{Round}
+use Rattle.shared_run.specs.Rounds.{AllOurs, AllAsked, AllGoRound, GoesRound, HasNoMore, HasFinished}
 
 -- a fact at each place of two lists that are as long
 pub zipped : {A : Type 0} (R : A → A → Type 0) (xs ys : List A) → length ys ≡ length xs
