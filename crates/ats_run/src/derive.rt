@@ -16,6 +16,7 @@ use crate::Failure;
 use crate::checked::read_document;
 use crate::make::{make_each, text_of_parts};
 use crate::starting::check_start;
+use cert_maker::Budget;
 use document_json::{Frame, tables_apart};
 use rail_model::Table;
 use ring_sections::{Ring, Rings, mark_rings, rings};
@@ -33,7 +34,7 @@ pub fn derive(alloc: Global, input: &[u8], most: u32, budget: u32) -> Result<Vec
 {
     let doc = read_document(alloc, input)?;
     let (frame, tables) = tables_apart(alloc, doc)?;
-    derive_document(alloc, &frame, tables, most, budget)
+    derive_document(alloc, &frame, tables, most, Budget { nodes: budget })
 }
 
 // The text of a document that has these tables, with the sections of its rings, and certificates made of them.
@@ -42,17 +43,15 @@ fn derive_document(
     doc: &Frame,
     tables: Vec<Table>,
     most: u32,
-    budget: u32,
+    budget: Budget,
 ) -> Result<Vec<u8>, Failure>
     requires least { 2 ≤ most }
     requires greatest { most ≤ 8 }
-    requires some { 1 ≤ budget }
-    requires enough { budget ≤ 1000000 }
     requires taken { IsTaken doc.now }
     requires tables { tables.items ≡ tables_in doc.now }
-    ensures derived { IfOk result (λ text. IsDerived doc.now most budget text.items) }
+    ensures derived { IfOk result (λ text. IsDerived doc.now most budget.nodes text.items) }
 
-    ensures underived { IfErr result (λ e. (e ≡ NoMemory) ⊎ FailsToDerive doc.now most budget e) }
+    ensures underived { IfErr result (λ e. (e ≡ NoMemory) ⊎ FailsToDerive doc.now most budget.nodes e) }
 {
     let marked = derive_all(alloc, doc, tables, most)?;
     let parts = make_each(alloc, marked, budget)?;

@@ -10,12 +10,13 @@ ghost use Rattle.ats_run.specs.declared.failure.Failure.TheVariants.{Memory as N
 
 use crate::Failure;
 use crate::make::text_with_certificates;
+use cert_maker::Budget;
 use document_generator::generate_members;
 use document_json::{Doc, DocRefused, document_from};
 use std::alloc::Global;
 
 /// How many nodes the certificate of a generated document may have.
-pub(crate) const FULL_BUDGET: u32 = 1_000_000;
+pub(crate) const FULL_BUDGET: Budget = Budget { nodes: 1_000_000 };
 
 /// The document generated of a seed for a number of trains, whose certificate is empty.
 pub(crate) fn generated_document(alloc: Global, seed: u32, trains: u32) -> Result<Doc, Failure>

@@ -14,7 +14,7 @@ ghost use Rattle.ats_run.specs.declared.failure.Failure.TheVariants.{Memory as N
 
 use crate::Failure;
 use crate::checked::read_document;
-use cert_maker::{Made, make as make_certificate};
+use cert_maker::{Budget, Made, make as make_certificate};
 use cert_tree::Cert;
 use document_json::{Doc, Frame, table_of, tables_of, write_certified, write_replaced};
 use rail_model::Table;
@@ -29,32 +29,28 @@ pub fn make(alloc: Global, input: &[u8], budget: u32) -> Result<Vec<u8>, Failure
     ensures unmade { IfErr result (λ e. (e ≡ NoMemory) ⊎ RefusesMake input.now budget e) }
 {
     let doc = read_document(alloc, input)?;
-    text_with_certificates(alloc, &doc, budget)
+    text_with_certificates(alloc, &doc, Budget { nodes: budget })
 }
 
 /// The text of a document with a certificate made for each of its tables, of at most `budget` nodes.
 pub(crate) fn text_with_certificates(
     alloc: Global,
     doc: &Doc,
-    budget: u32,
+    budget: Budget,
 ) -> Result<Vec<u8>, Failure>
-    requires some { 1 ≤ budget }
-    requires most { budget ≤ 1000000 }
-    ensures made { IfOk result (λ text. IsMade doc.now budget text.items) }
+    ensures made { IfOk result (λ text. IsMade doc.now budget.nodes text.items) }
 
-    ensures unmade { IfErr result (λ e. (e ≡ NoMemory) ⊎ FailsToMake (tables_in doc.now) budget e) }
+    ensures unmade { IfErr result (λ e. (e ≡ NoMemory) ⊎ FailsToMake (tables_in doc.now) budget.nodes e) }
 {
     let certs = make_all(alloc, doc, budget)?;
     Ok(write_certified(alloc, doc, &certs)?)
 }
 
 /// A certificate for each table of a document.
-pub(crate) fn make_all(alloc: Global, doc: &Doc, budget: u32) -> Result<Vec<Cert>, Failure>
-    requires some { 1 ≤ budget }
-    requires most { budget ≤ 1000000 }
-    ensures made { IfOk result (λ certs. AreMade (tables_in doc.now) budget certs.items) }
+pub(crate) fn make_all(alloc: Global, doc: &Doc, budget: Budget) -> Result<Vec<Cert>, Failure>
+    ensures made { IfOk result (λ certs. AreMade (tables_in doc.now) budget.nodes certs.items) }
 
-    ensures unmade { IfErr result (λ e. (e ≡ NoMemory) ⊎ FailsToMake (tables_in doc.now) budget e) }
+    ensures unmade { IfErr result (λ e. (e ≡ NoMemory) ⊎ FailsToMake (tables_in doc.now) budget.nodes e) }
 {
     let mut certs = Vec::new(alloc);
     for table in 0..tables_of(doc) {
@@ -64,13 +60,11 @@ pub(crate) fn make_all(alloc: Global, doc: &Doc, budget: u32) -> Result<Vec<Cert
 }
 
 // The certificate of a table with this number.
-fn make_one(alloc: Global, table: &Table, number: u32, budget: u32) -> Result<Cert, Failure>
-    requires some { 1 ≤ budget }
-    requires most { budget ≤ 1000000 }
-    ensures made { IfOk result (λ c. Makes table.now budget (cert c)) }
+fn make_one(alloc: Global, table: &Table, number: u32, budget: Budget) -> Result<Cert, Failure>
+    ensures made { IfOk result (λ c. Makes table.now budget.nodes (cert c)) }
     ensures accepted { IfOk result (Accepts table.now) }
 
-    ensures none { IfErr result (λ e. (e ≡ NoMemory) ⊎ MakesNone table.now number budget e) }
+    ensures none { IfErr result (λ e. (e ≡ NoMemory) ⊎ MakesNone table.now number budget.nodes e) }
 {
     match make_certificate(alloc, table, budget)? {
         Made::Cert(cert) => Ok(cert),
@@ -86,14 +80,12 @@ fn make_one(alloc: Global, table: &Table, number: u32, budget: u32) -> Result<Ce
 pub fn make_each(
     alloc: Global,
     tables: Vec<Table>,
-    budget: u32,
+    budget: Budget,
 ) -> Result<Vec<(Table, Cert)>, Failure>
     requires few { length tables.items ≤ 16 }
-    requires some { 1 ≤ budget }
-    requires most { budget ≤ 1000000 }
-    ensures made { IfOk result (λ parts. HaveMade tables.items budget parts.items) }
+    ensures made { IfOk result (λ parts. HaveMade tables.items budget.nodes parts.items) }
 
-    ensures unmade { IfErr result (λ e. (e ≡ NoMemory) ⊎ FailsToMake tables.items budget e) }
+    ensures unmade { IfErr result (λ e. (e ≡ NoMemory) ⊎ FailsToMake tables.items budget.nodes e) }
 {
     let mut parts = Vec::new(alloc);
     for table in tables {
@@ -107,15 +99,13 @@ fn make_next(
     alloc: Global,
     parts: &mut Vec<(Table, Cert)>,
     table: Table,
-    budget: u32,
+    budget: Budget,
 ) -> Result<(), Failure>
-    requires some { 1 ≤ budget }
-    requires most { budget ≤ 1000000 }
     requires count { length parts.old.items < 2 ^ 32 }
     ensures part { OnOk result ((tree : Tree) × (parts.new.items ≡ parts.old.items ++ (table, tree) ∷ [])
-        × Makes table budget (cert tree) × Accepts table tree) }
+        × Makes table budget.nodes (cert tree) × Accepts table tree) }
 
-    ensures none { IfErr result (λ e. (e ≡ NoMemory) ⊎ MakesNone table (length parts.old.items) budget e) }
+    ensures none { IfErr result (λ e. (e ≡ NoMemory) ⊎ MakesNone table (length parts.old.items) budget.nodes e) }
 {
     let number = parts.len() as u32;
     let cert = make_one(alloc, &table, number, budget)?;

@@ -14,6 +14,7 @@ use crate::Failure;
 use crate::checked::read_document;
 use crate::make::text_of_parts;
 use crate::starting::check_start;
+use cert_maker::Budget;
 use cert_tree::Cert;
 use document_json::{Doc, Frame, table_of, tables_apart, tables_of};
 use rail_model::{Layout, Table, connections_of};
@@ -32,7 +33,7 @@ pub fn repair(alloc: Global, input: &[u8], budget: u32, rounds: u32) -> Result<V
     let doc = read_document(alloc, input)?;
     check_connections(&doc)?;
     let (frame, tables) = tables_apart(alloc, doc)?;
-    repair_document(alloc, &frame, tables, budget, rounds)
+    repair_document(alloc, &frame, tables, Budget { nodes: budget }, rounds)
 }
 
 // Refuses the first table with a connection.
@@ -54,18 +55,16 @@ fn repair_document(
     alloc: Global,
     doc: &Frame,
     tables: Vec<Table>,
-    budget: u32,
+    budget: Budget,
     rounds: u32,
 ) -> Result<Vec<u8>, Failure>
-    requires some { 1 ≤ budget }
-    requires most { budget ≤ 1000000 }
     requires formed { IsDoc doc.now }
     requires taken { IsTaken doc.now }
     requires tables { tables.items ≡ tables_in doc.now }
     requires unconnected { IsUnconnected doc.now (length doc.now.tables) }
-    ensures repaired { IfOk result (λ text. IsRepaired doc.now budget rounds text.items) }
+    ensures repaired { IfOk result (λ text. IsRepaired doc.now budget.nodes rounds text.items) }
 
-    ensures unrepaired { IfErr result (λ e. (e ≡ NoMemory) ⊎ FailsToRepair doc.now budget rounds e) }
+    ensures unrepaired { IfErr result (λ e. (e ≡ NoMemory) ⊎ FailsToRepair doc.now budget.nodes rounds e) }
 {
     let mut parts = Vec::new(alloc);
     for table in tables {
@@ -80,19 +79,17 @@ fn repair_next(
     doc: &Frame,
     parts: &mut Vec<(Table, Cert)>,
     table: Table,
-    budget: u32,
+    budget: Budget,
     rounds: u32,
 ) -> Result<(), Failure>
-    requires some { 1 ≤ budget }
-    requires most { budget ≤ 1000000 }
     requires formed { IsDoc doc.now }
     requires number { length parts.old.items < length doc.now.tables }
     requires table { table ≡ table_at doc.now (length parts.old.items) }
-    requires earlier { AreRepaired doc.now budget rounds (length parts.old.items) parts.old.items }
-    ensures repaired { OnOk result (AreRepaired doc.now budget rounds (length parts.old.items + 1) parts.new.items) }
+    requires earlier { AreRepaired doc.now budget.nodes rounds (length parts.old.items) parts.old.items }
+    ensures repaired { OnOk result (AreRepaired doc.now budget.nodes rounds (length parts.old.items + 1) parts.new.items) }
 
-    ensures unrepaired { IfErr result (λ e. (e ≡ NoMemory) ⊎ RepairsNone table (length parts.old.items) budget rounds e
-        ⊎ ((length parts.old.items ≡ 0) × IsRefusedStart table doc.now.start budget rounds e)) }
+    ensures unrepaired { IfErr result (λ e. (e ≡ NoMemory) ⊎ RepairsNone table (length parts.old.items) budget.nodes rounds e
+        ⊎ ((length parts.old.items ≡ 0) × IsRefusedStart table doc.now.start budget.nodes rounds e)) }
 {
     let number = parts.len() as u32;
     parts.push(repair_one(alloc, doc.layout(), number, table, budget, rounds)?)?;
@@ -108,15 +105,13 @@ fn repair_one(
     layout: &Layout,
     number: u32,
     table: Table,
-    budget: u32,
+    budget: Budget,
     rounds: u32,
 ) -> Result<(Table, Cert), Failure>
-    requires some { 1 ≤ budget }
-    requires most { budget ≤ 1000000 }
-    ensures repaired { IfOk result (λ p. IsRepairedAs table budget rounds p.0 p.1) }
+    ensures repaired { IfOk result (λ p. IsRepairedAs table budget.nodes rounds p.0 p.1) }
     ensures dooms { IfOk result (λ p. (n : ℕ) → DoomsAlike table.missions (Done p.0 p.1 n)) }
 
-    ensures none { IfErr result (λ e. (e ≡ NoMemory) ⊎ RepairsNone table number budget rounds e) }
+    ensures none { IfErr result (λ e. (e ≡ NoMemory) ⊎ RepairsNone table number budget.nodes rounds e) }
 {
     match repair_missions(alloc, layout, table.into_missions(), budget, rounds)? {
         Repair::Done { table, cert, .. } => Ok((table, cert)),

@@ -2,19 +2,19 @@
 ghost use Rattle.std.specs.Prelude.{◌≡◌, ◌≤◌, IfSome, length};
 ghost use Rattle.cert_maker.specs.Draft.{IsPiece};
 
-use cert_tree::behind;
+use cert_tree::{MOST_NODES, behind};
 use rail_model::Node;
 use std::alloc::{AllocError, Global};
 use std::marker::Model;
 
-// Where the tree ends that begins at a place; none where the nodes end before it does.
+// Where the tree ends that begins at a place and has at most `MOST_NODES` nodes; none where the nodes end before it does.
 fn piece_end(nodes: &[Node], at: usize) -> Option<usize>
     requires within { at ≤ length nodes.now }
-    requires few { length nodes.now ≤ 1000000 }
     ensures { IfSome result (IsPiece nodes.now at) }
 {
     let mut wanted: u64 = 1;
-    for (passed, &node) in nodes[at..].iter().enumerate() {
+    let bound = nodes.len().min(at + MOST_NODES);
+    for (passed, &node) in nodes[at..bound].iter().enumerate() {
         wanted = behind(node, wanted);
         if wanted == 0 {
             return Some(at + passed + 1);
@@ -76,7 +76,6 @@ impl Trail {
     /// The end of the next box's former nodes, if the former tree has no stuck state in it.
     pub(crate) fn piece(&self, nodes: &[Node]) -> Option<usize>
         requires here { IsHere nodes.now self.now }
-        requires few { length nodes.now ≤ 1000000 }
         ensures { IfSome result (IsPiece nodes.now self.now.at) }
     {
         piece_end(nodes, self.at)
@@ -96,7 +95,6 @@ impl Trail {
 
     // Where the former nodes go on after the next box.
     fn behind_next(&self, nodes: &[Node]) -> usize
-        requires few { length nodes.now ≤ 1000000 }
         ensures { (T : TableValue) (B : List Range) (S : List (List Range)) → IsOnTrail T nodes.now self.now (B ∷ S)
             → IsOnTrail T nodes.now (record { at = result; follows = drop 1 self.now.follows }) S }
     {
@@ -119,7 +117,6 @@ impl Trail {
 
     // Goes on after the next box.
     fn pass(&mut self, nodes: &[Node])
-        requires few { length nodes.now ≤ 1000000 }
         ensures { (T : TableValue) (B : List Range) (S : List (List Range)) → IsOnTrail T nodes.now self.old (B ∷ S) → IsOnTrail T nodes.now self.new S }
     {
         let end = self.behind_next(nodes);
@@ -128,7 +125,6 @@ impl Trail {
 
     // Goes on to the halves of the next box, which the former tree has too if it has the same split.
     fn halve(&mut self, nodes: &[Node], train: u32, place: u32) -> Result<(), AllocError>
-        requires few { length nodes.now ≤ 1000000 }
         ensures { (T : TableValue) (B : List Range) (S : List (List Range)) → IsOnTrail T nodes.now self.old (B ∷ S)
             → OnOk result (IsOnTrail T nodes.now self.new (left_half B train place ∷ right_half B train place ∷ S)) }
     {
@@ -150,7 +146,6 @@ impl Trail {
 
     /// Goes on after the node of the next box.
     pub(crate) fn follow(&mut self, nodes: &[Node], node: Node) -> Result<(), AllocError>
-        requires few { length nodes.now ≤ 1000000 }
         ensures { (T : TableValue) (B : List Range) (S : List (List Range)) → IsOnTrail T nodes.now self.old (B ∷ S)
             → OnOk result (IsOnTrail T nodes.now self.new (opened B node S)) }
     {

@@ -12,7 +12,7 @@ ghost use Rattle.section_repair.specs.Claims.{LosesNothing, IsExact, DoomsAlike}
 use crate::Repair;
 use crate::cores::core;
 use crate::joining::{settled, stays_of};
-use cert_maker::{Draft, Made, Remade, remake};
+use cert_maker::{Budget, Draft, Made, Remade, remake};
 use forbidden_states::{Stays, marked};
 use rail_model::{Layout, Missions, State, Table, copy_table};
 use std::alloc::{AllocError, Global};
@@ -44,7 +44,7 @@ struct Round {
     sections: Vec<Stays>,
     table: Table,
     former: Table,
-    budget: u32,
+    budget: Budget,
     used: u32,
 }
 
@@ -57,7 +57,7 @@ enum Turn {
 
 // The first round, of no sections. Two tables are there at a time, this one and the former, and they take turns with two
 // lists of the missions: these, and the only copy of them.
-fn first_round(alloc: Global, missions: Missions, budget: u32) -> Result<Round, AllocError>
+fn first_round(alloc: Global, missions: Missions, budget: Budget) -> Result<Round, AllocError>
     ensures under_way { IfOk result (IsUnderWay missions) }
     ensures budget { IfOk result (λ round. round.budget ≡ budget) }
     ensures unused { IfOk result (λ round. round.used ≡ 0) }
@@ -79,9 +79,9 @@ fn first_round(alloc: Global, missions: Missions, budget: u32) -> Result<Round, 
 fn treat(alloc: Global, round: Round, at: State, rounds: u32) -> Result<Turn, AllocError>
     requires under_way { IsUnderWay round.table.missions round }
     requires within { round.used ≤ rounds }
-    requires stuck { Makes round.table round.budget (stuck_at at) }
+    requires stuck { Makes round.table round.budget.nodes (stuck_at at) }
     requires legal { Legal round.table at }
-    ensures turn { IfOk result (LeadsOn round.table.missions round.budget rounds round.used) }
+    ensures turn { IfOk result (LeadsOn round.table.missions round.budget.nodes rounds round.used) }
     ensures former { IfOk result (IsAfter round.table) }
 {
     let Round {
@@ -112,12 +112,10 @@ fn treat(alloc: Global, round: Round, at: State, rounds: u32) -> Result<Turn, Al
 // Plays a round: a certificate, the budget, the rounds or the room end it, or it treats one more state. The draft is of
 // the former table, and then of the round's.
 fn play(alloc: Global, round: Round, draft: &mut Draft, rounds: u32) -> Result<Turn, AllocError>
-    requires some { 1 ≤ round.budget }
-    requires most { round.budget ≤ 1000000 }
     requires under_way { IsUnderWay round.table.missions round }
     requires draft { IsDraft round.former draft.old }
     requires within { round.used ≤ rounds }
-    ensures turn { IfOk result (LeadsOn round.table.missions round.budget rounds round.used) }
+    ensures turn { IfOk result (LeadsOn round.table.missions round.budget.nodes rounds round.used) }
     ensures former { IfOk result (IsAfter round.table) }
     ensures draft { OnOk result (IsDraft round.table draft.new) }
 {
@@ -144,10 +142,13 @@ fn play(alloc: Global, round: Round, draft: &mut Draft, rounds: u32) -> Result<T
 }
 
 // The answer: round by round a section more, until a round ends it.
-fn answer(alloc: Global, missions: Missions, budget: u32, rounds: u32) -> Result<Repair, AllocError>
-    requires some { 1 ≤ budget }
-    requires most { budget ≤ 1000000 }
-    ensures { IfOk result (Repairs missions budget rounds) }
+fn answer(
+    alloc: Global,
+    missions: Missions,
+    budget: Budget,
+    rounds: u32,
+) -> Result<Repair, AllocError>
+    ensures { IfOk result (Repairs missions budget.nodes rounds) }
 {
     let mut round = first_round(alloc, missions, budget)?;
     let mut draft = Draft::empty(alloc, &round.former)?;
@@ -170,12 +171,10 @@ pub fn repair(
     alloc: Global,
     _layout: &Layout,
     missions: Missions,
-    budget: u32,
+    budget: Budget,
     rounds: u32,
 ) -> Result<Repair, AllocError>
-    requires some { 1 ≤ budget }
-    requires most { budget ≤ 1000000 }
-    ensures repairs { IfOk result (Repairs missions budget rounds) }
+    ensures repairs { IfOk result (Repairs missions budget.nodes rounds) }
 
     ensures loses_nothing { IfOk result (LosesNothing missions) }
     ensures exact { IfOk result (IsExact missions) }

@@ -3,4 +3,4 @@ use Rattle.ats_run.proofs.Made.{AreMadeBelow}
 use Rattle.ats_run.proofs.make.make_all.Given as goal
 
 abbrev pub invariant-loop-table : goal.invariant-loop-table
-invariant-loop-table l = AreMadeBelow (tables_in l.doc) l.budget l.table l.certs.items
+invariant-loop-table l = AreMadeBelow (tables_in l.doc) l.budget.nodes l.table l.certs.items

@@ -8,8 +8,8 @@ use Rattle.ats_run.specs.Making.{MakesNone, FailsToMake}
 use Rattle.ats_run.proofs.Made.{none_at, table_behind, some_behind, part_more}
 use Rattle.ats_run.proofs.make.make_each.Goals as goal
 
-pub make_next-requires-clause-count : goal.make_next-requires-clause-count
-make_next-requires-clause-count c =
+pub make_next-requires : goal.make_next-requires
+make_next-requires c =
     let all = c.args.tables.items in
     let done = c.loop-table.yielded in
     let rest = into_iter_items c.next.new.self in
@@ -26,9 +26,9 @@ returns-in_err-make_next-clause-unmade c =
     let e = c.in_err-make_next.field-0.0 in
     let whole : all ≡ done ++ T ∷ rest = grind (arith, common_steps, c.in-Some.ensures.steps) in
     let number = sym (length-map c.loop-table.parts.items (λ p. p.0)) ∙ ap length c.loop-table.invariant.3 in
-    let none = subst (λ n. (e ≡ NoMemory) ⊎ MakesNone T n c.args.budget e) number c.in_err-make_next.ensures.none in
-    refused-so (λ e. (e ≡ NoMemory) ⊎ FailsToMake all c.args.budget e) c.from_residual.result e c.from_residual.ensures.1
-    (none_at all c.args.budget (length done) (map (λ p. p.1) c.loop-table.parts.items) T e c.loop-table.invariant.4 (some_behind all done rest T whole)
+    let none = subst (λ n. (e ≡ NoMemory) ⊎ MakesNone T n c.args.budget.nodes e) number c.in_err-make_next.ensures.none in
+    refused-so (λ e. (e ≡ NoMemory) ⊎ FailsToMake all c.args.budget.nodes e) c.from_residual.result e c.from_residual.ensures.1
+    (none_at all c.args.budget.nodes (length done) (map (λ p. p.1) c.loop-table.parts.items) T e c.loop-table.invariant.4 (some_behind all done rest T whole)
     (table_behind all done rest T whole) none)
 
 pub loop-table-preserved : goal.loop-table-preserved
@@ -40,6 +40,6 @@ loop-table-preserved c =
     let part = c.in_ok-make_next.ensures.part in
     let whole : all ≡ done ++ T ∷ rest = grind (arith, common_steps, c.in-Some.ensures.steps) in
     let more =
-    part_more all c.args.budget done rest c.loop-table.parts.items c.make_next.new.parts.items T part.0 whole c.loop-table.invariant.3
+    part_more all c.args.budget.nodes done rest c.loop-table.parts.items c.make_next.new.parts.items T part.0 whole c.loop-table.invariant.3
     c.loop-table.invariant.4 part.1 part.2 part.3 in
     (tt, tt, grind (arith, common_steps, whole), more.0, more.1)

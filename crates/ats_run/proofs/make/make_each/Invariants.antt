@@ -9,4 +9,4 @@ invariant-loop-table l =
     (goal.iterator-loop-table).is_finite l.table-iterator ×
     (l.fn.tables.items ≡ l.yielded ++ into_iter_items l.table-iterator) ×
     (map (λ p. p.0) l.parts.items ≡ l.yielded) ×
-    AreMadeBelow l.fn.tables.items l.budget (length l.yielded) (map (λ p. p.1) l.parts.items)
+    AreMadeBelow l.fn.tables.items l.budget.nodes (length l.yielded) (map (λ p. p.1) l.parts.items)

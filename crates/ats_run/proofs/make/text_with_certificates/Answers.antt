@@ -9,4 +9,4 @@ returns-clause-made c =
     let trees = c.in_ok-certs.certs.items in
     let made = c.in_ok-certs.ensures.made in
     let is = ap (certified D) c.deref.ensures.value in
-    (trees, made, made_text D _ c.args.budget trees _ c.requires.most made is c.in_ok-write_certified.ensures.text c.in_ok-write_certified.ensures.reads_back)
+    (trees, made, made_text D _ c.args.budget.nodes trees _ c.args.budget.in_range.1 made is c.in_ok-write_certified.ensures.text c.in_ok-write_certified.ensures.reads_back)

@@ -26,7 +26,7 @@ loop-table-preserved c =
       tt,
       tt,
       grind (arith, common_steps, whole),
-      subst (λ n. AreRepaired D c.args.budget c.args.rounds n c.repair_next.new.parts.items)
+      subst (λ n. AreRepaired D c.args.budget.nodes c.args.rounds n c.repair_next.new.parts.items)
           (ap (λ n. n + 1) c.loop-table.invariant.3.one_each ∙ sym size) c.in_ok-repair_next.ensures.repaired,
     )
 
@@ -48,13 +48,13 @@ repair_next-requires-clause-table c =
 
 pub repair_next-requires-clause-earlier : goal.repair_next-requires-clause-earlier
 repair_next-requires-clause-earlier c =
-    subst (λ n. AreRepaired c.args.doc.now c.args.budget c.args.rounds n c.loop-table.parts.items) (sym c.loop-table.invariant.3.one_each)
+    subst (λ n. AreRepaired c.args.doc.now c.args.budget.nodes c.args.rounds n c.loop-table.parts.items) (sym c.loop-table.invariant.3.one_each)
     c.loop-table.invariant.3
 
 pub returns-in_err-repair_next-clause-unrepaired : goal.returns-in_err-repair_next-clause-unrepaired
 returns-in_err-repair_next-clause-unrepaired c =
     let D = c.args.doc.now in
-    let budget = c.args.budget in
+    let budget = c.args.budget.nodes in
     let rounds = c.args.rounds in
     let done = c.loop-table.yielded in
     let rest = into_iter_items c.next.new.self in
@@ -74,9 +74,9 @@ pub text_of_parts-requires-clause-taken : goal.text_of_parts-requires-clause-tak
 text_of_parts-requires-clause-taken c =
     let D = c.args.doc.now in
     let all : tables_in D ≡ c.loop-table.yielded = grind (arith, common_steps, c.in-None.ensures.steps) in
-    let repaired = subst (λ n. AreRepaired D c.args.budget c.args.rounds n c.loop-table.parts.items) (ap length (sym all) ∙ table_count D) c.loop-table.invariant.3 in
+    let repaired = subst (λ n. AreRepaired D c.args.budget.nodes c.args.rounds n c.loop-table.parts.items) (ap length (sym all) ∙ table_count D) c.loop-table.invariant.3 in
     subst (λ (parts : List (Table × Tree)). IsTaken (replaced D parts)) (sym c.deref.ensures.value)
-    (repaired_taken D c.args.budget c.args.rounds c.loop-table.parts.items c.requires.formed c.requires.taken c.requires.unconnected repaired)
+    (repaired_taken D c.args.budget.nodes c.args.rounds c.loop-table.parts.items c.requires.formed c.requires.taken c.requires.unconnected repaired)
 
 pub text_of_parts-requires-clause-one_each : goal.text_of_parts-requires-clause-one_each
 text_of_parts-requires-clause-one_each c =
@@ -88,9 +88,9 @@ pub returns-clause-repaired : goal.returns-clause-repaired
 returns-clause-repaired c =
     let D = c.args.doc.now in
     let all : tables_in D ≡ c.loop-table.yielded = grind (arith, common_steps, c.in-None.ensures.steps) in
-    let repaired = subst (λ n. AreRepaired D c.args.budget c.args.rounds n c.loop-table.parts.items) (ap length (sym all) ∙ table_count D) c.loop-table.invariant.3 in
+    let repaired = subst (λ n. AreRepaired D c.args.budget.nodes c.args.rounds n c.loop-table.parts.items) (ap length (sym all) ∙ table_count D) c.loop-table.invariant.3 in
     on_both c.text_of_parts.result _ _ _
     (λ text printed reads.
-    repaired_is D c.args.budget c.args.rounds c.loop-table.parts.items c.deref.result.now text.items c.requires.most c.requires.unconnected repaired
+    repaired_is D c.args.budget.nodes c.args.rounds c.loop-table.parts.items c.deref.result.now text.items c.args.budget.in_range.1 c.requires.unconnected repaired
     c.deref.ensures.value printed reads)
     c.text_of_parts.ensures.printed c.text_of_parts.ensures.reads

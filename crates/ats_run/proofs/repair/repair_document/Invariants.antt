@@ -9,4 +9,4 @@ invariant-loop-table l =
     (goal.iterator-loop-table).can_next l.table-iterator
     × (goal.iterator-loop-table).is_finite l.table-iterator
     × (tables_in l.doc ≡ l.yielded ++ into_iter_items l.table-iterator)
-    × AreRepaired l.doc l.budget l.rounds (length l.yielded) l.parts.items
+    × AreRepaired l.doc l.budget.nodes l.rounds (length l.yielded) l.parts.items

@@ -21,7 +21,7 @@ pub returns-in_err-repair_one-clause-unrepaired : goal.returns-in_err-repair_one
 returns-in_err-repair_one-clause-unrepaired c =
     let n = length c.args.parts.now.items in
     let T = c.args.table in
-    let budget = c.args.budget in
+    let budget = c.args.budget.nodes in
     let rounds = c.args.rounds in
     let e = c.in_err-repair_one.field-0.0 in
     let counted : vec_len c.args.parts.now ≡ n = c.args.parts.now.ok.0 in
@@ -38,8 +38,8 @@ returns-then-number-gt0-clause-repaired c =
     let p = c.in_ok-repair_one.field-0 in
     let counted : vec_len c.args.parts.now ≡ n = c.args.parts.now.ok.0 in
     let later : n ≡ 0 → Legal p.0 c.args.doc.now.start = λ first. absurd (omega (arith, first, c.if-number-gt0.true, c.len-number.ensures, counted)) in
-    repaired_more c.args.doc.now c.args.budget c.args.rounds n c.args.parts.now.items c.push.new.self.items p c.requires.earlier c.in_ok-push.ensures.items
-    (subst (λ (T : Table). IsRepairedAs T c.args.budget c.args.rounds p.0 p.1) c.requires.table c.in_ok-repair_one.ensures.repaired) later
+    repaired_more c.args.doc.now c.args.budget.nodes c.args.rounds n c.args.parts.now.items c.push.new.self.items p c.requires.earlier c.in_ok-push.ensures.items
+    (subst (λ (T : Table). IsRepairedAs T c.args.budget.nodes c.args.rounds p.0 p.1) c.requires.table c.in_ok-repair_one.ensures.repaired) later
 
 pub returns-clause-repaired : goal.returns-clause-repaired
 returns-clause-repaired c =
@@ -51,8 +51,8 @@ returns-clause-repaired c =
     let same = first_part c.args.parts.now.items c.push.new.self.items p c.index.result.now first c.in_ok-push.ensures.items c.index.ensures in
     IfOk-weaker c.check_start.result _ _
     (λ done legal.
-    repaired_more D c.args.budget c.args.rounds n c.args.parts.now.items c.push.new.self.items p c.requires.earlier c.in_ok-push.ensures.items
-    (subst (λ (T : Table). IsRepairedAs T c.args.budget c.args.rounds p.0 p.1) c.requires.table c.in_ok-repair_one.ensures.repaired)
+    repaired_more D c.args.budget.nodes c.args.rounds n c.args.parts.now.items c.push.new.self.items p c.requires.earlier c.in_ok-push.ensures.items
+    (subst (λ (T : Table). IsRepairedAs T c.args.budget.nodes c.args.rounds p.0 p.1) c.requires.table c.in_ok-repair_one.ensures.repaired)
     (λ _. subst (λ (q : Table × Tree). Legal q.0 D.start) same (subst (Legal c.index.result.now.0) c.start.ensures.start legal)))
     c.check_start.ensures.legal
 
@@ -67,7 +67,7 @@ returns-clause-unrepaired c =
     (λ e bad.
     inr (inr (
       first,
-      refused_start c.args.table p.0 D.start c.args.budget c.args.rounds p.1 e c.in_ok-repair_one.ensures.repaired c.in_ok-repair_one.ensures.dooms
+      refused_start c.args.table p.0 D.start c.args.budget.nodes c.args.rounds p.1 e c.in_ok-repair_one.ensures.repaired c.in_ok-repair_one.ensures.dooms
           (subst (λ (q : Table × Tree). IsBadStart q.0 D.start e) same (subst (λ s. IsBadStart c.index.result.now.0 s e) c.start.ensures.start bad)),
     )))
     c.check_start.ensures.bad

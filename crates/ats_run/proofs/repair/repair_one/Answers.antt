@@ -5,12 +5,12 @@ use Rattle.ats_run.proofs.repair.repair_one.Goals as goal
 
 pub returns-in-Done-clause-repaired : goal.returns-in-Done-clause-repaired
 returns-in-Done-clause-repaired c =
-    is_repaired c.args.table c.into_missions.result c.args.budget c.args.rounds c.in_ok-table.field-0 c.into_missions.ensures.missions
+    is_repaired c.args.table c.into_missions.result c.args.budget.nodes c.args.rounds c.in_ok-table.field-0 c.into_missions.ensures.missions
     c.in-Done.table c.in-Done.cert c.in-Done.rounds c.in-Done.is c.in_ok-table.ensures.repairs c.in_ok-table.ensures.exact
 
 pub returns-in-Done-clause-dooms : goal.returns-in-Done-clause-dooms
 returns-in-Done-clause-dooms c = λ m.
-    dooms_alike c.args.table c.into_missions.result c.args.budget c.args.rounds c.in_ok-table.field-0 c.into_missions.ensures.missions
+    dooms_alike c.args.table c.into_missions.result c.args.budget.nodes c.args.rounds c.in_ok-table.field-0 c.into_missions.ensures.missions
     c.in-Done.table c.in-Done.cert c.in-Done.rounds m c.in-Done.is c.in_ok-table.ensures.dooms
 
 pub returns-in-Spent-clause-none : goal.returns-in-Spent-clause-none
@@ -18,7 +18,7 @@ returns-in-Spent-clause-none c = inr (
   refl,
   (
     c.in-Spent.table,
-    ends_repair c.args.table c.into_missions.result c.args.budget c.args.rounds c.in_ok-table.field-0 c.into_missions.ensures.missions
+    ends_repair c.args.table c.into_missions.result c.args.budget.nodes c.args.rounds c.in_ok-table.field-0 c.into_missions.ensures.missions
         (repair.Spent c.in-Spent.table c.in-Spent.nodes) c.in-Spent.is c.in_ok-table.ensures.repairs c.in_ok-table.ensures.loses_nothing,
   ),
 )
@@ -28,7 +28,7 @@ returns-in-Rounds-clause-none c = inr (
   refl,
   (
     c.in-Rounds.table,
-    ends_repair c.args.table c.into_missions.result c.args.budget c.args.rounds c.in_ok-table.field-0 c.into_missions.ensures.missions
+    ends_repair c.args.table c.into_missions.result c.args.budget.nodes c.args.rounds c.in_ok-table.field-0 c.into_missions.ensures.missions
         (repair.Rounds c.in-Rounds.table c.in-Rounds.rounds c.in-Rounds.at) c.in-Rounds.is c.in_ok-table.ensures.repairs c.in_ok-table.ensures.loses_nothing,
   ),
 )
@@ -38,7 +38,7 @@ returns-clause-none c = inr (
   refl,
   (
     c.in-Many.table,
-    ends_repair c.args.table c.into_missions.result c.args.budget c.args.rounds c.in_ok-table.field-0 c.into_missions.ensures.missions
+    ends_repair c.args.table c.into_missions.result c.args.budget.nodes c.args.rounds c.in_ok-table.field-0 c.into_missions.ensures.missions
         (repair.Many c.in-Many.table c.in-Many.count) c.in-Many.is c.in_ok-table.ensures.repairs c.in_ok-table.ensures.loses_nothing,
   ),
 )

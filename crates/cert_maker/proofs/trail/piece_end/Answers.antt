@@ -21,7 +21,7 @@ grown list passed wanted now within some missing same =
 
 pub loop-passed-preserved : goal.loop-passed-preserved
 loop-passed-preserved c =
-    let list = take (length c.args.nodes.now - c.args.at) (drop c.args.at c.args.nodes.now) in
+    let list = take (c.min-bound.result - c.args.at) (drop c.args.at c.args.nodes.now) in
     record {
       some = omega (arith, c.if-wanted-eq0.false);
       small = omega (arith, c.behind-wanted.ensures, small_behind (get_or list c.loop-passed.passed (Split 0 0)) c.loop-passed.wanted);
@@ -33,15 +33,15 @@ returns-then-wanted-eq0 c =
     let nodes = c.args.nodes.now in
     let at = c.args.at in
     let passed = c.loop-passed.passed in
-    let list = take (length nodes - at) (drop at nodes) in
+    let list = take (c.min-bound.result - at) (drop at nodes) in
     let s = spelled (take (passed + 1) list) c.behind-wanted.result
     (grown list passed c.loop-passed.wanted c.behind-wanted.result (omega arith) (omega arith) c.loop-passed.invariant.missing c.behind-wanted.ensures)
     c.if-wanted-eq0.true in
-    piece_of nodes at (length nodes - at) passed s.0 refl c.requires.within (omega arith) s.1
+    piece_of nodes at (c.min-bound.result - at) passed s.0 (omega arith) s.1
 
 pub behind-wanted-requires : goal.behind-wanted-requires
 behind-wanted-requires c =
     record {
       some = omega arith;
-      few = omega (arith, length-take (length c.args.nodes.now - c.args.at) (drop c.args.at c.args.nodes.now), length-drop c.args.at c.args.nodes.now);
+      few = omega (arith, length-take (c.min-bound.result - c.args.at) (drop c.args.at c.args.nodes.now), c.min-bound.ensures);
     }

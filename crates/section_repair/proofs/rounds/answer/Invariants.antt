@@ -7,7 +7,7 @@ abbrev pub invariant-loop-draft : goal.invariant-loop-draft
 invariant-loop-draft l = record {
   under_way : IsUnderWay l.fn.missions l.round;
   draft : IsDraft l.round.former l.draft;
-  budget : l.round.budget ≡ l.budget;
+  budget : l.round.budget.nodes ≡ l.fn.budget.nodes;
   within : l.round.used ≤ l.rounds;
 }
 

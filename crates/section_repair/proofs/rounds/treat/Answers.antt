@@ -11,7 +11,7 @@ marked-requires-clause-stays c =
     let round = c.args.round in
     let reached = c.requires.under_way.reached in
     let sections = c.in_ok-sections.sections.items in
-    let further = round_of round.table.missions round.budget reached.0 round.sections.items round.table c.args.at sections (found c.args.at)
+    let further = round_of round.table.missions round.budget.nodes reached.0 round.sections.items round.table c.args.at sections (found c.args.at)
     reached.1 c.requires.stuck refl c.in_ok-sections.ensures.treated in
     subst (λ (l : List (List Stay)). All (AreStays (length c.into_missions.result)) l) (sym c.deref.ensures.value)
     (subst (λ (ms : List Mission). All (AreStays (length ms)) sections) (sym (c.into_missions.ensures.missions ∙ c.requires.under_way.missions)) (next-stays further))
@@ -22,7 +22,7 @@ returns-clause-turn c =
     let at = c.args.at in
     let reached = c.requires.under_way.reached in
     let sections = c.in_ok-sections.sections.items in
-    let further = round_of round.table.missions round.budget reached.0 round.sections.items round.table at sections (found at)
+    let further = round_of round.table.missions round.budget.nodes reached.0 round.sections.items round.table at sections (found at)
     reached.1 c.requires.stuck refl c.in_ok-sections.ensures.treated in
     let made : c.in_ok-next.next ≡ marked round.table.missions sections =
     c.in_ok-next.ensures
