@@ -2,7 +2,7 @@
 
 use crate::lines::field_of;
 use crate::names::{Names, Rows, no_rows, rows_of};
-use crate::section_points::write_section_points;
+use crate::section_points::{Ways, write_section_points};
 use crate::shapes::shape_of;
 use crate::text::Text;
 use decimal_number::number_of;
@@ -131,7 +131,9 @@ fn write_names(out: &mut Text, scope: &Scope, kind: Kind, number: u32) {
         Kind::Train => write_name(out, scope.names.trains.get(index)),
         Kind::Point => write_name(out, scope.names.point(number)),
         Kind::Place => write_place_name(out, scope, number),
-        Kind::Section => write_section_points(out, &scope.rows, number),
+        Kind::Section => if let Some(section) = scope.rows.sections.get(index) {
+            write_section_points(out, section, Ways::Names(scope.rows.missions));
+        },
         Kind::Connection => if let Some(rule) = scope.rows.connections.get(index) {
             write_rule(out, scope, rule);
         },
@@ -194,7 +196,7 @@ fn write_claim(out: &mut Text, scope: &Scope, node: Node) {
     out.say(" (");
     match node {
         Node::Split { train, place } => {
-            write_train(out, trains, train);
+            write_train_of(out, trains, train);
             out.say(" up to place ");
             out.say_number(u64::from(place));
             out.say(", or beyond it");
@@ -210,7 +212,7 @@ fn write_claim(out: &mut Text, scope: &Scope, node: Node) {
         }
         Node::Arrived => out.say("all trains have arrived"),
         Node::Move { train } => {
-            write_train(out, trains, train);
+            write_train_of(out, trains, train);
             out.say(" has a move");
         }
     }
@@ -221,27 +223,35 @@ fn write_claim(out: &mut Text, scope: &Scope, node: Node) {
 fn write_rule(out: &mut Text, scope: &Scope, rule: &Connection) {
     let trains = scope.names.trains;
     out.say(" (");
-    write_train(out, trains, rule.train());
+    write_train_of(out, trains, rule.train());
     out.say(" leaves ");
     write_place(out, &scope.rows, rule.train(), rule.place());
     out.say(" after ");
-    write_train(out, trains, rule.other());
+    write_train_of(out, trains, rule.other());
     out.say(" has reached ");
     write_place(out, &scope.rows, rule.other(), rule.reached());
     out.say(")");
 }
 
-/// Adds the names of two trains.
-pub(crate) fn write_trains(out: &mut Text, trains: &[String], first: u32, second: u32) {
-    write_train(out, trains, first);
+// Adds the names of two trains.
+fn write_trains(out: &mut Text, trains: &[String], first: u32, second: u32) {
+    write_train_of(out, trains, first);
     out.say(" and ");
-    write_train(out, trains, second);
+    write_train_of(out, trains, second);
+}
+
+// Adds the name that a train has in this list.
+fn write_train_of(out: &mut Text, trains: &[String], train: u32) {
+    match trains.get(train as usize) {
+        Some(name) => write_train(out, Some(name.as_str()), train),
+        None => write_train(out, None, train),
+    }
 }
 
 /// Adds the name of a train, or its number where it has no name.
-pub(crate) fn write_train(out: &mut Text, trains: &[String], train: u32) {
-    match trains.get(train as usize) {
-        Some(name) => out.say(name.as_str()),
+pub(crate) fn write_train(out: &mut Text, name: Option<&str>, train: u32) {
+    match name {
+        Some(name) => out.say(name),
         None => {
             out.say("train ");
             out.say_number(u64::from(train));

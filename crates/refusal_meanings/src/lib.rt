@@ -3,6 +3,7 @@
 
 mod faults;
 mod fields;
+mod illegal;
 mod lines;
 mod meanings;
 mod names;
@@ -11,5 +12,6 @@ mod section_points;
 mod shapes;
 mod text;
 
-pub use faults::{no_document_text, no_table_text, not_legal_text};
+pub use faults::{no_document_text, no_table_text};
+pub use illegal::{Placed, not_legal_text};
 pub use meanings::meaning_of;
