@@ -61,8 +61,8 @@ fn explain_positions(
     }
 }
 
-// How positions are explained under a table.
-fn explain_table(
+/// What holds each train at these places, under a table of a document that was read.
+pub fn explain_places(
     alloc: Global,
     doc: &Doc,
     table: u32,
@@ -88,7 +88,7 @@ pub fn explain_state(
     ensures { IfOk result (ExplainsState bytes.now table places.now) }
 {
     match document(alloc, bytes) {
-        Ok(doc) => explain_table(alloc, &doc, table, places),
+        Ok(doc) => explain_places(alloc, &doc, table, places),
         Err(DocRefused::Memory) => Err(AllocError),
         Err(refused) => {
             let text = no_document_text(alloc, bytes, &refused)?;
