@@ -1,10 +1,25 @@
 // Why a document has no such state.
 
+use crate::causes::cause_of;
 use crate::meanings::write_meaning;
+use crate::names::{members_of, names_of};
 use crate::text::Text;
 use document_json::DocRefused;
+use document_shapes::DocMembers;
 use refusal_lines::push_document;
 use std::alloc::{AllocError, Global};
+
+// The members of a document that is refused. One that is refused for its shape has none, and isn't read for them.
+fn members_of_refused(
+    alloc: Global,
+    document: &[u8],
+    refused: &DocRefused,
+) -> Result<Option<DocMembers>, AllocError> {
+    match refused {
+        DocRefused::Shape(_) => Ok(None),
+        _ => members_of(alloc, document),
+    }
+}
 
 /// Why `ats` refuses a document: its line, and what that means.
 ///
@@ -16,18 +31,15 @@ pub fn no_document_text(
     document: &[u8],
     refused: &DocRefused,
 ) -> Result<String, AllocError> {
-    let mut words = String::new(alloc);
-    push_document(&mut words, refused)?;
-    refused_text(alloc, document, words.as_str())
-}
-
-// The line of a refused document, and what it means.
-fn refused_text(alloc: Global, document: &[u8], words: &str) -> Result<String, AllocError> {
+    let mut line = String::new(alloc);
+    push_document(&mut line, refused)?;
+    let cause = cause_of(alloc, refused)?;
+    let members = members_of_refused(alloc, document, refused)?;
     let mut text = Text::new(alloc);
     text.say("ats refuses the document: ");
-    text.say(words);
+    text.say(line.as_str());
     text.say("\n");
-    write_meaning(&mut text, document, words);
+    write_meaning(&mut text, names_of(&members), cause.words, &cause.fields);
     text.into_result()
 }
 

@@ -1,7 +1,9 @@
 //! What each refusal of `ats` means for a document, where it is, and what to do about it: sentences with the document's names.
 #![tactic(auto)]
 
+mod causes;
 mod faults;
+mod field;
 mod fields;
 mod illegal;
 mod lines;
