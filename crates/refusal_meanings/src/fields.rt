@@ -1,28 +1,25 @@
-// The fields of a line, with names for their numbers.
+// Where a refusal is: its fields, with names for their numbers.
 
-use crate::lines::field_of;
+use crate::field::Field;
 use crate::names::{Names, Rows, no_rows, rows_of};
 use crate::section_points::write_section_points;
 use crate::shapes::shape_of;
 use crate::text::Text;
-use decimal_number::number_of;
 use rail_model::{Connection, Node};
 
-/// What a line's fields are read with: names, and the table and the train that the line speaks of.
+/// What the fields of a refusal are read with: names, and the table and the train that it speaks of.
 #[derive(Clone, Copy)]
 pub(crate) struct Scope<'a> {
     names: Names<'a>,
     rows: Rows<'a>,
-    train: Option<u32>,
-    // Whether `first` and `second` are points and not trains.
-    points: bool,
+    train: Option<usize>,
 }
 
-/// The scope of a line with these words. A line without a table speaks of table 0 if there is no other, and if it is of
-/// a start.
-pub(crate) fn scope_of<'a>(names: Names<'a>, words: &str, line: &str) -> Scope<'a> {
+/// The scope of a refusal with these words and fields. One without a table speaks of table 0 if there is no other, and
+/// if it is of a start.
+pub(crate) fn scope_of<'a>(names: Names<'a>, words: &str, fields: &[Field]) -> Scope<'a> {
     let is_sole = names.tables.len() == 1 || words.starts_with("112 ");
-    let rows = match field_of(line, "table") {
+    let rows = match table_among(fields) {
         Some(table) => rows_of(names.tables, table),
         None => if is_sole {
             rows_of(names.tables, 0)
@@ -33,85 +30,84 @@ pub(crate) fn scope_of<'a>(names: Names<'a>, words: &str, line: &str) -> Scope<'
     Scope {
         names,
         rows,
-        train: field_of(line, "train"),
-        points: words == "2 DoubleName",
+        train: train_among(fields),
     }
 }
 
-/// Adds where a refusal is: the fields of its line.
-pub(crate) fn write_where(out: &mut Text, scope: &Scope, line: &str) {
-    let mut is_first = true;
-    for word in line.split_whitespace() {
-        if let Some((key, value)) = word.split_once('=') {
-            out.say(if is_first { "Where: " } else { ", " });
-            write_field(out, scope, key, value);
-            is_first = false;
+fn table_among(fields: &[Field]) -> Option<usize> {
+    for field in fields {
+        if let Field::Table(table) = *field {
+            return Some(table);
         }
     }
-    if !is_first {
+    None
+}
+
+fn train_among(fields: &[Field]) -> Option<usize> {
+    for field in fields {
+        if let Field::Train(train) = *field {
+            return Some(train);
+        }
+    }
+    None
+}
+
+/// Adds where a refusal is: its fields.
+pub(crate) fn write_where(out: &mut Text, scope: &Scope, fields: &[Field]) {
+    for (index, field) in fields.iter().enumerate() {
+        out.say(if index == 0 { "Where: " } else { ", " });
+        write_field(out, scope, *field);
+    }
+    if !fields.is_empty() {
         out.say(".\n");
     }
 }
 
-// What the number of a field counts.
-#[derive(Clone, Copy)]
-enum Kind {
-    Train,
-    Point,
-    Place,
-    Section,
-    Connection,
-    Link,
-    Line,
-    Node,
-    Other,
-}
-
-// What the number of a field counts.
-fn kind_of(key: &str, points: bool) -> Kind {
-    match key {
-        "train" | "by" | "other" => Kind::Train,
-        "first" | "second" => if points { Kind::Point } else { Kind::Train },
-        "point" => Kind::Point,
-        "place" => Kind::Place,
-        "section" => Kind::Section,
-        "connection" => Kind::Connection,
-        "link" => Kind::Link,
-        "line" => Kind::Line,
-        "index" => Kind::Node,
-        _ => Kind::Other,
-    }
-}
-
-// What a number of a field is called.
-fn word_of<'a>(key: &'a str, kind: Kind) -> &'a str {
-    match kind {
-        Kind::Train => "train",
-        Kind::Point => "point",
-        Kind::Node => "node",
-        _ => key,
-    }
-}
-
 // Adds a field with the names that its number stands for.
-fn write_field(out: &mut Text, scope: &Scope, key: &str, value: &str) {
-    match (key, number_of(value.as_bytes())) {
-        ("what", _) => out.say(value),
-        ("member", _) => write_member(out, value),
-        (_, None) => write_numbered(out, key, value),
-        (_, Some(number)) => {
-            let kind = kind_of(key, scope.points);
-            write_numbered(out, word_of(key, kind), value);
-            write_names(out, scope, kind, number);
+fn write_field(out: &mut Text, scope: &Scope, field: Field) {
+    match field {
+        Field::Table(table) => write_numbered(out, "table", table),
+        Field::Train(train) | Field::Another(train) => write_named(
+            out,
+            "train",
+            train,
+            scope.names.train(train),
+        ),
+        Field::Point(point) => write_named(out, "point", point, scope.names.point(point)),
+        Field::Place(place) => write_place(out, &scope.rows, scope.train, place),
+        Field::Section(section) => write_section(out, &scope.rows, section),
+        Field::Connection(connection) => write_connection(out, scope, connection),
+        Field::Link(link) => write_link(out, scope.names.links, link),
+        Field::Node(node) => write_node(out, scope, node),
+        Field::Line(line) => {
+            write_numbered(out, "line", line);
+            out.say(" of the journal");
+        }
+        Field::Zone(zone) => write_numbered(out, "zone", zone),
+        Field::Count(count) => write_numbered(out, "count", count),
+        Field::Limit(limit) => write_numbered(out, "limit", limit),
+        Field::Value(value) => out.say_value(value),
+        Field::Member(member) => write_member(out, member),
+        Field::What(what) => out.say(what),
+        Field::Other { key, value } => {
+            out.say(key);
+            out.say(" ");
+            out.say(value);
         }
     }
 }
 
 // Adds a number after what it is called.
-fn write_numbered(out: &mut Text, word: &str, number: &str) {
+fn write_numbered(out: &mut Text, word: &str, number: usize) {
     out.say(word);
     out.say(" ");
-    out.say(number);
+    out.say_number(number as u64);
+}
+
+// Adds a number after what it is called, and the name that it stands for, if there is one.
+fn write_named(out: &mut Text, word: &str, number: usize, name: Option<&str>) {
+    write_numbered(out, word, number);
+    write_name(out, name);
 }
 
 // Adds a member and its shape.
@@ -124,44 +120,26 @@ fn write_member(out: &mut Text, member: &str) {
     }
 }
 
-// Adds what has a number.
-fn write_names(out: &mut Text, scope: &Scope, kind: Kind, number: u32) {
-    let index = number as usize;
-    match kind {
-        Kind::Train => write_name(out, scope.names.trains.get(index)),
-        Kind::Point => write_name(out, scope.names.point(number)),
-        Kind::Place => write_place_name(out, scope, number),
-        Kind::Section => write_section_points(out, &scope.rows, number),
-        Kind::Connection => if let Some(rule) = scope.rows.connections.get(index) {
-            write_rule(out, scope, rule);
-        },
-        Kind::Link => write_link(out, scope.names.links, index),
-        Kind::Line => out.say(" of the journal"),
-        Kind::Node => if let Some(node) = scope.rows.nodes.get(index) {
-            write_claim(out, scope, *node);
-        },
-        Kind::Other => {}
-    }
-}
-
-// Adds the name of the point at a place of the train that the line speaks of.
-fn write_place_name(out: &mut Text, scope: &Scope, place: u32) {
-    if let Some(train) = scope.train {
-        write_point(out, &scope.rows, train, place);
-    }
-}
-
 // Adds the name, if there is one.
-fn write_name(out: &mut Text, name: Option<&String>) {
+fn write_name(out: &mut Text, name: Option<&str>) {
     if let Some(name) = name {
         out.say(" (");
-        out.quote(name.as_str());
+        out.quote(name);
         out.say(")");
     }
 }
 
-// Adds the names of the points that a link joins.
+// Adds a section, and the points at which trains have shares of it.
+fn write_section(out: &mut Text, rows: &Rows, section: usize) {
+    write_numbered(out, "section", section);
+    if let Some(section) = rows.sections.get(section) {
+        write_section_points(out, section, rows.ways());
+    }
+}
+
+// Adds a link, and the names of the points that it joins.
 fn write_link(out: &mut Text, links: &[(String, String)], link: usize) {
+    write_numbered(out, "link", link);
     if let Some((first, second)) = links.get(link) {
         out.say(" (");
         out.quote(first.as_str());
@@ -171,36 +149,47 @@ fn write_link(out: &mut Text, links: &[(String, String)], link: usize) {
     }
 }
 
+// Adds a place, and the name of its point on the way of a train, or that the train is out of the layout.
+fn write_place(out: &mut Text, rows: &Rows, train: Option<usize>, place: usize) {
+    write_numbered(out, "place", place);
+    if let Some(train) = train {
+        write_point(out, rows, train, place);
+    }
+}
+
 // Adds the name of the point at a place of a train, or that the train is out of the layout.
-fn write_point(out: &mut Text, rows: &Rows, train: u32, place: u32) {
-    let name = rows.point(train, place);
-    if name.is_none() && rows.last_place(train) == Some(place as usize) {
+fn write_point(out: &mut Text, rows: &Rows, train: usize, place: usize) {
+    let name = rows.ways().point(train, place);
+    if name.is_none() && rows.last_place(train) == Some(place) {
         out.say(" (out of the layout)");
     } else {
         write_name(out, name);
     }
 }
 
-// Adds a place of a train.
-fn write_place(out: &mut Text, rows: &Rows, train: u32, place: u32) {
-    out.say("place ");
-    out.say_number(u64::from(place));
-    write_point(out, rows, train, place);
+// Adds a node, and what it says.
+fn write_node(out: &mut Text, scope: &Scope, node: usize) {
+    write_numbered(out, "node", node);
+    if let Some(node) = scope.rows.nodes.get(node) {
+        out.say(" (");
+        write_claim(out, scope.names, *node);
+        out.say(")");
+    }
 }
 
 // Adds what a node says.
-fn write_claim(out: &mut Text, scope: &Scope, node: Node) {
-    let trains = scope.names.trains;
-    out.say(" (");
+fn write_claim(out: &mut Text, names: Names, node: Node) {
     match node {
         Node::Split { train, place } => {
-            write_train(out, trains, train);
+            write_train_of(out, names, train);
             out.say(" up to place ");
             out.say_number(u64::from(place));
             out.say(", or beyond it");
         }
         Node::Clash { first, second } => {
-            write_trains(out, trains, first, second);
+            write_train_of(out, names, first);
+            out.say(" and ");
+            write_train_of(out, names, second);
             out.say(" are at the same point");
         }
         Node::Overfull { section } => {
@@ -210,38 +199,53 @@ fn write_claim(out: &mut Text, scope: &Scope, node: Node) {
         }
         Node::Arrived => out.say("all trains have arrived"),
         Node::Move { train } => {
-            write_train(out, trains, train);
+            write_train_of(out, names, train);
             out.say(" has a move");
         }
     }
-    out.say(")");
+}
+
+// Adds a connection, and what it says.
+fn write_connection(out: &mut Text, scope: &Scope, connection: usize) {
+    write_numbered(out, "connection", connection);
+    if let Some(rule) = scope.rows.connections.get(connection) {
+        out.say(" (");
+        write_rule(out, scope, rule);
+        out.say(")");
+    }
 }
 
 // Adds what a connection says.
 fn write_rule(out: &mut Text, scope: &Scope, rule: &Connection) {
-    let trains = scope.names.trains;
-    out.say(" (");
-    write_train(out, trains, rule.train());
+    let (train, other) = (rule.train(), rule.other());
+    write_train_of(out, scope.names, train);
     out.say(" leaves ");
-    write_place(out, &scope.rows, rule.train(), rule.place());
+    write_place(
+        out,
+        &scope.rows,
+        Some(train as usize),
+        rule.place() as usize,
+    );
     out.say(" after ");
-    write_train(out, trains, rule.other());
+    write_train_of(out, scope.names, other);
     out.say(" has reached ");
-    write_place(out, &scope.rows, rule.other(), rule.reached());
-    out.say(")");
+    write_place(
+        out,
+        &scope.rows,
+        Some(other as usize),
+        rule.reached() as usize,
+    );
 }
 
-/// Adds the names of two trains.
-pub(crate) fn write_trains(out: &mut Text, trains: &[String], first: u32, second: u32) {
-    write_train(out, trains, first);
-    out.say(" and ");
-    write_train(out, trains, second);
+// Adds what the document calls a train.
+fn write_train_of(out: &mut Text, names: Names, train: u32) {
+    write_train(out, names.train(train as usize), train);
 }
 
 /// Adds the name of a train, or its number where it has no name.
-pub(crate) fn write_train(out: &mut Text, trains: &[String], train: u32) {
-    match trains.get(train as usize) {
-        Some(name) => out.say(name.as_str()),
+pub(crate) fn write_train(out: &mut Text, name: Option<&str>, train: u32) {
+    match name {
+        Some(name) => out.say(name),
         None => {
             out.say("train ");
             out.say_number(u64::from(train));

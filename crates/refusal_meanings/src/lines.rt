@@ -1,6 +1,6 @@
 // A line of `ats`: its words, and its fields, as `train=2`.
 
-use decimal_number::number_of;
+use crate::field::{Field, field_of};
 use std::alloc::{AllocError, Global};
 
 /// The words of a line that are no fields, with spaces between them.
@@ -21,14 +21,18 @@ fn push_word(words: &mut String, word: &str) -> Result<(), AllocError> {
     words.push_str(word)
 }
 
-/// The number that a field has, if the line has the field.
-pub(crate) fn field_of(line: &str, name: &str) -> Option<u32> {
+/// The fields of a line with these words.
+pub(crate) fn fields_of<'a>(
+    alloc: Global,
+    words: &str,
+    line: &'a str,
+) -> Result<Vec<Field<'a>>, AllocError> {
+    let are_points = words == "2 DoubleName";
+    let mut fields = Vec::new(alloc);
     for word in line.split_whitespace() {
         if let Some((key, value)) = word.split_once('=') {
-            if key == name {
-                return number_of(value.as_bytes());
-            }
+            fields.push(field_of(key, value, are_points))?;
         }
     }
-    None
+    Ok(fields)
 }

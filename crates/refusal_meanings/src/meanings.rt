@@ -1,8 +1,9 @@
-// What a line means, where, and what to do about it.
+// What a refusal means, where it is, and what to do about it.
 
-use crate::fields::{Scope, scope_of, write_where};
-use crate::lines::words_of;
-use crate::names::{members_of, names_of};
+use crate::field::Field;
+use crate::fields::{scope_of, write_where};
+use crate::lines::{fields_of, words_of};
+use crate::names::{Names, members_of, names_of};
 use crate::refusals::{Refusal, refusal_of};
 use crate::text::Text;
 use std::alloc::{AllocError, Global};
@@ -17,50 +18,35 @@ pub fn meaning_of(
     document: &[u8],
     line: &str,
 ) -> Result<Option<String>, AllocError> {
+    let words = words_of(alloc, line)?;
+    let Some(refusal) = refusal_of(words.as_str()) else {
+        return Ok(None);
+    };
+    let fields = fields_of(alloc, words.as_str(), line)?;
+    let members = members_of(alloc, document)?;
     let mut text = Text::new(alloc);
-    let is_known = write_meaning(&mut text, document, line);
-    let text = text.into_result()?;
-    Ok(if is_known { Some(text) } else { None })
+    write_lines(
+        &mut text,
+        names_of(&members),
+        words.as_str(),
+        &fields,
+        refusal,
+    );
+    Ok(Some(text.into_result()?))
 }
 
-/// Adds what a line means for a document, in two or three lines; says whether it is a line of `ats`.
-pub(crate) fn write_meaning(out: &mut Text, document: &[u8], line: &str) -> bool {
-    match words_of(out.alloc(), line) {
-        Ok(words) => write_meaning_of(out, document, words.as_str(), line),
-        Err(_) => {
-            out.note_no_memory();
-            false
-        }
-    }
-}
-
-// Adds what a line with these words means.
-fn write_meaning_of(out: &mut Text, document: &[u8], words: &str, line: &str) -> bool {
-    match refusal_of(words) {
-        Some(refusal) => {
-            write_refusal(out, document, words, line, refusal);
-            true
-        }
-        None => false,
-    }
-}
-
-// Adds what a refusal means.
-fn write_refusal(out: &mut Text, document: &[u8], words: &str, line: &str, refusal: Refusal) {
-    match members_of(out.alloc(), document) {
-        Ok(members) => {
-            let scope = scope_of(names_of(&members), words, line);
-            write_lines(out, &scope, line, refusal);
-        }
-        Err(_) => out.note_no_memory(),
+/// Adds what a refusal with these words and fields means for a document, in two or three lines.
+pub(crate) fn write_meaning(out: &mut Text, names: Names, words: &str, fields: &[Field]) {
+    if let Some(refusal) = refusal_of(words) {
+        write_lines(out, names, words, fields, refusal);
     }
 }
 
 // Adds what a refusal means, where it is, and what to do about it.
-fn write_lines(out: &mut Text, scope: &Scope, line: &str, refusal: Refusal) {
+fn write_lines(out: &mut Text, names: Names, words: &str, fields: &[Field], refusal: Refusal) {
     out.say(refusal.meaning);
     out.say("\n");
-    write_where(out, scope, line);
+    write_where(out, &scope_of(names, words, fields), fields);
     out.say(refusal.advice);
     out.say("\n");
 }

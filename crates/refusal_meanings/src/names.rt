@@ -1,5 +1,6 @@
 // What a document calls its trains, points, sections and links, whether or not `ats` takes the document.
 
+use crate::section_points::Ways;
 use document_shapes::{DocMembers, ShapeRefused, TableMembers, read_document};
 use rail_model::{Connection, Node, Section};
 use std::alloc::{AllocError, Global};
@@ -41,10 +42,16 @@ pub(crate) fn names_of(members: &Option<DocMembers>) -> Names<'_> {
 }
 
 impl<'a> Names<'a> {
+    /// The name of a train.
+    pub(crate) fn train(&self, train: usize) -> Option<&'a str> {
+        let name = self.trains.get(train)?;
+        Some(name.as_str())
+    }
+
     /// The name of a point.
-    pub(crate) fn point(&self, point: u32) -> Option<&'a String> {
-        let (name, _zone) = self.points.get(point as usize)?;
-        Some(name)
+    pub(crate) fn point(&self, point: usize) -> Option<&'a str> {
+        let (name, _zone) = self.points.get(point)?;
+        Some(name.as_str())
     }
 }
 
@@ -59,8 +66,8 @@ pub(crate) struct Rows<'a> {
 }
 
 /// The members of a table; empty ones if there is no such table.
-pub(crate) fn rows_of(tables: &[TableMembers], table: u32) -> Rows<'_> {
-    match tables.get(table as usize) {
+pub(crate) fn rows_of(tables: &[TableMembers], table: usize) -> Rows<'_> {
+    match tables.get(table) {
         Some(table) => Rows {
             missions: &table.missions,
             exits: items_of(&table.exits),
@@ -91,15 +98,15 @@ fn items_of<T>(list: &Option<Vec<T>>) -> &[T] {
 }
 
 impl<'a> Rows<'a> {
-    /// The name of the point at a train's place.
-    pub(crate) fn point(&self, train: u32, place: u32) -> Option<&'a String> {
-        self.missions.get(train as usize)?.get(place as usize)
+    /// The points that the missions name.
+    pub(crate) fn ways(&self) -> Ways<'a> {
+        Ways::Names(self.missions)
     }
 
     /// A train's last place.
-    pub(crate) fn last_place(&self, train: u32) -> Option<usize> {
-        let points = self.missions.get(train as usize)?.len();
-        if self.exits.get(train as usize) == Some(&true) {
+    pub(crate) fn last_place(&self, train: usize) -> Option<usize> {
+        let points = self.missions.get(train)?.len();
+        if self.exits.get(train) == Some(&true) {
             Some(points)
         } else {
             points.checked_sub(1)

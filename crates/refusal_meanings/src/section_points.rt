@@ -1,13 +1,37 @@
 // The points at which trains have shares of a section.
 
-use crate::names::Rows;
 use crate::text::Text;
+use rail_model::{Layout, Missions, Section};
 use std::alloc::AllocError;
 
+/// Where the trains of a table come to: names of points, or points of a layout.
+#[derive(Clone, Copy)]
+pub(crate) enum Ways<'a> {
+    Names(&'a [Vec<String>]),
+    Numbers(&'a Missions, &'a Layout),
+}
+
+impl<'a> Ways<'a> {
+    /// The name of the point at a train's place.
+    pub(crate) fn point(self, train: usize, place: usize) -> Option<&'a str> {
+        match self {
+            Ways::Names(missions) => {
+                let name = missions.get(train)?.get(place)?;
+                Some(name.as_str())
+            }
+            Ways::Numbers(missions, layout) => {
+                let point = missions.as_slice().get(train)?.as_slice().get(place)?;
+                let point = layout.points().get(*point as usize)?;
+                Some(point.name())
+            }
+        }
+    }
+}
+
 /// Adds up to six of the points at which a train has a share of a section.
-pub(crate) fn write_section_points(out: &mut Text, rows: &Rows, section: u32) {
+pub(crate) fn write_section_points(out: &mut Text, section: &Section, ways: Ways) {
     let mut points = Vec::new(out.alloc());
-    match push_section_points(&mut points, rows, section) {
+    match push_section_points(&mut points, section, ways) {
         Ok(()) => write_points(out, &points),
         Err(_) => out.note_no_memory(),
     }
@@ -16,14 +40,11 @@ pub(crate) fn write_section_points(out: &mut Text, rows: &Rows, section: u32) {
 // Adds the points at which a train's share of a section is above 0, in the order of the missions.
 fn push_section_points<'a>(
     points: &mut Vec<&'a str>,
-    rows: &Rows<'a>,
-    section: u32,
+    section: &Section,
+    ways: Ways<'a>,
 ) -> Result<(), AllocError> {
-    let Some(section) = rows.sections.get(section as usize) else {
-        return Ok(());
-    };
-    for (changes, mission) in section.all_changes().iter().zip(rows.missions) {
-        push_points(points, changes.as_slice(), mission)?;
+    for (train, changes) in section.all_changes().iter().enumerate() {
+        push_points(points, train, changes.as_slice(), ways)?;
     }
     Ok(())
 }
@@ -31,14 +52,25 @@ fn push_section_points<'a>(
 // Adds the points of a mission at which the share is above 0, each once.
 fn push_points<'a>(
     points: &mut Vec<&'a str>,
+    train: usize,
     changes: &[i32],
-    mission: &'a [String],
+    ways: Ways<'a>,
 ) -> Result<(), AllocError> {
     let mut share: i32 = 0;
-    for (change, point) in changes.iter().zip(mission) {
+    for (place, change) in changes.iter().enumerate() {
         share = share.saturating_add(*change);
-        if 0 < share && !is_known(points, point.as_str()) {
-            points.push(point.as_str())?;
+        if 0 < share {
+            push_point(points, ways.point(train, place))?;
+        }
+    }
+    Ok(())
+}
+
+// Adds a point, if it isn't there yet.
+fn push_point<'a>(points: &mut Vec<&'a str>, point: Option<&'a str>) -> Result<(), AllocError> {
+    if let Some(point) = point {
+        if !is_known(points, point) {
+            points.push(point)?;
         }
     }
     Ok(())

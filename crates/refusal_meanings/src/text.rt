@@ -41,6 +41,13 @@ impl Text {
         }
     }
 
+    /// Adds a number that may be below 0, after the word for it.
+    pub(crate) fn say_value(&mut self, value: i64) {
+        if write!(self.words, "value {value}").is_err() {
+            self.note_no_memory();
+        }
+    }
+
     /// Adds words in quotes.
     pub(crate) fn quote(&mut self, words: &str) {
         if write!(self.words, "{words:?}").is_err() {

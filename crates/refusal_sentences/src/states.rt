@@ -11,7 +11,7 @@ use crate::Explained;
 use document_json::{Doc, DocRefused, document, names_of, table_of, tables_of};
 use legal_state::judge;
 use rail_model::State;
-use refusal_meanings::{no_document_text, no_table_text, not_legal_text};
+use refusal_meanings::{Placed, no_document_text, no_table_text, not_legal_text};
 use state_sentences::{Scene, text_of};
 use std::alloc::{AllocError, Global};
 
@@ -38,7 +38,6 @@ fn explain_legal(
 // How positions are explained under a table that the document has.
 fn explain_positions(
     alloc: Global,
-    bytes: &[u8],
     doc: &Doc,
     table: u32,
     places: &[u32],
@@ -50,16 +49,21 @@ fn explain_positions(
     match judge(table_of(doc, table), &state) {
         Ok(()) => explain_legal(alloc, doc, table, &state),
         Err(cause) => {
-            let text = not_legal_text(alloc, bytes, table, places, cause)?;
+            let placed = Placed {
+                doc,
+                table: table_of(doc, table),
+                number: table,
+                places,
+            };
+            let text = not_legal_text(alloc, &placed, cause)?;
             Ok(Explained::NotLegal { cause, text })
         }
     }
 }
 
-// How positions are explained under a table.
-fn explain_table(
+/// What holds each train at these places, under a table of a document that was read.
+pub fn explain_places(
     alloc: Global,
-    bytes: &[u8],
     doc: &Doc,
     table: u32,
     places: &[u32],
@@ -68,7 +72,7 @@ fn explain_table(
 {
     let tables = tables_of(doc);
     if table < tables {
-        return explain_positions(alloc, bytes, doc, table, places);
+        return explain_positions(alloc, doc, table, places);
     }
     let text = no_table_text(alloc, table, tables)?;
     Ok(Explained::NoTable { tables, text })
@@ -84,7 +88,7 @@ pub fn explain_state(
     ensures { IfOk result (ExplainsState bytes.now table places.now) }
 {
     match document(alloc, bytes) {
-        Ok(doc) => explain_table(alloc, bytes, &doc, table, places),
+        Ok(doc) => explain_places(alloc, &doc, table, places),
         Err(DocRefused::Memory) => Err(AllocError),
         Err(refused) => {
             let text = no_document_text(alloc, bytes, &refused)?;
