@@ -1,5 +1,5 @@
 // Groups of passes, each a piece of work of its own.
-ghost use Rattle.std.specs.Prelude.{◌≡◌, ◌≤◌, All};
+ghost use Rattle.std.specs.Prelude.{◌≤◌, All};
 ghost use Rattle.std.specs.List.{AllZip};
 ghost use Rattle.shared_run.specs.Groups.{IsOurGroup, GroupWorked};
 

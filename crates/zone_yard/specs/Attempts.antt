@@ -22,7 +22,9 @@ pub record RefusesZone (zones : ℕ) (needed : List ℕ) (old new : Seat) (zone 
   pub another : (found ≢ 0) × (found ≢ suc old.view.number) × (found ≤ most_passes)
   pub earlier : List Try
   pub tries : new.view.tries ≡ old.view.tries ++ earlier ++ record { zone = zone; found = found; glanced = option_map_or (λ t. t) old.view.actor.glance 0 } ∷ []
-  pub now : new ≡ record old { view = record old.view { tries = new.view.tries; actor = record old.view.actor { held = []; known = []; closing = false; glance = new.view.actor.glance } } }
+  pub now : new ≡ record old {
+    view = record old.view { tries = new.view.tries; actor = record old.view.actor { held = []; known = []; closing = false; glance = new.view.actor.glance } };
+  }
 
 -- Another table is in force. All zones are given back.
 pub record Moves (table : ℕ) (old new : Seat) : Type 0 where
@@ -30,7 +32,13 @@ pub record Moves (table : ℕ) (old new : Seat) : Type 0 where
   pub noted : old.view.noted ≤ new.view.noted
   pub listed : new.view.noted < length old.view.setup.tables
   pub another : new.view.noted ≢ table
-  pub now : new ≡ record old { view = record old.view { tries = new.view.tries; noted = new.view.noted; actor = record old.view.actor { held = []; known = []; closing = false; glance = new.view.actor.glance } } }
+  pub now : new ≡ record old {
+    view = record old.view {
+      tries = new.view.tries;
+      noted = new.view.noted;
+      actor = record old.view.actor { held = []; known = []; closing = false; glance = new.view.actor.glance };
+    };
+  }
 
 -- The pass is aboard and idle, this many places further, and has no slot.
 pub record IsBack (places : ℕ) (old new : Seat) : Type 0 where

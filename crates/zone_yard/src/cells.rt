@@ -2,7 +2,6 @@
 ghost use Rattle.std.specs.Prelude.{◌≡◌, ◌≢◌, ◌+◌, ◌<◌, ◌≤◌, [], length, slice_get, None, Some, true, false, ℕ};
 ghost use Rattle.move_claim.specs.declared.cells.Cell.{Cell as CellValue};
 ghost use Rattle.move_claim.specs.Cells.{number_of, first_unknown, AreDistinct};
-ghost use Rattle.zone_machine.specs.World.{is_cell, may_read};
 ghost use Rattle.zone_yard.specs.Setup.{core};
 ghost use Rattle.zone_yard.specs.Tells.{IsOurs};
 ghost use Rattle.zone_yard.specs.Holding.{AreAllSmall, Knows, AreReadable, AreCells, StillOwes as PaysAll};

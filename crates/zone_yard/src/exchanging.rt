@@ -4,7 +4,7 @@ ghost use Rattle.rail_model.specs.Checks.{below};
 ghost use Rattle.rail_model.specs.Yard.{control as control_number};
 ghost use Rattle.rail_model.specs.declared.types.Reply.TheVariants.{Control as ControlEntry};
 ghost use Rattle.move_claim.specs.declared.cells.Cell.TheVariants.{Position, Table as TableCell};
-ghost use Rattle.move_claim.specs.Cells.{number_of, first_unknown, AreDistinct};
+ghost use Rattle.move_claim.specs.Cells.{number_of, first_unknown};
 ghost use Rattle.zone_machine.specs.ControlAsked.{IsTold};
 ghost use Rattle.zone_machine.specs.Entries.{known_positions, tried as tried_by, control_after};
 ghost use Rattle.zone_machine.specs.World.{trains_of as trains_in, holds_all};

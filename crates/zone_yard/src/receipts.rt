@@ -1,5 +1,5 @@
 // The lines that a pass keeps, and the answers that give it lines.
-ghost use Rattle.std.specs.Prelude.{◌≡◌, ℕ, ◌+◌, ◌++◌, ◌<◌, ◌≤◌, ◌^◌, [], ◌∷◌, List, length, unwrap_or, true, Some, IfOk};
+ghost use Rattle.std.specs.Prelude.{◌≡◌, ℕ, ◌+◌, ◌++◌, ◌<◌, ◌≤◌, ◌^◌, [], ◌∷◌, length, unwrap_or, true, Some, IfOk};
 ghost use Rattle.rail_model.specs.declared.types.Line.TheVariants.{Move as MoveLine};
 ghost use Rattle.rail_model.specs.Blocks.{block_entries};
 ghost use Rattle.rail_model.specs.Table.{point, trains};

@@ -2,14 +2,13 @@
 ghost use Rattle.std.specs.Prelude.{◌≡◌, ◌≢◌, suc, ◌+◌, ◌<◌, ◌≤◌, ◌^◌, [], length, true, false, Some};
 ghost use Rattle.zone_locks.specs.Zones.{has};
 ghost use Rattle.move_claim.specs.declared.cells.Cell.TheVariants.{Table as TableCell};
-ghost use Rattle.zone_machine.specs.declared.steps.Stage.TheVariants.{Aboard};
 ghost use Rattle.zone_machine.specs.Steps.{is_above};
 ghost use Rattle.move_claim.specs.Cells.{number_of};
 ghost use Rattle.zone_machine.specs.World.{word_of as word_at, is_cell, may_read};
 ghost use Rattle.zone_machine.specs.Sound.{IsSetup};
 ghost use Rattle.zone_yard.specs.Core.{MayEnter};
 ghost use Rattle.zone_yard.specs.Setup.{core, most_passes};
-ghost use Rattle.zone_yard.specs.Views.{took, tried_at, gave, glanced, read, read_table, paid, boarding, pass_view, leaving, new_entries, actor_after};
+ghost use Rattle.zone_yard.specs.Views.{took, tried_at, gave, glanced, read, read_table, paid, boarding, pass_view, leaving, new_entries};
 ghost use Rattle.zone_yard.specs.Kept.{IsPassNumber};
 ghost use Rattle.zone_yard.specs.Tells.{Appends, Looks, IsOurs};
 
