@@ -1,5 +1,6 @@
 pub mod Accept
 pub mod Behind
+pub mod Common
 pub mod Exists
 pub mod FallbackRows
 pub mod First

@@ -40,7 +40,7 @@ impl Model for Trail {
 }
 
 impl Trail {
-    ghost use Rattle.std.specs.Prelude.{◌≡◌, ◌∷◌, [], ◌≤◌, ◌<◌, List, true, IfOk, OnOk, IfSome, IsTrue, ◌↔◌, length, drop, slice_index_or};
+    ghost use Rattle.std.specs.Prelude.{◌≡◌, ◌∷◌, [], List, true, IfOk, OnOk, IfSome, IsTrue, ◌↔◌, drop, slice_index_or};
     ghost use Rattle.rail_model.specs.Table.{Table as TableValue};
     ghost use Rattle.rail_model.specs.Certificate.{Range, left_half, right_half};
     ghost use Rattle.rail_model.specs.declared.types.Node.TheVariants.{Split as SplitNode};

@@ -1,12 +1,10 @@
 -- Worked rows: the rounds of a repair of two trains head-on, and of two that pass one another.
-use Rattle.std.proofs.Common.{◌≡◌, ◌≢◌, ℕ, zero, suc, ◌<◌, ◌≤◌, List, [], ◌∷◌, length, false, Some, refl, sym, subst, lit<, lit≤, arith}
+use Rattle.std.proofs.Common.{◌≡◌, ℕ, zero, suc, ◌<◌, List, [], ◌∷◌, false, refl, subst, lit<, lit≤, arith}
 use Rattle.rail_model.specs.declared.types.Node.TheVariants.{Clash, Overfull, Arrived as AtEnd}
 use Rattle.rail_model.specs.Certificate.{Tree, full_box, clash, overfull, arrived, split as halves}
-use Rattle.rail_model.specs.Checks.{same_point}
 use Rattle.rail_model.specs.Move.{Move, Run, advance}
 use Rattle.rail_model.specs.State.{Arrived}
-use Rattle.rail_model.specs.Table.{Table, Mission, last, place, point}
-use Rattle.rail_model.proofs.Agree.{Decides-same_point}
+use Rattle.rail_model.specs.Table.{Table, Mission, place}
 use Rattle.cert_maker.specs.Rule.{RuleTree, leaf, stuck, split, IsRuleTree}
 use Rattle.forbidden_states.specs.Forbid.{Stay, unmarked, marked}
 use Rattle.section_repair.specs.declared.repaired.Repair.TheVariants.{Done, Spent, Rounds}

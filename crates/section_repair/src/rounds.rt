@@ -1,5 +1,5 @@
 // The rounds of a repair.
-ghost use Rattle.std.specs.Prelude.{◌≡◌, ◌+◌, ◌≤◌, ℕ, IfOk, OnOk, length};
+ghost use Rattle.std.specs.Prelude.{◌≡◌, ◌+◌, ◌≤◌, IfOk, OnOk, length};
 ghost use Rattle.rail_model.specs.State.{Legal};
 ghost use Rattle.cert_maker.specs.Draft.{IsDraft};
 ghost use Rattle.cert_maker.specs.Rule.{Makes};

@@ -1,5 +1,4 @@
-use Rattle.std.proofs.Common.{◌≡◌, ◌+◌, List, ℕ, true, sym, subst}
-use Rattle.cert_maker.specs.Numbers.{HasAll, IsNew}
+use Rattle.cert_maker.proofs.Common.{◌≡◌, ◌+◌, List, ℕ, true, sym, subst, HasAll, IsNew}
 use Rattle.cert_maker.proofs.Numbered.{all_more, all_still}
 use Rattle.cert_maker.proofs.numbers.add_come.Goals as goal
 

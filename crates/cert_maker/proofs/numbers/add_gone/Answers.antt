@@ -1,7 +1,4 @@
-use Rattle.std.proofs.Common.{◌+◌, List, ℕ, sym, ◌∙◌, ap, subst, is_some}
-use Rattle.std.proofs.lemmas.Bool.{false≢true}
-use Rattle.cert_maker.specs.Renumber.{number_in}
-use Rattle.cert_maker.specs.Numbers.{HasAll, IsGone}
+use Rattle.cert_maker.proofs.Common.{◌+◌, List, ℕ, sym, ◌∙◌, ap, subst, is_some, false≢true, number_in, HasAll, IsGone}
 use Rattle.cert_maker.proofs.Numbered.{all_more, all_still, no_number}
 use Rattle.cert_maker.proofs.numbers.add_gone.Goals as goal
 

@@ -1,5 +1,4 @@
-use Rattle.std.proofs.Common.{◌≡◌, true, refl, subst, arith, below_more}
-use Rattle.std.proofs.lemmas.List.{get_or_default}
+use Rattle.cert_maker.proofs.Common.{◌≡◌, true, refl, subst, arith, below_more, get_or_default}
 use Rattle.cert_maker.specs.Slack.{IsSlack}
 use Rattle.cert_maker.proofs.numbers.are_slack.Goals as goal
 

@@ -1,5 +1,4 @@
-use Rattle.std.proofs.Common.{◌≡◌, ℕ, ◌<◌, Some}
-use Rattle.cert_maker.specs.Renumber.{number_in}
+use Rattle.cert_maker.proofs.Common.{◌≡◌, ℕ, ◌<◌, Some, number_in}
 use Rattle.cert_maker.proofs.numbers.is_nobodys.Given as goal
 
 abbrev pub invariant-loop-section : goal.invariant-loop-section

@@ -1,5 +1,4 @@
-use Rattle.std.proofs.Common.{◌≡◌, ℕ, subst, arith}
-use Rattle.cert_maker.specs.Numbers.{HasAll, IsNew}
+use Rattle.cert_maker.proofs.Common.{◌≡◌, ℕ, subst, arith, HasAll, IsNew}
 use Rattle.cert_maker.proofs.numbers.nobodys_numbers.Goals as goal
 
 pub returns : goal.returns

@@ -1,6 +1,5 @@
-use Rattle.std.proofs.Common.{◌≡◌, ◌+◌, ◌<◌, ◌≤◌, List, ℕ, Option, Some, length, refl, sym, ◌∙◌, ap, subst, IfSome, slice_get}
+use Rattle.cert_maker.proofs.Common.{◌≡◌, ◌+◌, ◌<◌, ◌≤◌, List, ℕ, Option, Some, length, refl, sym, ◌∙◌, ap, subst, IfSome, slice_get, Section}
 use Rattle.std.proofs.lemmas.Option.{slice_get_read}
-use Rattle.rail_model.specs.Table.{Section}
 use Rattle.cert_maker.proofs.Numbered.{AreFound, found_step}
 use Rattle.cert_maker.proofs.numbers.numbers_of.Goals as goal
 

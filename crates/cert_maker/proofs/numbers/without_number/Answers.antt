@@ -1,5 +1,4 @@
-use Rattle.std.proofs.Common.{◌≡◌, ℕ, length, subst, arith}
-use Rattle.cert_maker.specs.Numbers.{HasAll, IsGone}
+use Rattle.cert_maker.proofs.Common.{◌≡◌, ℕ, length, subst, arith, HasAll, IsGone}
 use Rattle.cert_maker.proofs.numbers.without_number.Goals as goal
 
 pub returns : goal.returns

@@ -1,5 +1,4 @@
-use Rattle.std.proofs.Common.{arith}
-use Rattle.std.proofs.lemmas.Int.{ints}
+use Rattle.cert_maker.proofs.Common.{arith, ints}
 use Rattle.state_boxes.proofs.Summed.{extremes_few}
 use Rattle.cert_maker.proofs.slack.greatest_in.Goals as goal
 

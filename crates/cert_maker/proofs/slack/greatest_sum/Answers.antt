@@ -1,8 +1,5 @@
-use Rattle.std.proofs.Common.{◌-◌, ◌≤◌, length, get_or, ◌∙◌, ap, arith}
-use Rattle.std.proofs.lemmas.Int.{ints}
+use Rattle.cert_maker.proofs.Common.{◌-◌, ◌≤◌, length, get_or, ◌∙◌, ap, arith, ints, share, Range}
 use Rattle.rail_model.specs.Sums.{greatest}
-use Rattle.rail_model.specs.Table.{share}
-use Rattle.rail_model.specs.Certificate.{Range}
 use Rattle.cert_maker.proofs.Listed.{summed_from, summed_next, summed_all, summed_high, members_listed, none_shared}
 use Rattle.cert_maker.proofs.slack.greatest_sum.Goals as goal
 

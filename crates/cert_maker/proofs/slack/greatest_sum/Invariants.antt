@@ -1,6 +1,4 @@
-use Rattle.std.proofs.Common.{drop}
-use Rattle.rail_model.specs.Table.{trains}
-use Rattle.rail_model.specs.Certificate.{greatest_share}
+use Rattle.cert_maker.proofs.Common.{drop, trains, greatest_share}
 use Rattle.state_boxes.specs.Extremes.{IsQuiet}
 use Rattle.cert_maker.proofs.Listed.{IsSummed}
 use Rattle.cert_maker.proofs.slack.greatest_sum.Given as goal

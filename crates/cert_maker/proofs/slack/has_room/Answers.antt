@@ -1,8 +1,4 @@
-use Rattle.std.proofs.Common.{pos, ◌≤ℤ◌, refl, ap, arith}
-use Rattle.std.proofs.lemmas.Int.{ints}
-use Rattle.rail_model.specs.Table.{limit}
-use Rattle.rail_model.specs.Certificate.{Range}
-use Rattle.state_boxes.specs.Sums.{greatest_count}
+use Rattle.cert_maker.proofs.Common.{pos, ◌≤ℤ◌, refl, ap, arith, ints, limit, Range, greatest_count}
 use Rattle.cert_maker.proofs.Behind.{room_at_end, room_behind, fits_behind}
 use Rattle.cert_maker.proofs.slack.has_room.Goals as goal
 

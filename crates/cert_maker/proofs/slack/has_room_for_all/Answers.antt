@@ -1,5 +1,4 @@
-use Rattle.std.proofs.Common.{◌≡◌, true, refl, arith}
-use Rattle.std.proofs.lemmas.Bool.{false≢true}
+use Rattle.cert_maker.proofs.Common.{◌≡◌, true, refl, arith, false≢true}
 use Rattle.cert_maker.proofs.Behind.{all_quiet}
 use Rattle.cert_maker.proofs.Listed.{members_listed, sought_from, sought_within, sought_next, none_left}
 use Rattle.cert_maker.proofs.slack.has_room_for_all.Goals as goal

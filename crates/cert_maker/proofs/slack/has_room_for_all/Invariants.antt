@@ -1,6 +1,4 @@
-use Rattle.std.proofs.Common.{◌<◌, drop}
-use Rattle.rail_model.specs.Table.{trains}
-use Rattle.rail_model.specs.Certificate.{MayBeFull}
+use Rattle.cert_maker.proofs.Common.{◌<◌, drop, trains, MayBeFull}
 use Rattle.state_boxes.specs.Extremes.{IsQuiet}
 use Rattle.cert_maker.proofs.Listed.{IsSought}
 use Rattle.cert_maker.proofs.slack.has_room_for_all.Given as goal

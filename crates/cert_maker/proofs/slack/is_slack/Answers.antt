@@ -1,7 +1,4 @@
-use Rattle.std.proofs.Common.{pos, ◌≤ℤ◌, arith}
-use Rattle.std.proofs.lemmas.Int.{ints}
-use Rattle.rail_model.specs.Table.{limit}
-use Rattle.state_boxes.specs.Sums.{greatest_count}
+use Rattle.cert_maker.proofs.Common.{pos, ◌≤ℤ◌, arith, ints, limit, greatest_count}
 use Rattle.cert_maker.proofs.slack.is_slack.Goals as goal
 
 pub returns-then-sum-limit : goal.returns-then-sum-limit

@@ -1,8 +1,5 @@
-use Rattle.std.proofs.Common.{◌≡◌, ◌+◌, ◌-◌, ◌∙◌, ap, arith}
-use Rattle.std.proofs.lemmas.Int.{ints}
+use Rattle.cert_maker.proofs.Common.{◌≡◌, ◌+◌, ◌-◌, ◌∙◌, ap, arith, ints, share, Range, range, greatest_share}
 use Rattle.rail_model.specs.Sums.{greatest}
-use Rattle.rail_model.specs.Table.{share}
-use Rattle.rail_model.specs.Certificate.{Range, range, greatest_share}
 use Rattle.cert_maker.proofs.Behind.{most_sum}
 use Rattle.cert_maker.proofs.slack.most_behind.Goals as goal
 

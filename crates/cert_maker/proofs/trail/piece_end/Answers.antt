@@ -1,7 +1,4 @@
-use Rattle.std.proofs.Common.{◌≡◌, ℕ, refl, ◌+◌, ◌-◌, ◌<◌, List, length, take, drop, get_or, sym, subst, arith, length-take, length-drop}
-use Rattle.std.proofs.lemmas.List.{take_more}
-use Rattle.rail_model.specs.declared.types.Node.{Node}
-use Rattle.rail_model.specs.declared.types.Node.TheVariants.{Split}
+use Rattle.cert_maker.proofs.Common.{◌≡◌, ℕ, ◌+◌, ◌-◌, ◌<◌, List, length, take, drop, get_or, sym, subst, arith, length-take, take_more, Node, Split}
 use Rattle.cert_tree.specs.Spelling.{wanted_behind}
 use Rattle.cert_tree.specs.Refused.{IsMissing}
 use Rattle.cert_tree.proofs.Spell.{start, next, spelled, small_behind}

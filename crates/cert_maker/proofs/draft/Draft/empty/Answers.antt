@@ -1,5 +1,4 @@
-use Rattle.std.proofs.Common.{List, length, ap, arith}
-use Rattle.rail_model.specs.declared.types.Node.{Node}
+use Rattle.cert_maker.proofs.Common.{List, length, ap, arith, Node}
 use Rattle.cert_maker.proofs.Copied.{nothing_begins}
 use Rattle.cert_maker.proofs.draft.Draft.empty.Goals as goal
 

@@ -1,5 +1,4 @@
-use Rattle.std.proofs.Common.{ℕ, List, Option, length, subst}
-use Rattle.cert_maker.specs.Numbers.{HasAll, IsGone, IsNew}
+use Rattle.cert_maker.proofs.Common.{ℕ, List, Option, length, subst, HasAll, IsGone, IsNew}
 use Rattle.cert_maker.proofs.numbers.Numbers.between.Goals as goal
 
 pub returns : goal.returns

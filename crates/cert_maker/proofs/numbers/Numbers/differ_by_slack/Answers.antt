@@ -1,7 +1,5 @@
-use Rattle.std.proofs.Common.{◌<◌, ℕ, List, length, sym, ◌∙◌, subst, All}
-use Rattle.std.proofs.lemmas.Bool.{false≢true}
+use Rattle.cert_maker.proofs.Common.{◌<◌, ℕ, List, length, sym, ◌∙◌, subst, All, false≢true, IsGone, IsNew}
 use Rattle.cert_maker.specs.Slack.{IsSlack}
-use Rattle.cert_maker.specs.Numbers.{IsGone, IsNew}
 use Rattle.cert_maker.proofs.Numbered.{all_below, all_listed, each_listed}
 use Rattle.cert_maker.proofs.SlackBoxes.{box_same}
 use Rattle.cert_maker.proofs.numbers.Numbers.differ_by_slack.Goals as goal

@@ -1,6 +1,4 @@
-use Rattle.std.proofs.Common.{◌≡◌, ◌+◌, ◌∷◌, Bool, true, false, List, get_or, reverse, rules, sym, ◌∙◌, ap, subst}
-use Rattle.rail_model.specs.declared.types.Node.TheVariants.{Split}
-use Rattle.rail_model.specs.Certificate.{left_half, right_half}
+use Rattle.cert_maker.proofs.Common.{◌≡◌, ◌+◌, ◌∷◌, Bool, true, false, List, get_or, reverse, rules, sym, ◌∙◌, ap, subst, Split, left_half, right_half}
 use Rattle.cert_maker.specs.Draft.{IsHere, IsOnTrail, Trail}
 use Rattle.cert_maker.proofs.Forks.{pushed}
 use Rattle.cert_maker.proofs.Pieces.{halves_here, trail_at}
