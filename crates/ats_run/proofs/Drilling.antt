@@ -21,7 +21,8 @@ use Rattle.ats_run.specs.Command.{IsDrilledInput}
 use Rattle.ats_run.specs.Generating.{full_budget}
 use Rattle.ats_run.specs.Headline.{Ends, plain_after}
 use Rattle.ats_run.specs.Making.{tables_in, AreMade}
-use Rattle.ats_run.specs.Tasks.{PrintsCounts, LeadsTo}
+use Rattle.ats_run.specs.Tasks.{LeadsTo}
+use Rattle.ats_run.specs.declared.tasks.Printout.TheVariants.{Counts}
 use Rattle.ats_run.proofs.Begun.{begun_keeps, drill_leads}
 use Rattle.ats_run.proofs.Generated.{has_one_table, accepts_made, reads_back, drilled_input}
 use Rattle.ats_run.proofs.Made.{table_count, table_of_doc}
@@ -49,28 +50,28 @@ pub made_live : (D : Doc) (budget : ℕ) (trees : List Tree) → AreMade (tables
 made_live D budget trees made t lt =
     subst Live (table_of_doc D t lt) (live _ (tree_at trees t) (made.accepted t (omega (arith, lt, table_count D))))
 
-module _ (seed trains : ℕ) (few : trains ≤ 32) (D : Doc) (is : doc_of (generated seed trains) ≡ Ok D) (trees : List Tree) (made : AreMade (tables_in D) full_budget trees) where
+module _ (crew : Crew) (seed trains : ℕ) (few : trains ≤ 32) (D : Doc) (is : doc_of (generated seed trains) ≡ Ok D) (trees : List Tree) (made : AreMade (tables_in D) full_budget trees) where
   -- from the start, what is counted of the end is what the drill comes to
-  drill_from : (from : Plain) → from ≡ plain_after D [] → LeadsTo PrintsCounts (λ crew line. IsDrilledInput crew (generated seed trains) line) D trees from
+  drill_from : (from : Plain) → from ≡ plain_after D [] → LeadsTo crew Counts (λ line. IsDrilledInput crew (generated seed trains) line) D trees from
   drill_from from begun =
       let E = certified D trees in
       let same : offers_of E ≡ offers_of D = offers_stay D.tables trees (made.one_each ∙ table_count D) in
       let doc = (read-is-formed (generated seed trains) D is).is in
       let formed = (read-is-formed (written E) E (reads_back seed trains few D is trees made)).is in
-      let drill = drill_leads E trees from formed (accepts_made seed trains few D is trees made) begun (has_one_table seed trains few D is trees made) in
+      let drill = drill_leads E trees crew from formed (accepts_made seed trains few D is trees made) begun (has_one_table seed trains few D is trees made) in
       record {
         formed = doc;
         keeps = begun_keeps D from doc begun;
         few = made.one_each ∙ table_count D;
-        leads = λ crew end line ends keeps printed.
+        leads = λ end line ends keeps printed.
             drilled_input seed trains few D is trees made E refl crew line
-            (drill.leads crew end line (ends_so D trees crew from end same ends) (subst (λ (os : List Offer). Keeps os end.yard end.lines) (sym same) keeps) printed);
+            (drill.leads end line (ends_so D trees crew from end same ends) (subst (λ (os : List Offer). Keeps os end.yard end.lines) (sym same) keeps) printed);
       }
 
   -- of the same document and certificates
   pub drill_begins : (F : Doc) (certs : List Tree) (from : Plain) → F ≡ D → certs ≡ trees → from ≡ plain_after F []
-      → LeadsTo PrintsCounts (λ crew line. IsDrilledInput crew (generated seed trains) line) F certs from
+      → LeadsTo crew Counts (λ line. IsDrilledInput crew (generated seed trains) line) F certs from
   drill_begins F certs from document are begun =
-      subst (λ (E : Doc). LeadsTo PrintsCounts (λ crew line. IsDrilledInput crew (generated seed trains) line) E certs from) (sym document)
-      (subst (λ (cs : List Tree). LeadsTo PrintsCounts (λ crew line. IsDrilledInput crew (generated seed trains) line) D cs from) (sym are)
+      subst (λ (E : Doc). LeadsTo crew Counts (λ line. IsDrilledInput crew (generated seed trains) line) E certs from) (sym document)
+      (subst (λ (cs : List Tree). LeadsTo crew Counts (λ line. IsDrilledInput crew (generated seed trains) line) D cs from) (sym are)
       (drill_from from (begun ∙ ap (λ (E : Doc). plain_after E []) document)))

@@ -1,6 +1,5 @@
 -- How a run ends: by the round robin alone, or after workers.
 use Rattle.std.proofs.Common.{◌≡◌, ◌≤◌, ◌-◌, List, sym, subst, lit<, lit≤}
-use Rattle.std.specs.Prelude.{Result, Ok, Err, IfOk}
 use Rattle.rail_model.specs.Layout.{Layout}
 use Rattle.rail_model.specs.Table.{trains}
 use Rattle.rail_model.specs.Plain.{Plain}
@@ -30,10 +29,10 @@ pub worked_keeps : (D : Doc) (crew : Crew) (layout : Layout) (tables : List Offe
     → IsWorkedTo (setup layout tables from) crew worked → Keeps (offers_of D) worked.yard worked.lines
 worked_keeps D crew layout tables from worked same to = subst (λ (ts : List Offer). Keeps ts worked.yard worked.lines) same to.keeps
 
-module _ {E : Type 0} (D : Doc) (crew : Crew) where
-  pub alone_ends : (from : Plain) (result : Result Plain E) → crew.workers ≡ 0 → IfOk result (λ end. IsDone (offers_of D) end.yard)
-      → IfOk result (λ end. Finishes (offers_of D) from.yard (trains (offer (offers_of D) 0).table - 1) from.lines end.yard end.lines) → IfOk result (Ends D crew from)
-  alone_ends from (Ok end) nobody done finishes = record {
+module _ (D : Doc) (crew : Crew) (from end : Plain) (done : IsDone (offers_of D) end.yard) where
+  -- the round robin alone ends a run without workers
+  pub alone_ends : crew.workers ≡ 0 → Finishes (offers_of D) from.yard (trains (offer (offers_of D) 0).table - 1) from.lines end.yard end.lines → Ends D crew from end
+  alone_ends nobody finishes = record {
     added = finishes.added;
     adds = finishes.adds;
     right = round_right (offers_of D) from.yard _ finishes.added finishes.round;
@@ -41,13 +40,11 @@ module _ {E : Type 0} (D : Doc) (crew : Crew) where
     by = added_alone (setup D.layout (offers_of D) from) crew finishes.added nobody finishes.round;
     done = done;
   }
-  alone_ends from (Err e) nobody done finishes = tt
 
   -- from the state to which the crew worked
-  worked_ends : (from worked : Plain) (result : Result Plain E) → 1 ≤ crew.workers → IsWorkedTo (setup D.layout (offers_of D) from) crew worked
-      → IfOk result (λ end. IsDone (offers_of D) end.yard)
-      → IfOk result (λ end. Finishes (offers_of D) worked.yard (trains (offer (offers_of D) 0).table - 1) worked.lines end.yard end.lines) → IfOk result (Ends D crew from)
-  worked_ends from worked (Ok end) some to done finishes =
+  worked_ends : (worked : Plain) → 1 ≤ crew.workers → IsWorkedTo (setup D.layout (offers_of D) from) crew worked
+      → Finishes (offers_of D) worked.yard (trains (offer (offers_of D) 0).table - 1) worked.lines end.yard end.lines → Ends D crew from end
+  worked_ends worked some to finishes =
       let S = setup D.layout (offers_of D) from in
       record {
         added = all_added S crew worked to end finishes;
@@ -57,13 +54,12 @@ module _ {E : Type 0} (D : Doc) (crew : Crew) where
         by = added_shared S crew (all_added S crew worked to end finishes) some (all_shared S crew worked to end finishes);
         done = done;
       }
-  worked_ends from worked (Err e) some to done finishes = tt
 
   -- the same, where layout and tables are known as the document's
-  pub shared_ends : (layout : Layout) (tables : List Offer) (from worked : Plain) (result : Result Plain E) → layout ≡ D.layout → tables ≡ offers_of D → 1 ≤ crew.workers
-      → IsWorkedTo (setup layout tables from) crew worked → IfOk result (λ end. IsDone (offers_of D) end.yard)
-      → IfOk result (λ end. Finishes (offers_of D) worked.yard (trains (offer (offers_of D) 0).table - 1) worked.lines end.yard end.lines) → IfOk result (Ends D crew from)
-  shared_ends layout tables from worked result same_layout same_tables some to done finishes =
-      worked_ends from worked result some
+  pub shared_ends : (layout : Layout) (tables : List Offer) (worked : Plain) → layout ≡ D.layout → tables ≡ offers_of D → 1 ≤ crew.workers
+      → IsWorkedTo (setup layout tables from) crew worked
+      → Finishes (offers_of D) worked.yard (trains (offer (offers_of D) 0).table - 1) worked.lines end.yard end.lines → Ends D crew from end
+  shared_ends layout tables worked same_layout same_tables some to finishes =
+      worked_ends worked some
       (subst (λ (ts : List Offer). IsWorkedTo (setup D.layout ts from) crew worked) same_tables
-      (subst (λ (L : Layout). IsWorkedTo (setup L tables from) crew worked) same_layout to)) done finishes
+      (subst (λ (L : Layout). IsWorkedTo (setup L tables from) crew worked) same_layout to)) finishes

@@ -17,7 +17,6 @@ mod Inputs
 mod LightMarked
 pub mod Made
 mod MakeRows
-mod OfChecked
 mod OneTable
 mod PairFaults
 pub mod Reading

@@ -1,19 +1,31 @@
 // The check of a document's certificates.
-ghost use Rattle.std.specs.Prelude.{◌≡◌, ◌<◌, ◌≤◌, length, IfOk, IfErr, string_bytes};
+ghost use Rattle.std.specs.Prelude.{◌≡◌, ◌⊎◌, ◌<◌, ◌≤◌, length, IfOk, IfErr, string_bytes};
 ghost use Rattle.rail_model.specs.Certificate.{preorder};
 ghost use Rattle.document_json.specs.Trees.{tree_at};
-ghost use Rattle.accepted_documents.specs.Accepting.{AreAccepted};
+ghost use Rattle.accepted_documents.specs.Accepting.{AreAccepted, IsDocWith};
 ghost use Rattle.ats_run.specs.Checking.{WritesChecked, nodes_below, checked_text};
+ghost use Rattle.ats_run.specs.Command.{RefusesCheck};
 ghost use Rattle.ats_run.specs.declared.failure.Failure.TheVariants.{Memory as NoMemory};
 
 use crate::Failure;
+use crate::checked::check_document;
 use accepted_documents::Checked;
 use cert_tree::Cert;
 use std::alloc::{AllocError, Global};
+use std::thread::Threads;
 
-/// The line that says how many tables accept their certificates, and of how many nodes. The only error is that there is
-/// no memory.
-pub fn check(alloc: Global, checked: &Checked) -> Result<Vec<u8>, Failure>
+/// The line that says how many tables of a document accept their certificates, and of how many nodes.
+pub fn check(rt: &(impl Threads + Sync), alloc: Global, input: &[u8]) -> Result<Vec<u8>, Failure>
+    ensures checked { IfOk result (λ text. IsDocWith input.now (λ D. WritesChecked D text.items)) }
+
+    ensures unchecked { IfErr result (λ e. (e ≡ NoMemory) ⊎ RefusesCheck input.now e) }
+{
+    let checked = check_document(rt, alloc, input)?;
+    line_of(alloc, &checked)
+}
+
+// The line of a document whose tables accept their certificates. The only error is that there is no memory.
+fn line_of(alloc: Global, checked: &Checked) -> Result<Vec<u8>, Failure>
     requires { AreAccepted checked.now.doc checked.now.certs.items }
     ensures checked { IfOk result (λ text. WritesChecked checked.now.doc text.items) }
 

@@ -6,7 +6,9 @@ ghost use Rattle.document_json.specs.Doc.{IsDoc, offers_of, table_at};
 ghost use Rattle.ats_run.specs.Command.{RefusesMake, IsDrilledInput};
 ghost use Rattle.ats_run.specs.Generating.{drill_text, full_budget};
 ghost use Rattle.ats_run.specs.Making.{tables_in};
-ghost use Rattle.ats_run.specs.Tasks.{TaskLeads, PrintsCounts};
+ghost use Rattle.ats_run.specs.Orders.{drill_crew};
+ghost use Rattle.ats_run.specs.Tasks.{TaskLeads, Prints};
+ghost use Rattle.ats_run.specs.declared.tasks.Printout.TheVariants.{Counts};
 ghost use Rattle.plain_yard.specs.Keeps.{Keeps};
 ghost use Rattle.ats_run.specs.declared.failure.Failure.TheVariants.{Memory as NoMemory};
 
@@ -14,26 +16,40 @@ use crate::Failure;
 use crate::check::nodes;
 use crate::generate::{FULL_BUDGET, generated_document};
 use crate::make::make_all;
-use crate::tasks::{Task, task_at_start};
+use crate::tasks::{Printout, Task, task_at_start};
 use accepted_documents::Checked;
 use cert_checker::Accepted;
 use cert_tree::Cert;
 use document_json::{Doc, Frame, tables_apart};
 use move_journal::Journal;
 use rail_model::{PlainState, Table};
+use shared_run::Crew;
 use std::alloc::{AllocError, Global};
 
-/// The run of a generated document, at its start.
-pub(crate) fn begin_drill(alloc: Global, seed: u32, trains: u32) -> Result<Task, Failure>
+const ROUNDS: u32 = 1000;
+
+/// The run of a generated document, at its start, by this many workers.
+pub(crate) fn begin_drill(
+    alloc: Global,
+    seed: u32,
+    trains: u32,
+    workers: u32,
+) -> Result<Task, Failure>
     requires { trains ≤ 32 }
-    ensures leads { IfOk result (TaskLeads PrintsCounts (λ crew written. IsDrilledInput crew (generated seed trains) written)) }
+    ensures leads { IfOk result (TaskLeads (drill_crew workers)
+        (λ written. IsDrilledInput (drill_crew workers) (generated seed trains) written)) }
 
     ensures unmade { IfErr result (λ e. (e ≡ NoMemory) ⊎ RefusesMake (generated seed trains) full_budget e) }
 {
     let doc = generated_document(alloc, seed, trains)?;
     let certs = make_all(alloc, &doc, FULL_BUDGET)?;
     let checked = with_live_tables(alloc, doc, certs)?;
-    Ok(task_at_start(alloc, checked)?)
+    let crew = Crew {
+        workers,
+        rounds: ROUNDS,
+        block: 1,
+    };
+    Ok(task_at_start(alloc, checked, crew, Printout::Counts)?)
 }
 
 // A document, each of whose tables is live, with these certificates. The only error is that there is no memory.
@@ -76,7 +92,7 @@ pub(crate) fn counts_of_run(
 ) -> Result<Vec<u8>, AllocError>
     requires keeps { Keeps (offers_of checked.now.doc) end.yard end.lines }
     requires few { length checked.now.certs.items ≤ 16 }
-    ensures { IfOk result (λ text. PrintsCounts checked.now.doc checked.now.certs.items end text.items) }
+    ensures { IfOk result (λ text. Prints Counts checked.now.doc checked.now.certs.items end text.items) }
 {
     let trains = checked.doc.names().trains();
     let (_, lines) = end.into_parts();

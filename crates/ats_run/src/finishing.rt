@@ -1,51 +1,76 @@
-// How a run goes on from a state to its end: on one thread, or first by workers.
-ghost use Rattle.std.specs.Prelude.{◌≡◌, IfOk};
+// How a run is ended, by one thread or first by workers, and what is printed of its end.
+ghost use Rattle.std.specs.Prelude.{◌≡◌, ◌≤◌, IfOk, IfErr, length};
 ghost use Rattle.document_json.specs.Doc.{offers_of};
 ghost use Rattle.plain_yard.specs.Keeps.{Keeps};
-ghost use Rattle.shared_run.specs.declared.crews.Crew.{Crew as CrewValue};
 ghost use Rattle.shared_run.specs.Crews.{IsCrew};
-ghost use Rattle.ats_run.specs.Headline.{Ends};
+ghost use Rattle.ats_run.specs.Tasks.{EndsWith, Prints};
+ghost use Rattle.ats_run.specs.declared.failure.Failure.TheVariants.{Memory as NoMemory};
 
-use crate::run::finish_from;
+use crate::Failure;
+use crate::drill::counts_of_run;
+use crate::run::{finish_from, text_of_run};
+use crate::tasks::{Begun, Printout};
+use accepted_documents::Checked;
 use ats_io::Gate;
-use cert_checker::Accepted;
-use document_json::Frame;
 use rail_model::PlainState;
-use shared_run::{Crew, work};
+use shared_run::work;
 use std::alloc::{AllocError, Global};
 use std::sync::Wait;
 use std::thread::Threads;
 
-/// The state and the lines in which a run ends that one thread goes on with. It waits for nobody.
-pub(crate) fn finish_alone(
-    doc: &Frame,
-    tables: &[Accepted],
-    from: PlainState,
-) -> Result<PlainState, AllocError>
-    requires tables { tables.now ≡ offers_of doc.now }
-    requires keeps { Keeps (offers_of doc.now) from.yard from.lines }
-    ensures ends { (crew : CrewValue) → crew.workers ≡ 0 → IfOk result (Ends doc.now crew from) }
-    ensures keeps { IfOk result (λ end. Keeps (offers_of doc.now) end.yard end.lines) }
+/// The bytes that are printed of a run that one thread ends. The only error is that there is no memory.
+pub(crate) fn end_alone(alloc: Global, checked: &Checked, run: Begun) -> Result<Vec<u8>, Failure>
+    requires tables { checked.now.tables.items ≡ offers_of checked.now.doc }
+    requires keeps { Keeps (offers_of checked.now.doc) run.from.yard run.from.lines }
+    requires few { length checked.now.certs.items ≤ 16 }
+    requires alone { run.crew.workers ≡ 0 }
+    ensures ends { IfOk result (λ text. EndsWith checked.now.doc checked.now.certs.items run text.items) }
+
+    ensures memory { IfErr result (λ e. e ≡ NoMemory) }
 {
-    finish_from(doc, tables, from)
+    let end = finish_from(&checked.doc, &checked.tables, run.from)?;
+    Ok(print(alloc, run.printout, checked, end)?)
 }
 
-/// The state and the lines in which a run ends that a crew goes on with, and then one thread.
-pub(crate) fn finish_by<R: Threads + Wait + Sync, G: Gate>(
+/// The bytes that are printed of a run that its crew goes on with, and that one thread ends. The only error is that there is no memory.
+/// It may wait where the crew has workers.
+pub(crate) fn end_by<R: Threads + Wait + Sync, G: Gate>(
     rt: &R,
     alloc: Global,
-    doc: &Frame,
-    tables: &[Accepted],
-    from: PlainState,
-    crew: Crew,
+    checked: &Checked,
+    run: Begun,
     gate: &G,
-) -> Result<PlainState, AllocError>
-    requires tables { tables.now ≡ offers_of doc.now }
-    requires keeps { Keeps (offers_of doc.now) from.yard from.lines }
-    requires crew { IsCrew crew }
-    ensures ends { IfOk result (Ends doc.now crew from) }
-    ensures keeps { IfOk result (λ end. Keeps (offers_of doc.now) end.yard end.lines) }
+) -> Result<Vec<u8>, Failure>
+    requires tables { checked.now.tables.items ≡ offers_of checked.now.doc }
+    requires keeps { Keeps (offers_of checked.now.doc) run.from.yard run.from.lines }
+    requires few { length checked.now.certs.items ≤ 16 }
+    requires crew { 1 ≤ run.crew.workers → IsCrew run.crew }
+    ensures ends { IfOk result (λ text. EndsWith checked.now.doc checked.now.certs.items run text.items) }
+
+    ensures memory { IfErr result (λ e. e ≡ NoMemory) }
 {
-    let worked = work(rt, alloc, doc.layout(), tables, from, crew, gate)?;
-    finish_from(doc, tables, worked)
+    if run.crew.workers == 0 {
+        return end_alone(alloc, checked, run);
+    }
+    let layout = checked.doc.layout();
+    let worked = work(rt, alloc, layout, &checked.tables, run.from, run.crew, gate)?;
+    let end = finish_from(&checked.doc, &checked.tables, worked)?;
+    Ok(print(alloc, run.printout, checked, end)?)
+}
+
+// What is printed of the end of a run.
+fn print(
+    alloc: Global,
+    printout: Printout,
+    checked: &Checked,
+    end: PlainState,
+) -> Result<Vec<u8>, AllocError>
+    requires keeps { Keeps (offers_of checked.now.doc) end.yard end.lines }
+    requires few { length checked.now.certs.items ≤ 16 }
+    ensures { IfOk result (λ text. Prints printout checked.now.doc checked.now.certs.items end text.items) }
+{
+    match printout {
+        Printout::Journal => text_of_run(alloc, &checked.doc, end),
+        Printout::Counts => counts_of_run(alloc, checked, end),
+    }
 }

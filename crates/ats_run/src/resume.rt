@@ -1,24 +1,30 @@
 // Runs that go on from a journal.
 ghost use Rattle.std.specs.Prelude.{◌≡◌, ◌⊎◌, IfOk, IfErr};
-ghost use Rattle.ats_run.specs.Tasks.{IsPrinted, TaskLeads, PrintsText};
+ghost use Rattle.ats_run.specs.Tasks.{IsPrinted, TaskLeads};
+ghost use Rattle.shared_run.specs.Crews.{crew_of};
 ghost use Rattle.ats_run.specs.Command.{IsResumedInput, RefusesResume};
 ghost use Rattle.ats_run.specs.declared.failure.Failure.TheVariants.{Memory as NoMemory};
 
 use crate::Failure;
 use crate::checked::check_document;
 use crate::journals::cut;
-use crate::tasks::Task;
+use crate::tasks::{Begun, Printout, Task};
 use accepted_documents::{Replayed, replay_text};
+use shared_run::Crew;
 use std::alloc::Global;
 use std::thread::Threads;
 
-/// The run that goes on from a journal, at the state that its front leads to, or the journal as it is where it is whole.
+/// The run that goes on from a journal by this many workers, at the state that its front leads to, or the journal as it is where it is whole.
 pub(crate) fn resume(
     rt: &(impl Threads + Sync),
     alloc: Global,
     input: &[u8],
+    workers: u32,
+    rounds: u32,
+    block: u32,
 ) -> Result<Task, Failure>
-    ensures leads { IfOk result (TaskLeads PrintsText (λ crew written. IsResumedInput crew input.now written)) }
+    ensures leads { IfOk result (TaskLeads (crew_of workers rounds block)
+        (λ written. IsResumedInput (crew_of workers rounds block) input.now written)) }
 
     ensures refused { IfErr result (λ e. (e ≡ NoMemory) ⊎ RefusesResume input.now e) }
 {
@@ -27,7 +33,18 @@ pub(crate) fn resume(
     };
     let checked = check_document(rt, alloc, document)?;
     match replay_text(alloc, &checked.doc, &checked.tables, given)? {
-        Replayed::Open(from) => Ok(Task::Goes { checked, from }),
+        Replayed::Open(from) => {
+            let run = Begun {
+                from,
+                crew: Crew {
+                    workers,
+                    rounds,
+                    block,
+                },
+                printout: Printout::Journal,
+            };
+            Ok(Task::Goes { checked, run })
+        }
         Replayed::Whole(_) => keep(alloc, given),
     }
 }

@@ -7,32 +7,43 @@ ghost use Rattle.rail_model.specs.Journal.{IsDone, text as text_of, with_counts}
 ghost use Rattle.plain_yard.specs.Keeps.{Keeps};
 ghost use Rattle.plain_yard.specs.Rounds.{Finishes};
 ghost use Rattle.ats_run.specs.Command.{IsRunInput, RefusesCheck};
-ghost use Rattle.ats_run.specs.Tasks.{TaskLeads, PrintsText};
+ghost use Rattle.ats_run.specs.Tasks.{TaskLeads};
+ghost use Rattle.shared_run.specs.Crews.{crew_of};
 ghost use Rattle.ats_run.specs.declared.failure.Failure.TheVariants.{Memory as NoMemory};
 
 use crate::Failure;
 use crate::checked::check_document;
-use crate::tasks::{Task, task_at_start};
+use crate::tasks::{Printout, Task, task_at_start};
 use cert_checker::Accepted;
 use document_json::Frame;
 use move_journal::{Journal, text};
 use plain_yard::PlainYard;
 use rail_model::PlainState;
+use shared_run::Crew;
 use std::alloc::{AllocError, Global};
 use std::thread::Threads;
 
-/// The run of a document, at its start.
+/// The run of a document, at its start, by this many workers.
 pub(crate) fn begin_run(
     rt: &(impl Threads + Sync),
     alloc: Global,
     input: &[u8],
+    workers: u32,
+    rounds: u32,
+    block: u32,
 ) -> Result<Task, Failure>
-    ensures leads { IfOk result (TaskLeads PrintsText (λ crew written. IsRunInput crew input.now written)) }
+    ensures leads { IfOk result (TaskLeads (crew_of workers rounds block)
+        (λ written. IsRunInput (crew_of workers rounds block) input.now written)) }
 
     ensures unchecked { IfErr result (λ e. (e ≡ NoMemory) ⊎ RefusesCheck input.now e) }
 {
     let checked = check_document(rt, alloc, input)?;
-    Ok(task_at_start(alloc, checked)?)
+    let crew = Crew {
+        workers,
+        rounds,
+        block,
+    };
+    Ok(task_at_start(alloc, checked, crew, Printout::Journal)?)
 }
 
 /// The state and the lines in which the round robin from a state of a document's run ends.

@@ -1,16 +1,18 @@
 // The run of a document by its travel times, as text.
-ghost use Rattle.std.specs.Prelude.{◌≡◌, ◌-◌, ◌++◌, [], All, length, IfOk, IfErr, OnOk, string_bytes};
+ghost use Rattle.std.specs.Prelude.{◌≡◌, ◌⊎◌, ◌-◌, ◌++◌, [], All, length, IfOk, IfErr, OnOk, string_bytes};
 ghost use Rattle.rail_model.specs.Journal.{IsDone, with_counts};
 ghost use Rattle.rail_model.specs.Yard.{opening};
 ghost use Rattle.plain_yard.specs.Keeps.{Keeps};
 ghost use Rattle.move_journal.specs.Printable.{IsNamed};
 ghost use Rattle.train_sim.specs.Report.{Simulates, IsSoon};
 ghost use Rattle.document_json.specs.Doc.{IsDoc, offers_of, times_of, names_of};
-ghost use Rattle.accepted_documents.specs.Accepting.{AreAccepted};
+ghost use Rattle.accepted_documents.specs.Accepting.{AreAccepted, IsDocWith};
+ghost use Rattle.ats_run.specs.Command.{RefusesCheck};
 ghost use Rattle.ats_run.specs.Simulating.{IsSimulated, timed_text, last_text};
 ghost use Rattle.ats_run.specs.declared.failure.Failure.TheVariants.{Memory as NoMemory};
 
 use crate::Failure;
+use crate::checked::check_document;
 use accepted_documents::Checked;
 use cert_checker::Accepted;
 use document_json::Frame;
@@ -18,10 +20,21 @@ use move_journal::{Journal, push_line};
 use plain_yard::{PlainYard, begin};
 use rail_model::{Line, Names};
 use std::alloc::{AllocError, Global};
+use std::thread::Threads;
 use train_sim::{SimReport, simulate as simulate_yard};
 
-/// The timed journal of a document's run, with the tick of its last move. The only error is that there is no memory.
-pub fn simulate(alloc: Global, checked: &Checked) -> Result<Vec<u8>, Failure>
+/// The timed journal of a document's run, with the tick of its last move.
+pub fn simulate(rt: &(impl Threads + Sync), alloc: Global, input: &[u8]) -> Result<Vec<u8>, Failure>
+    ensures simulated { IfOk result (λ text. IsDocWith input.now (λ D. IsSimulated D text.items)) }
+
+    ensures unchecked { IfErr result (λ e. (e ≡ NoMemory) ⊎ RefusesCheck input.now e) }
+{
+    let checked = check_document(rt, alloc, input)?;
+    simulate_checked(alloc, &checked)
+}
+
+// The same for a document whose tables accept their certificates. The only error is that there is no memory.
+fn simulate_checked(alloc: Global, checked: &Checked) -> Result<Vec<u8>, Failure>
     requires tables { checked.now.tables.items ≡ offers_of checked.now.doc }
     requires accepted { AreAccepted checked.now.doc checked.now.certs.items }
     ensures simulated { IfOk result (λ text. IsSimulated checked.now.doc text.items) }

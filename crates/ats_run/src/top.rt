@@ -1,5 +1,5 @@
 // The top call.
-ghost use Rattle.std.specs.Prelude.{◌≡◌, ◌≢◌, ◌+◌, ◌⊎◌, ◌≤◌, ℕ, [], IfSome, IfOk, IfErr, OnOk, IsOkAnd, IsErrAnd, Some, IsTrue, ◌↔◌, length};
+ghost use Rattle.std.specs.Prelude.{◌≡◌, ◌≢◌, ◌+◌, ◌⊎◌, ◌≤◌, ℕ, [], IfSome, IfOk, IfErr, OnOk, IsOkAnd, IsErrAnd, Some, length};
 ghost use Rattle.std.specs.Io.KnownBytes.{IsAtEnd};
 ghost use Rattle.ats_io.specs.Bytes.{Adds, AddsPrefix, ConsumesAtMost};
 ghost use Rattle.ats_io.specs.Faults.{Rose};
@@ -14,7 +14,7 @@ ghost use Rattle.ats_run.specs.Orders.{Reads, OnInput, IsAlone};
 ghost use Rattle.ats_run.specs.Report.{line_of as line_of_failure, IsLineMade};
 ghost use Rattle.ats_run.specs.Serving.{Serves, source_seen, sink_seen};
 
-use crate::answer::{answer_alone, answer_by, crew_of};
+use crate::answer::{answer_alone, answer_by};
 use crate::lines::{NO_MEMORY, fixed_line, line_of};
 use crate::{Failure, Status};
 use ats_io::{Gate, ReadAll, Sink, Source, WriteFault, read_all, write_all};
@@ -44,13 +44,6 @@ fn read_input<S: Source>(alloc: Global, source: &mut S) -> Result<Vec<u8>, Failu
     }
 }
 
-// Whether the order reads its input.
-fn is_reading(order: Order) -> bool
-    ensures { IsTrue result ↔ Reads order }
-{
-    !matches!(order, Order::Generate { .. } | Order::Drill { .. })
-}
-
 // The input of an order: all that the source has left, or nothing where the order reads none.
 fn input_of<S: Source>(alloc: Global, order: Order, source: &mut S) -> Result<Vec<u8>, Failure>
     ensures whole { OnOk result (IsReadWhole order (S.left source.old) (IsAtEnd (S.left source.new))) }
@@ -62,10 +55,9 @@ fn input_of<S: Source>(alloc: Global, order: Order, source: &mut S) -> Result<Ve
     ensures untouched { (Reads order → ⊥) → source.new ≡ source.old }
     ensures at_most { ConsumesAtMost (most_bytes + 1) (S.left source.old) (S.left source.new) }
 {
-    if is_reading(order) {
-        read_input(alloc, source)
-    } else {
-        Ok(Vec::new(alloc))
+    match order {
+        Order::Generate { .. } | Order::Drill { .. } => Ok(Vec::new(alloc)),
+        _ => read_input(alloc, source),
     }
 }
 
@@ -106,7 +98,7 @@ pub fn serve_alone<S: Source, K: Sink>(
     write_answer(answer_alone(rt, alloc, order, &input), out)
 }
 
-// Does what any order asks for, by `serve_alone` unless workers run the order's trains: only then may it wait.
+// Does what any order asks for, as `serve_alone` does it unless workers run the order's trains: only then may it wait.
 fn serve_any<S: Source, K: Sink, R: Threads + Wait + Sync, G: Gate>(
     rt: &R,
     alloc: Global,
@@ -119,11 +111,8 @@ fn serve_any<S: Source, K: Sink, R: Threads + Wait + Sync, G: Gate>(
     ensures { Serves (Some order) result
         (source_seen S.left S.faults source.old source.new) (sink_seen K.taken K.faults out.old out.new) }
 {
-    let Some(crew) = crew_of(order) else {
-        return serve_alone(rt, alloc, order, source, out);
-    };
     let input = input_of(alloc, order, source)?;
-    write_answer(answer_by(rt, alloc, order, crew, &input, gate), out)
+    write_answer(answer_by(rt, alloc, order, &input, gate), out)
 }
 
 // What the words of a command line ask for, on what the source holds, written to the sink.
@@ -183,8 +172,8 @@ pub fn refuse<E: Sink>(alloc: Global, failure: Failure, err: &mut E) -> Failure
 /// The program: reads the words, the source to its end, and prints what is asked for.
 ///
 /// `line` has the words after the program's name. The answer's exit code is `code`. Nothing but one line is written to `err`, where the
-/// answer isn't `Done`. It may wait where the words ask for workers, each of which calls the gate at its moments; what else it does is
-/// `serve_alone`'s, which waits for nobody.
+/// answer isn't `Done`. It may wait where the words ask for workers, each of which calls the gate at its moments; what else it does waits
+/// for nobody, as `serve_alone`.
 pub fn ats<S: Source, K: Sink, E: Sink, R: Threads + Wait + Sync, G: Gate>(
     rt: &R,
     alloc: Global,

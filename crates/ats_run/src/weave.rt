@@ -1,16 +1,18 @@
 // A run that begins with drawn turns of its trains and its control, as text.
-ghost use Rattle.std.specs.Prelude.{◌≡◌, ◌⊎◌, ◌≤◌, ◌++◌, [], ℕ, List, IfOk, IfErr};
+ghost use Rattle.std.specs.Prelude.{◌≡◌, ◌⊎◌, ◌≤◌, [], IfOk, IfErr};
 ghost use Rattle.rail_model.specs.Yard.{opening, IsHistory};
 ghost use Rattle.zone_machine.specs.Sound.{Sound};
 ghost use Rattle.zone_machine.specs.Weave.{plain_of};
 ghost use Rattle.document_generator.specs.Draws.{drawn_of};
 ghost use Rattle.document_json.specs.Doc.{IsDoc, offers_of};
-ghost use Rattle.accepted_documents.specs.Accepting.{AreAccepted};
+ghost use Rattle.accepted_documents.specs.Accepting.{AreAccepted, IsDocWith};
+ghost use Rattle.ats_run.specs.Command.{RefusesCheck};
 ghost use Rattle.ats_run.specs.Headline.{IsRun};
 ghost use Rattle.ats_run.specs.Weaving.{IsWoven, after_turn, core_of, drawn_actor as actor_of_draw, drawn_world, woven};
 ghost use Rattle.ats_run.specs.declared.failure.Failure.TheVariants.{Memory as NoMemory};
 
 use crate::Failure;
+use crate::checked::check_document;
 use crate::run::{finish_from, text_of_run};
 use accepted_documents::Checked;
 use cert_checker::Accepted;
@@ -18,11 +20,33 @@ use document_generator::Draws;
 use document_json::Frame;
 use rail_model::{HasTable, PlainState, trains_of};
 use std::alloc::{AllocError, Global};
+use std::thread::Threads;
 use zone_machine::{CONTROL, Core};
 
-/// The text of the journal of a document's run that begins with this number of drawn turns. The only error is that there
-/// is no memory.
-pub fn weave(alloc: Global, checked: &Checked, seed: u32, turns: u32) -> Result<Vec<u8>, Failure>
+/// The text of the journal of a document's run that begins with this number of drawn turns.
+pub fn weave(
+    rt: &(impl Threads + Sync),
+    alloc: Global,
+    input: &[u8],
+    seed: u32,
+    turns: u32,
+) -> Result<Vec<u8>, Failure>
+    requires { turns ≤ 1000000 }
+    ensures woven { IfOk result (λ text. IsDocWith input.now (λ D. (run : IsRun D text.items) × IsWoven D seed turns run.journal.lines)) }
+
+    ensures unchecked { IfErr result (λ e. (e ≡ NoMemory) ⊎ RefusesCheck input.now e) }
+{
+    let checked = check_document(rt, alloc, input)?;
+    weave_checked(alloc, &checked, seed, turns)
+}
+
+// The same for a document whose tables accept their certificates. The only error is that there is no memory.
+fn weave_checked(
+    alloc: Global,
+    checked: &Checked,
+    seed: u32,
+    turns: u32,
+) -> Result<Vec<u8>, Failure>
     requires tables { checked.now.tables.items ≡ offers_of checked.now.doc }
     requires accepted { AreAccepted checked.now.doc checked.now.certs.items }
     requires few { turns ≤ 1000000 }

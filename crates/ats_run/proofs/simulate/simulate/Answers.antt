@@ -1,10 +1,10 @@
-use Rattle.ats_run.proofs.Simulated.{simulated}
+use Rattle.std.proofs.Common.{inl}
+use Rattle.std.proofs.lemmas.Result.{IfOk-weaker, IfErr-weaker}
 use Rattle.ats_run.proofs.simulate.simulate.Goals as goal
 
 pub returns-clause-simulated : goal.returns-clause-simulated
-returns-clause-simulated c =
-    let checked = c.args.checked.now in
-    let report = c.in_ok-report.report in
-    let r = c.in_ok-report.ensures in
-    simulated checked.doc checked.certs.items report.state.yard report.state.lines report.ticks.items report.last_tick _ c.report_of.ensures.formed
-    c.requires.accepted r.done r.simulates r.soon c.in_ok-text_of_report.ensures
+returns-clause-simulated g c =
+    IfOk-weaker c.simulate_checked.result _ _ (λ text said. (c.in_ok-checked.checked.doc, c.in_ok-checked.ensures.document, said)) c.simulate_checked.ensures.simulated
+
+pub returns-clause-unchecked : goal.returns-clause-unchecked
+returns-clause-unchecked g c = IfErr-weaker c.simulate_checked.result _ _ (λ e is. inl is) c.simulate_checked.ensures.memory

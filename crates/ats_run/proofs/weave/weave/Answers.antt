@@ -1,12 +1,10 @@
-use Rattle.ats_run.proofs.Woven.{woven_keeps, woven_run}
+use Rattle.std.proofs.Common.{inl}
+use Rattle.std.proofs.lemmas.Result.{IfOk-weaker, IfErr-weaker}
 use Rattle.ats_run.proofs.weave.weave.Goals as goal
 
-pub finish_from-requires-clause-keeps : goal.finish_from-requires-clause-keeps
-finish_from-requires-clause-keeps c =
-    woven_keeps c.args.checked.now.doc c.state_after.ensures.formed c.args.seed c.args.turns c.in_ok-state.ensures.legal c.in_ok-state.state c.in_ok-state.ensures.plain
-
 pub returns-clause-woven : goal.returns-clause-woven
-returns-clause-woven c =
-    woven_run c.args.checked.now.doc c.state_after.ensures.formed c.args.seed c.args.turns c.in_ok-state.ensures.legal c.in_ok-state.state c.in_ok-state.ensures.plain
-    c.args.checked.now.certs.items c.in_ok-end.end.yard c.in_ok-end.end.lines _ c.requires.accepted c.in_ok-end.ensures.done c.in_ok-end.ensures.round
-    c.in_ok-text_of_run.ensures
+returns-clause-woven g c =
+    IfOk-weaker c.weave_checked.result _ _ (λ text said. (c.in_ok-checked.checked.doc, c.in_ok-checked.ensures.document, said)) c.weave_checked.ensures.woven
+
+pub returns-clause-unchecked : goal.returns-clause-unchecked
+returns-clause-unchecked g c = IfErr-weaker c.weave_checked.result _ _ (λ e is. inl is) c.weave_checked.ensures.memory

@@ -1,5 +1,5 @@
 use Rattle.ats_run.proofs.Begun.{ended}
-use Rattle.ats_run.proofs.answer.run_alone.Goals as goal
+use Rattle.ats_run.proofs.answer.answer_alone.Goals as goal
 
 pub returns-in-Goes : goal.returns-in-Goes
 returns-in-Goes g c =
