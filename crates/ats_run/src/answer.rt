@@ -23,7 +23,6 @@ use crate::verify::verify;
 use crate::weave::weave;
 use ats_io::Gate;
 use ats_words::Order;
-use shared_run::Crew;
 use std::alloc::Global;
 use std::sync::Wait;
 use std::thread::Threads;
@@ -80,30 +79,12 @@ fn begin_task(
             workers,
             rounds,
             block,
-        } => begin_run(
-            rt,
-            alloc,
-            input,
-            Crew {
-                workers,
-                rounds,
-                block,
-            },
-        ),
+        } => begin_run(rt, alloc, input, workers, rounds, block),
         Order::Resume {
             workers,
             rounds,
             block,
-        } => resume(
-            rt,
-            alloc,
-            input,
-            Crew {
-                workers,
-                rounds,
-                block,
-            },
-        ),
+        } => resume(rt, alloc, input, workers, rounds, block),
         Order::Drill {
             seed,
             trains,

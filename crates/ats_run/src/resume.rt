@@ -1,6 +1,7 @@
 // Runs that go on from a journal.
 ghost use Rattle.std.specs.Prelude.{◌≡◌, ◌⊎◌, IfOk, IfErr};
 ghost use Rattle.ats_run.specs.Tasks.{IsPrinted, TaskLeads};
+ghost use Rattle.shared_run.specs.Crews.{crew_of};
 ghost use Rattle.ats_run.specs.Command.{IsResumedInput, RefusesResume};
 ghost use Rattle.ats_run.specs.declared.failure.Failure.TheVariants.{Memory as NoMemory};
 
@@ -13,14 +14,17 @@ use shared_run::Crew;
 use std::alloc::Global;
 use std::thread::Threads;
 
-/// The run that goes on from a journal by a crew, at the state that its front leads to, or the journal as it is where it is whole.
+/// The run that goes on from a journal by this many workers, at the state that its front leads to, or the journal as it is where it is whole.
 pub(crate) fn resume(
     rt: &(impl Threads + Sync),
     alloc: Global,
     input: &[u8],
-    crew: Crew,
+    workers: u32,
+    rounds: u32,
+    block: u32,
 ) -> Result<Task, Failure>
-    ensures leads { IfOk result (TaskLeads crew (λ written. IsResumedInput crew input.now written)) }
+    ensures leads { IfOk result (TaskLeads (crew_of workers rounds block)
+        (λ written. IsResumedInput (crew_of workers rounds block) input.now written)) }
 
     ensures refused { IfErr result (λ e. (e ≡ NoMemory) ⊎ RefusesResume input.now e) }
 {
@@ -32,7 +36,11 @@ pub(crate) fn resume(
         Replayed::Open(from) => {
             let run = Begun {
                 from,
-                crew,
+                crew: Crew {
+                    workers,
+                    rounds,
+                    block,
+                },
                 printout: Printout::Journal,
             };
             Ok(Task::Goes { checked, run })

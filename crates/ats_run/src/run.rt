@@ -8,6 +8,7 @@ ghost use Rattle.plain_yard.specs.Keeps.{Keeps};
 ghost use Rattle.plain_yard.specs.Rounds.{Finishes};
 ghost use Rattle.ats_run.specs.Command.{IsRunInput, RefusesCheck};
 ghost use Rattle.ats_run.specs.Tasks.{TaskLeads};
+ghost use Rattle.shared_run.specs.Crews.{crew_of};
 ghost use Rattle.ats_run.specs.declared.failure.Failure.TheVariants.{Memory as NoMemory};
 
 use crate::Failure;
@@ -22,18 +23,26 @@ use shared_run::Crew;
 use std::alloc::{AllocError, Global};
 use std::thread::Threads;
 
-/// The run of a document, at its start, by a crew.
+/// The run of a document, at its start, by this many workers.
 pub(crate) fn begin_run(
     rt: &(impl Threads + Sync),
     alloc: Global,
     input: &[u8],
-    crew: Crew,
+    workers: u32,
+    rounds: u32,
+    block: u32,
 ) -> Result<Task, Failure>
-    ensures leads { IfOk result (TaskLeads crew (λ written. IsRunInput crew input.now written)) }
+    ensures leads { IfOk result (TaskLeads (crew_of workers rounds block)
+        (λ written. IsRunInput (crew_of workers rounds block) input.now written)) }
 
     ensures unchecked { IfErr result (λ e. (e ≡ NoMemory) ⊎ RefusesCheck input.now e) }
 {
     let checked = check_document(rt, alloc, input)?;
+    let crew = Crew {
+        workers,
+        rounds,
+        block,
+    };
     Ok(task_at_start(alloc, checked, crew, Printout::Journal)?)
 }
 

@@ -5,6 +5,7 @@ use Rattle.accepted_documents.specs.Replaying.{IsReplay}
 use Rattle.ats_run.specs.declared.failure.Failure.{Failure}
 use Rattle.ats_run.specs.declared.failure.Failure.TheVariants.{Memory as NoMemory}
 use Rattle.ats_run.specs.Command.{IsResumedInput, RefusesResume}
+use Rattle.shared_run.specs.Crews.{crew_of}
 use Rattle.ats_run.proofs.Begun.{front_leads, printed_leads}
 use Rattle.ats_run.proofs.Inputs.{resumed_input}
 use Rattle.ats_run.proofs.PairFaults.{resume_refused}
@@ -27,7 +28,7 @@ returns-in-Whole-clause-leads g c =
     let D = c.in_ok-checked.checked.doc in
     let input = c.args.input.now in
     let given = c.in-Some.given.now in
-    let crew = c.args.crew in
+    let crew = crew_of c.args.workers c.args.rounds c.args.block in
     let whole = subst (IsReplay D given) c.in-Whole.is c.in_ok-from.ensures.leads in
     IfOk-weaker c.keep.result _ _
     (λ task printed. printed_leads crew (λ written. IsResumedInput crew input written) task given printed
@@ -43,7 +44,7 @@ returns-in-Open-clause-leads g c =
     let front = subst (IsReplay D given) c.in-Open.is c.in_ok-from.ensures.leads in (
       refl,
       c.in_ok-checked.ensures.offers,
-      front_leads D c.in_ok-checked.checked.certs.items c.args.crew c.args.input.now c.in-Some.document.now given front.0 c.in-Open.from
+      front_leads D c.in_ok-checked.checked.certs.items (crew_of c.args.workers c.args.rounds c.args.block) c.args.input.now c.in-Some.document.now given front.0 c.in-Open.from
           c.replay_text.ensures.formed c.in_ok-checked.ensures.accepted c.in-Some.ensures c.in_ok-checked.ensures.document
           front.1 front.2.right front.2.yard front.2.lines front.2.keeps,
     )
