@@ -4,31 +4,18 @@ ghost use Rattle.document_lint.specs.Told.{AreDocument, IsTold, KeepsFormer, Kee
 
 use crate::afters::add_afters;
 use crate::former::add_former;
-use crate::members::add_members;
+use crate::members::{add_members, add_of_document, value_of};
 use crate::place::Object;
 use crate::remark::{Remark, Remarks};
 use crate::sections::add_sections;
-use crate::shares::{add_shares, look_like_shares};
+use crate::shares::{add_suspects, most_share};
 use crate::subject::subject_of;
 use crate::trains::{add_connections, add_trains};
 use crate::unused::add_layout;
 use document_json::{Doc, DocRefused, document, start_of, tables_of, version};
-use document_shapes::{DocMembers, ShapeRefused, read_document};
-use rail_model::{Changes, Section};
+use json::Scratch;
 use refusal_lines::push_document;
 use std::alloc::{AllocError, Global};
-
-// More tables, sections or trains than this are refused.
-const MAX_TABLES: usize = 16;
-
-const MAX_SECTIONS: usize = 64;
-
-const MAX_TRAINS: usize = 32;
-
-// The greatest share in a version.
-fn most_share(version: u32) -> i32 {
-    if version == 1 { 1 } else { 4 }
-}
 
 // Adds the remarks on a document that `ats` takes.
 fn add_taken(remarks: &mut Remarks, doc: &Doc) {
@@ -37,7 +24,7 @@ fn add_taken(remarks: &mut Remarks, doc: &Doc) {
     for table in 0..tables_of(doc) {
         let subject = subject_of(doc, table);
         add_trains(remarks, &subject);
-        add_sections(remarks, &subject, most_share(version(doc)));
+        add_sections(remarks, &subject, most_share(u64::from(version(doc))));
         add_connections(remarks, &subject, start);
     }
     add_afters(remarks, doc);
@@ -56,49 +43,16 @@ fn add_refused(remarks: &mut Remarks, document: &str, refused: &DocRefused)
     remarks.add(Object::Document.member(document), written);
 }
 
-// Adds which trains' changes of a section look like shares.
-fn add_suspects(remarks: &mut Remarks, section: Object, changes: &[Changes], most: i32) {
-    for train in 0..changes.len().min(MAX_TRAINS) {
-        let numbers = changes[train].as_slice();
-        if look_like_shares(numbers, most) {
-            add_shares(remarks, section, train, numbers);
-        }
-    }
-}
-
-// Adds which changes of a table's sections look like shares.
-fn add_suspects_of_table(remarks: &mut Remarks, table: usize, sections: &[Section], most: i32) {
-    for section in 0..sections.len().min(MAX_SECTIONS) {
-        let object = Object::Section { table, section };
-        add_suspects(remarks, object, sections[section].all_changes(), most);
-    }
-}
-
-// Adds which changes of a document look like shares.
-fn add_suspects_of_document(remarks: &mut Remarks, members: &DocMembers) {
-    let most = most_share(members.version);
-    for table in 0..members.tables.len().min(MAX_TABLES) {
-        if let Some(sections) = &members.tables[table].sections {
-            add_suspects_of_table(remarks, table, sections, most);
-        }
-    }
-}
-
-// Adds which changes of a document that is refused for its sections look like shares.
-fn add_all_suspects(remarks: &mut Remarks, bytes: &[u8]) {
-    match read_document(remarks.alloc(), bytes) {
-        Ok(members) => add_suspects_of_document(remarks, &members),
-        Err(ShapeRefused::Memory) => remarks.note_no_memory(),
-        Err(_) => {}
-    }
-}
-
-// Which members and changes of a document that is refused may be the cause.
+// Which members and changes of a document that is refused may be the cause. What was read of it is gone, and all of this
+// is found in one value of its text.
 fn causes_of(alloc: Global, bytes: &[u8], refused: &DocRefused) -> Remarks {
     let mut causes = Remarks::new(alloc);
-    add_members(&mut causes, bytes);
-    if let DocRefused::Marks { .. } = refused {
-        add_all_suspects(&mut causes, bytes);
+    let mut scratch = Scratch::new(alloc);
+    if let Some(value) = value_of(&mut causes, bytes, &mut scratch) {
+        add_of_document(&mut causes, &value);
+        if let DocRefused::Marks { .. } = refused {
+            add_suspects(&mut causes, &value);
+        }
     }
     causes
 }
@@ -117,6 +71,7 @@ fn add_all(remarks: &mut Remarks, bytes: &[u8], read: &Result<Doc, DocRefused>)
 {
     match read {
         Ok(doc) => {
+            // A document that was read doesn't tell which members were ignored: its text is read for them as a value.
             add_members(remarks, bytes);
             add_taken(remarks, doc);
         }

@@ -31,9 +31,9 @@ const NAMED: usize = 8;
 const SHOWN: usize = 40;
 
 // More tables or sections than this are refused.
-const MAX_TABLES: usize = 16;
+pub(crate) const MAX_TABLES: usize = 16;
 
-const MAX_SECTIONS: usize = 64;
+pub(crate) const MAX_SECTIONS: usize = 64;
 
 // The members of an object in the order of the text, with those that are given again; none of another value.
 fn members_of<'v, 'a>(value: &'v Value<'a>) -> &'v [(&'a str, Value<'a>)] {
@@ -43,8 +43,8 @@ fn members_of<'v, 'a>(value: &'v Value<'a>) -> &'v [(&'a str, Value<'a>)] {
     }
 }
 
-// The items of an array; none of another value.
-fn items_of<'v, 'a>(value: &'v Value<'a>) -> &'v [Value<'a>] {
+/// The items of an array; none of another value.
+pub(crate) fn items_of<'v, 'a>(value: &'v Value<'a>) -> &'v [Value<'a>] {
     match value {
         Value::Array(items) => items.as_slice(),
         _ => &[],
@@ -211,29 +211,42 @@ fn add_of_tables(remarks: &mut Remarks, tables: &Value, version: u64) {
     }
 }
 
-// The version that a document says it has; 3, the last one, if it says none.
-fn version_of(document: &Value) -> u64 {
+/// The version that a document says it has; 3, the last one, if it says none.
+pub(crate) fn version_of(document: &Value) -> u64 {
     match document.get("version") {
         Some(version) => version.as_u64().unwrap_or(3),
         None => 3,
     }
 }
 
-// Adds what is said of the members of a document, of its tables and of their sections.
-fn add_of_document(remarks: &mut Remarks, document: &Value) {
+/// Adds what is said of the members of a document, of its tables and of their sections.
+pub(crate) fn add_of_document(remarks: &mut Remarks, document: &Value) {
     add_of_object(remarks, Object::Document, document, &DOCUMENT_MEMBERS);
     if let Some(tables) = document.get("tables") {
         add_of_tables(remarks, tables, version_of(document));
     }
 }
 
+/// The value that the bytes are; none, if they are no JSON.
+pub(crate) fn value_of<'a>(
+    remarks: &mut Remarks,
+    bytes: &'a [u8],
+    scratch: &'a mut Scratch,
+) -> Option<Value<'a>> {
+    match Value::from_slice(remarks.alloc(), bytes, scratch) {
+        Ok(value) => Some(value),
+        Err(Error::OutOfMemory) => {
+            remarks.note_no_memory();
+            None
+        }
+        Err(_) => None,
+    }
+}
+
 /// Adds which members of a document are ignored; nothing, if the bytes are no JSON.
 pub(crate) fn add_members(remarks: &mut Remarks, bytes: &[u8]) {
-    let alloc = remarks.alloc();
-    let mut scratch = Scratch::new(alloc);
-    match Value::from_slice(alloc, bytes, &mut scratch) {
-        Ok(value) => add_of_document(remarks, &value),
-        Err(Error::OutOfMemory) => remarks.note_no_memory(),
-        Err(_) => {}
+    let mut scratch = Scratch::new(remarks.alloc());
+    if let Some(value) = value_of(remarks, bytes, &mut scratch) {
+        add_of_document(remarks, &value);
     }
 }
