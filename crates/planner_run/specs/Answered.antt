@@ -12,7 +12,7 @@ use Rattle.plan_document.specs.Written.{document_of}
 use Rattle.plan_document.specs.declared.plan.Plan.{Plan}
 use Rattle.plan_reading.specs.Said.{IsPlanRead}
 use Rattle.plan_reading.specs.declared.reading.PlanRead.TheVariants.{Plan as AsPlan}
-use Rattle.refusal_sentences.specs.Explains.{ExplainsState}
+use Rattle.refusal_sentences.specs.Explains.{ExplainsIn}
 use Rattle.refusal_sentences.specs.ExplainedLines.{ExplainsLine}
 use Rattle.refusal_sentences.specs.declared.explained.Explained.{Explained}
 use Rattle.refusal_sentences.specs.declared.explained.Explained.TheVariants.{State, Refusal, NotLegal, NoTable, NoDocument, NoLine}
@@ -59,36 +59,41 @@ ExplainsAs (NoDocument refused words) text = ⊥
 ExplainsAs (NoLine words) text = ⊥
 
 -- The text is these words on a state, and behind them what is known of runs from the start of the document to it.
-pub record IsToldWithRun (input : List ℕ) (t : ℕ) (p words text : List ℕ) : Type 0 where
-  pub document : Doc
+pub record IsToldWithRun (D : Doc) (t : ℕ) (p words text : List ℕ) : Type 0 where
   pub run : List ℕ
-  pub is_read : doc_of input ≡ Ok document
-  pub tells : TellsRun document t p run
+  pub tells : TellsRun D t p run
   pub is_text : text ≡ words ++ run
 
 -- The text is these words on a state, and tells of runs to it if this is asked for.
-abbrev pub IsStateText : List ℕ → ℕ → List ℕ → Bool → List ℕ → List ℕ → Type 0
-IsStateText input t p true words text = IsToldWithRun input t p words text
-IsStateText input t p false words text = text ≡ words
+abbrev pub IsStateText : Doc → ℕ → List ℕ → Bool → List ℕ → List ℕ → Type 0
+IsStateText D t p true words text = IsToldWithRun D t p words text
+IsStateText D t p false words text = text ≡ words
 
 -- the text of an explanation, and of the runs to its state if these are asked for
-abbrev pub TellsState : List ℕ → ℕ → List ℕ → Bool → Explained → List ℕ → Type 0
-TellsState input t p run (State words) text = IsStateText input t p run (string_bytes words) text
-TellsState input t p run (Refusal words) text = text ≡ string_bytes words
-TellsState input t p run (NotLegal cause words) text = text ≡ string_bytes words
-TellsState input t p run (NoTable tables words) text = ⊥
-TellsState input t p run (NoDocument refused words) text = ⊥
-TellsState input t p run (NoLine words) text = ⊥
+abbrev pub TellsState : Doc → ℕ → List ℕ → Bool → Explained → List ℕ → Type 0
+TellsState D t p run (State words) text = IsStateText D t p run (string_bytes words) text
+TellsState D t p run (Refusal words) text = text ≡ string_bytes words
+TellsState D t p run (NotLegal cause words) text = text ≡ string_bytes words
+TellsState D t p run (NoTable tables words) text = ⊥
+TellsState D t p run (NoDocument refused words) text = ⊥
+TellsState D t p run (NoLine words) text = ⊥
 
--- The text explains the positions that the words name, under the table that they name, and tells of runs to them if this is asked for.
+-- The text explains positions under table t of the document, and tells of runs to them if this is asked for.
+pub record ExplainsPlacesIn (D : Doc) (t : ℕ) (p : List ℕ) (run : Bool) (text : List ℕ) : Type 0 where
+  pub told : Explained
+  pub explains : ExplainsIn D t p told
+  pub tells : TellsState D t p run told text
+
+-- The input is a document, and the text explains the positions that the words name, under the table that they name, and tells of runs to
+-- them if this is asked for.
 pub record ExplainsPlaces (input table_words place_words : List ℕ) (run : Bool) (text : List ℕ) : Type 0 where
+  pub document : Doc
   pub table : ℕ
   pub places : List ℕ
-  pub told : Explained
+  pub is_read : doc_of input ≡ Ok document
   pub is_table : number_of table_words ≡ Some table
   pub are_places : place_words ≡ places_words places
-  pub explains : ExplainsState input table places told
-  pub tells : TellsState input table places run told text
+  pub explains : ExplainsPlacesIn document table places run text
 
 -- The text explains a line of ats.
 pub record ExplainsWords (input line text : List ℕ) : Type 0 where

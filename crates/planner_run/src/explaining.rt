@@ -1,13 +1,13 @@
 // Explanations of states and of lines.
 ghost use Rattle.std.specs.Prelude.{◌≡◌, IfOk, string_bytes};
-ghost use Rattle.planner_run.specs.Answered.{IfText, ExplainsAs, ExplainsPlaces, ExplainsWords, IsToldWithRun, TellsState};
+ghost use Rattle.planner_run.specs.Answered.{IfText, ExplainsAs, ExplainsPlaces, ExplainsPlacesIn, ExplainsWords, IsToldWithRun, TellsState};
 
 use crate::Answer;
-use crate::drawing::refusal;
 use decimal_number::number_of;
-use document_json::{DocRefused, document};
+use document_json::{Doc, DocRefused, document};
 use rail_model::State;
-use refusal_sentences::{Explained, explain_line, explain_state, places_of};
+use refusal_meanings::no_document_text;
+use refusal_sentences::{Explained, explain_line, explain_places, places_of};
 use run_sentences::runs_told;
 use std::alloc::{AllocError, Global};
 
@@ -39,29 +39,44 @@ pub(crate) fn state(
     let Some(table) = number_of(table.as_bytes()) else {
         return wrong(alloc, NO_TABLE);
     };
-    match places_of(alloc, at)? {
-        Some(places) => {
-            let explained = explain_state(alloc, input, table, &places)?;
-            with_run(alloc, input, table, places, run, explained)
-        }
-        None => wrong(alloc, NO_PLACES),
+    let Some(places) = places_of(alloc, at)? else {
+        return wrong(alloc, NO_PLACES);
+    };
+    match document(alloc, input) {
+        Ok(doc) => state_in(alloc, &doc, table, places, run),
+        Err(DocRefused::Memory) => Err(AllocError),
+        Err(refused) => Ok(Answer::Wrong(no_document_text(alloc, input, &refused)?)),
     }
+}
+
+// What holds each train at these places, and what is known of runs to them if this is asked for.
+fn state_in(
+    alloc: Global,
+    doc: &Doc,
+    table: u32,
+    places: Vec<u32>,
+    run: bool,
+) -> Result<Answer, AllocError>
+    ensures { IfOk result (IfText (ExplainsPlacesIn doc.now table places.items run)) }
+{
+    let explained = explain_places(alloc, doc, table, &places)?;
+    with_run(alloc, doc, table, places, run, explained)
 }
 
 // The explanation of places, and what is known of runs to them if this is asked for.
 fn with_run(
     alloc: Global,
-    input: &[u8],
+    doc: &Doc,
     table: u32,
     places: Vec<u32>,
     run: bool,
     explained: Explained,
 ) -> Result<Answer, AllocError>
-    ensures { IfOk result (IfText (TellsState input.now table places.items run explained)) }
+    ensures { IfOk result (IfText (TellsState doc.now table places.items run explained)) }
 {
     match explained {
         Explained::State(text) => if run {
-            add_run(alloc, input, table, places, text)
+            add_run(alloc, doc, table, places, text)
         } else {
             Ok(Answer::Text(text.into_bytes()))
         },
@@ -72,22 +87,16 @@ fn with_run(
 // The text on a state, and what is known of runs to it.
 fn add_run(
     alloc: Global,
-    input: &[u8],
+    doc: &Doc,
     table: u32,
     places: Vec<u32>,
     mut text: String,
 ) -> Result<Answer, AllocError>
-    ensures { IfOk result (IfText (IsToldWithRun input.now table places.items (string_bytes text))) }
+    ensures { IfOk result (IfText (IsToldWithRun doc.now table places.items (string_bytes text))) }
 {
-    match document(alloc, input) {
-        Ok(doc) => {
-            let told = runs_told(alloc, &doc, table, &State::from(places), MOST_STATES)?;
-            text.push_str(told.as_str())?;
-            Ok(Answer::Text(text.into_bytes()))
-        }
-        Err(DocRefused::Memory) => Err(AllocError),
-        Err(refused) => refusal(alloc, &refused),
-    }
+    let told = runs_told(alloc, doc, table, &State::from(places), MOST_STATES)?;
+    text.push_str(told.as_str())?;
+    Ok(Answer::Text(text.into_bytes()))
 }
 
 /// What a line of `ats` means for the document that the input is.
