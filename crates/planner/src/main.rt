@@ -29,7 +29,12 @@ fn content(rt: &HostRuntime, path: &str) -> Option<Vec<u8>> {
 }
 
 // Answers an order on what a reader has, and on a former document if there is one.
-fn answer<R: Read + Drop>(rt: &HostRuntime, order: &Order<'_>, former: Option<&[u8]>, input: R) -> Status {
+fn answer<R: Read + Drop>(
+    rt: &HostRuntime,
+    order: &Order<'_>,
+    former: Option<&[u8]>,
+    input: R,
+) -> Status {
     let mut source = Reading::new(input);
     let mut out = Writing::new(rt.stdout());
     let mut err = Writing::new(rt.stderr());
