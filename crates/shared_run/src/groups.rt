@@ -12,7 +12,7 @@ use zone_yard::{Control, Driver, Yard};
 
 /// Drivers that one thread works in turn, or the control.
 #[derive(Drop)]
-pub(crate) enum Group {
+pub enum Group {
     Drivers(Vec<Driver>),
     Control(Control),
 }
@@ -40,7 +40,7 @@ fn work<R: Wait, G: Gate>(
 /// Works all groups, each beside the others. A group of drivers makes `rounds` rounds of one request for each driver in order, of `block`
 /// steps at once, or of fewer where they can't be granted whole; it ends early after the first round in which every answer was `Arrived`
 /// or `Spent`. The control makes `rounds` exchanges; it ends early with the first `NoMore` or `Spent`.
-pub(crate) fn run_groups<R: Threads + Wait + Sync, G: Gate>(
+pub fn run_groups<R: Threads + Wait + Sync, G: Gate>(
     rt: &R,
     yard: &Yard<'_>,
     groups: &mut [Group],

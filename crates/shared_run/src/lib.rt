@@ -9,4 +9,6 @@ mod rounds;
 mod working;
 
 pub use crews::Crew;
+pub use groups::{Group, run_groups};
+pub use rounds::Round;
 pub use working::work;

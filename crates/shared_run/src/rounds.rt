@@ -12,7 +12,7 @@ use zone_yard::{BlockReply, Control, Driver, Reply, Turn, Yard};
 /// What a driver was told in one round: one request's answer, a block's answer, or that the block can't be made whole and then the answer
 /// to a request for one step.
 #[derive(Clone, Copy)]
-pub(crate) enum Round {
+pub enum Round {
     One(Reply),
     Block(BlockReply),
     Halved {
