@@ -10,7 +10,6 @@ mod made;
 mod maker;
 mod numbers;
 mod path;
-mod same;
 mod slack;
 mod trail;
 

@@ -6,7 +6,6 @@ ghost use Rattle.cert_maker.specs.Slack.{IsSlack};
 ghost use Rattle.cert_maker.specs.Renumber.{number_in, Renumbers};
 ghost use Rattle.cert_maker.specs.Numbers.{HasAll, IsGone, IsNew};
 
-use crate::same::is_same_section;
 use crate::slack::is_slack;
 use rail_model::{Node, Section, Table, sections_of};
 use state_boxes::{Lists, Ranges};
@@ -95,7 +94,7 @@ fn first_same(section: &Section, sections: &[Section], from: usize) -> Option<u3
     ensures { IfSome result (λ k. (from ≤ k) × (k < length sections.now) × (Some section.now ≡ slice_get sections.now k)) }
 {
     for number in from..sections.len() {
-        if is_same_section(section, &sections[number]) {
+        if section.is_same(&sections[number]) {
             return Some(number as u32);
         }
     }

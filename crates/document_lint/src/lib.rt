@@ -23,4 +23,4 @@ pub use laws::{
 };
 pub use linting::{lint, lint_after};
 pub use remark::Remark;
-pub use same::{has_section, is_same_section};
+pub use same::has_section;

@@ -9,7 +9,6 @@ use crate::exact::{
     overfills_alone,
 };
 use crate::remark::Remarks;
-use crate::same::is_same_section;
 use crate::shares::{add_shares, look_like_shares};
 use crate::subject::Subject;
 use rail_model::{Table, last_of, limit_of, point_of, sections_of, share_at, trains_of};
@@ -121,7 +120,7 @@ fn first_like(table: &Table, section: u32) -> Option<u32>
 {
     let sections = table.sections();
     for first in 0..section {
-        if is_same_section(&sections[first as usize], &sections[section as usize]) {
+        if sections[first as usize].is_same(&sections[section as usize]) {
             return Some(first);
         }
     }

@@ -10,6 +10,7 @@ mod names;
 mod naming;
 mod offers;
 mod plain;
+mod same;
 mod table;
 mod times;
 mod types;

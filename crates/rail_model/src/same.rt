@@ -1,7 +1,7 @@
 // Whether two sections are the same.
 ghost use Rattle.std.specs.Prelude.{◌≡◌, ◌↔◌, IsTrue};
 
-use rail_model::{Changes, Section};
+use crate::{Changes, Section};
 
 // Whether a train has the same changes in two sections.
 fn are_same_changes(first: &Changes, second: &Changes) -> bool
@@ -25,9 +25,11 @@ fn are_same_lists(first: &[Changes], second: &[Changes]) -> bool
     true
 }
 
-/// Whether two sections have the same limit and the same changes of each train.
-pub(crate) fn is_same_section(first: &Section, second: &Section) -> bool
-    ensures { IsTrue result ↔ (first.now ≡ second.now) }
-{
-    first.limit() == second.limit() && are_same_lists(first.all_changes(), second.all_changes())
+impl Section {
+    /// Whether two sections have the same limit and the same changes of each train.
+    pub fn is_same(&self, other: &Section) -> bool
+        ensures { IsTrue result ↔ (self.now ≡ other.now) }
+    {
+        self.limit() == other.limit() && are_same_lists(self.all_changes(), other.all_changes())
+    }
 }

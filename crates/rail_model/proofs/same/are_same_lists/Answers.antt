@@ -1,5 +1,6 @@
-use Rattle.cert_maker.proofs.Common.{◌≡◌, ◌<◌, ◌∙◌, [], length, refl, sym, arith, get_or_default, same_lists}
-use Rattle.cert_maker.proofs.same.are_same_lists.Goals as goal
+use Rattle.std.proofs.Common.{◌≡◌, ◌<◌, ◌∙◌, [], length, refl, sym, arith}
+use Rattle.std.proofs.lemmas.List.{get_or_default, same_lists}
+use Rattle.rail_model.proofs.same.are_same_lists.Goals as goal
 
 pub returns : goal.returns
 returns c =

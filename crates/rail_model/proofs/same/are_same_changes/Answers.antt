@@ -3,7 +3,7 @@ use Rattle.std.specs.Cmp.Lexicographic.{pointwise}
 use Rattle.std.specs.Ordering.{int_eq}
 use Rattle.std.proofs.lemmas.Bool.Decides.{Decides-int_eq}
 use Rattle.std.proofs.lemmas.Slice.Eq.{slice_eq-Decides}
-use Rattle.document_lint.proofs.same.are_same_changes.Goals as goal
+use Rattle.rail_model.proofs.same.are_same_changes.Goals as goal
 
 pub returns : goal.returns
 returns c =
