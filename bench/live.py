@@ -173,6 +173,17 @@ def sessions():
 
 # Sessions through pipes
 
+def is_part(row):
+    """Whether a row isn't the last of an answer: a row of a list, an event, or a line of the journal."""
+    rest = row.partition(b" ")[2] if row.startswith(b"#") else row
+    return row[:1].isdigit() or rest.startswith((b"| ", b"! "))
+
+
+def is_whole(data):
+    """Whether the bytes have the last row of an answer, with at most three events behind it."""
+    return data.endswith(b"\n") and any(b"\n" not in row and not is_part(row) for row in data.rsplit(b"\n", 4)[:-1])
+
+
 class Piped:
     """A program on pipes, for requests one by one or in windows."""
 
@@ -197,14 +208,23 @@ class Piped:
         """The next answer; rows, events and lines of the journal are passed over."""
         while True:
             row = self.row()
-            rest = row.partition(b" ")[2] if row.startswith(b"#") else row
-            if not row[:1].isdigit() and not rest.startswith((b"| ", b"! ")):
-                return rest
+            if not is_part(row):
+                return row.partition(b" ")[2] if row.startswith(b"#") else row
 
     def ask(self, lines, count=1):
         """Sends requests and waits for so many answers."""
         self.process.stdin.write(lines)
         return [self.answer() for _ in range(count)]
+
+    def ask_only(self, line):
+        """Sends a request and reads until its answer is whole, of which nothing is taken apart: for times."""
+        self.process.stdin.write(line)
+        data = os.read(self.lines, 1 << 16)
+        while not is_whole(data):
+            more = os.read(self.lines, 1 << 16)
+            if not more:
+                raise EOFError("the program has ended")
+            data += more
 
     def end(self):
         self.process.stdin.close()
@@ -330,11 +350,11 @@ LAST = re.compile(rb"#last pong line=\d+\n\Z")
 
 
 def micros(program, lines):
-    """The median of the microseconds from a request to its answer."""
+    """The median of the microseconds from a request until its whole answer has been read."""
     taken = []
     for line in lines:
         began = time.perf_counter_ns()
-        program.ask(line)
+        program.ask_only(line)
         taken.append(time.perf_counter_ns() - began)
     return statistics.median(taken) / 1000
 

@@ -20,7 +20,8 @@ use Rattle.run_sentences.specs.Told.{TellsRun}
 use Rattle.run_timetable.specs.declared.run.Run.{Run}
 use Rattle.run_timetable.specs.Csv.{csv_text}
 use Rattle.timed_reading.specs.Reads.{IsInputOf}
-use Rattle.train_graph.specs.Marks.{IsGraph}
+use Rattle.rail_model.specs.Layout.{Layout as LayoutValue}
+use Rattle.train_graph.specs.Graph.{IsGraph}
 use Rattle.layout_picture.specs.Drawn.{IsDrawn}
 use Rattle.document_lint.specs.Told.{LosesNoSection}
 use Rattle.svg_text.specs.Tree.{Picture}
@@ -101,10 +102,10 @@ pub record ExplainsWords (input line text : List ℕ) : Type 0 where
   pub explains : ExplainsLine input line told
   pub tells : ExplainsAs told text
 
--- The text is the graph of a timed run: a picture with one mark for each step.
-pub record IsGraphOf (run : Run) (text : List ℕ) : Type 0 where
+-- The text is the graph of a timed run: a picture with one row for each point, by its name, and one mark for each step.
+pub record IsGraphOf (L : LayoutValue) (run : Run) (text : List ℕ) : Type 0 where
   pub picture : Picture
-  pub is_graph : IsGraph run picture
+  pub is_graph : IsGraph L run picture
   pub is_text : text ≡ svg_text picture
 
 -- The input is a document and the text of a timed run of it, and the text is the graph of that run.
@@ -112,7 +113,7 @@ pub record IsGraphText (input text : List ℕ) : Type 0 where
   pub document : Doc
   pub run : Run
   pub is_input : IsInputOf input document run
-  pub is_graph : IsGraphOf run text
+  pub is_graph : IsGraphOf document.layout run text
 
 -- The text is the timetable of a run of a document: as comma-separated values, exactly these. Of columns nothing is said.
 abbrev pub IsTimetableOf : Doc → Run → Bool → List ℕ → Type 0

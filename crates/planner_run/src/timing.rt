@@ -48,7 +48,7 @@ pub(crate) fn graph(alloc: Global, input: &[u8], train: Option<&str>) -> Result<
 // The graph of a run of a document.
 fn graph_of(alloc: Global, doc: &Doc, run: &Run, train: Option<&str>) -> Result<Answer, AllocError>
     requires { IsToldRun doc.now run.now }
-    ensures { IfOk result (IfText (IsGraphOf run.now)) }
+    ensures { IfOk result (IfText (IsGraphOf doc.now.layout run.now)) }
 {
     let chosen = match train {
         Some(name) => match numbered(names_of(doc), name) {

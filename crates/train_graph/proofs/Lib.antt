@@ -1,3 +1,4 @@
 pub mod Known
+pub mod Pushed
 pub mod Rows
 pub mod Ways

@@ -1,19 +1,22 @@
 // Pictures of runs.
-ghost use Rattle.std.specs.Prelude.{◌≡◌, ◌<◌, ◌++◌, IfOk, OnOk, codes, false, map};
-ghost use Rattle.std.specs.Str.{bytes_eq};
-ghost use Rattle.train_graph.specs.Marks.{IsGraph, mark_of, marks_in, span_of};
+ghost use Rattle.std.specs.Prelude.{◌≡◌, ◌<◌, [], IfOk, OnOk};
+ghost use Rattle.std.specs.List.{AllZip};
+ghost use Rattle.train_graph.specs.Graph.{IsGraph};
+ghost use Rattle.train_graph.specs.Layers.{IsLayer, Shows, layers};
+ghost use Rattle.train_graph.specs.Marks.{span_of};
 ghost use Rattle.train_graph.specs.Rows.{HasRows};
 
 use crate::Axes;
 use crate::colours::style_of;
 use crate::grid::{push_paper, push_points, push_tables, push_ticks};
 use crate::labels::{Labels, text_width};
+use crate::layers::{LAYERS, Layer, class_of, title_of};
 use crate::legend::{WIDTH, legend_end, push_legend};
 use crate::levels::{push_first_names, push_last_names, push_levels};
-use crate::marks::marks;
+use crate::marks::push_marks;
 use crate::order::rows_of;
 use rail_model::{Layout, Names};
-use run_timetable::{Run, Step, point_name, train_name};
+use run_timetable::{Run, point_name, train_name};
 use std::alloc::{AllocError, Global};
 use svg_text::{Group, Picture, Shape};
 
@@ -26,7 +29,7 @@ pub fn train_graph(
     run: &Run,
     chosen: Option<u32>,
 ) -> Result<Picture, AllocError>
-    ensures { IfOk result (IsGraph run.now) }
+    ensures { IfOk result (IsGraph layout.now run.now) }
 {
     let axes = axes_of(alloc, layout, names, run, chosen)?;
     let sheet = Sheet {
@@ -40,8 +43,7 @@ pub fn train_graph(
 
 // The picture of a sheet, with a title and with the colours of its trains.
 fn drawn(alloc: Global, sheet: &Sheet) -> Result<Picture, AllocError>
-    ensures { IfOk result (λ picture. marks_in picture.groups
-        ≡ map (mark_of sheet.now.axes.now) sheet.now.run.now.steps.items) }
+    ensures { IfOk result (λ picture. AllZip (IsLayer sheet.now.axes.now sheet.now.layout.now sheet.now.run.now) layers picture.groups) }
 {
     let trains = sheet.run.trains();
     let end = sheet.run.end();
@@ -52,11 +54,9 @@ fn drawn(alloc: Global, sheet: &Sheet) -> Result<Picture, AllocError>
 
 // The picture of a sheet, with this title and this style.
 fn framed(alloc: Global, sheet: &Sheet, title: &str, style: &str) -> Result<Picture, AllocError>
-    ensures { IfOk result (λ picture. marks_in picture.groups
-        ≡ map (mark_of sheet.now.axes.now) sheet.now.run.now.steps.items) }
+    ensures { IfOk result (λ picture. AllZip (IsLayer sheet.now.axes.now sheet.now.layout.now sheet.now.run.now) layers picture.groups) }
 {
-    let mut groups = Vec::new(alloc);
-    push_groups(alloc, &mut groups, sheet)?;
+    let groups = groups_of(alloc, sheet)?;
     let width = u64::from(WIDTH);
     Picture::new(alloc, width, height_of(sheet.axes), title, style, groups)
 }
@@ -129,71 +129,17 @@ struct Sheet<'a> {
     axes: &'a Axes,
 }
 
-// What lies below and above the marks of moves.
-#[derive(Clone, Copy)]
-enum Layer {
-    Paper,
-    Ticks,
-    Points,
-    Tables,
-    Stays,
-    Waits,
-    Starts,
-    Ends,
-    Legend,
-}
-
-const BEHIND: [Layer; 6] = [
-    Layer::Paper,
-    Layer::Ticks,
-    Layer::Points,
-    Layer::Tables,
-    Layer::Stays,
-    Layer::Waits,
-];
-
-const BEFORE: [Layer; 3] = [Layer::Starts, Layer::Ends, Layer::Legend];
-
-// The class of a layer. None is that of moves.
-fn class_of(layer: Layer) -> &'static str
-    ensures { bytes_eq result.now (codes "moves") ≡ false }
-{
-    match layer {
-        Layer::Paper => "paper",
-        Layer::Ticks => "ticks",
-        Layer::Points => "points",
-        Layer::Tables => "table",
-        Layer::Stays => "stay",
-        Layer::Waits => "wait",
-        Layer::Starts => "start",
-        Layer::Ends => "end",
-        Layer::Legend => "legend",
-    }
-}
-
-// What a viewer says of a layer.
-fn title_of(layer: Layer) -> &'static str {
-    match layer {
-        Layer::Paper => "paper",
-        Layer::Ticks => "ticks",
-        Layer::Points => "points",
-        Layer::Tables => "tables that take over",
-        Layer::Stays => "trains that have arrived",
-        Layer::Waits => "trains that wait",
-        Layer::Starts => "where trains begin",
-        Layer::Ends => "where trains end",
-        Layer::Legend => "legend",
-    }
-}
-
-// Adds the shapes of a layer.
+// Draws a layer.
 fn draw(
     alloc: Global,
     shapes: &mut Vec<Shape>,
     labels: &mut Labels,
     sheet: &Sheet,
     layer: Layer,
-) -> Result<(), AllocError> {
+) -> Result<(), AllocError>
+    requires { shapes.old.items ≡ [] }
+    ensures { OnOk result (Shows sheet.now.axes.now sheet.now.layout.now sheet.now.run.now layer shapes.new.items) }
+{
     let Sheet {
         layout,
         names,
@@ -207,65 +153,35 @@ fn draw(
         Layer::Tables => push_tables(alloc, shapes, labels, axes, &run.takeovers),
         Layer::Stays => push_levels(alloc, shapes, axes, run, true),
         Layer::Waits => push_levels(alloc, shapes, axes, run, false),
+        Layer::Moves => push_marks(alloc, shapes, axes, &run.steps),
         Layer::Starts => push_first_names(alloc, shapes, axes, names, run),
         Layer::Ends => push_last_names(alloc, shapes, labels, axes, names, run),
         Layer::Legend => push_legend(alloc, shapes, names, run),
     }
 }
 
-// Adds a group that has no marks.
-fn push_layer(
+// The group of a layer.
+fn group_of(
     alloc: Global,
-    groups: &mut Vec<Group>,
     labels: &mut Labels,
     sheet: &Sheet,
     layer: Layer,
-) -> Result<(), AllocError>
-    ensures { OnOk result (marks_in groups.new.items ≡ marks_in groups.old.items) }
+) -> Result<Group, AllocError>
+    ensures { IfOk result (IsLayer sheet.now.axes.now sheet.now.layout.now sheet.now.run.now layer) }
 {
     let mut shapes = Vec::new(alloc);
     draw(alloc, &mut shapes, labels, sheet, layer)?;
-    groups.push(Group::with(alloc, class_of(layer), title_of(layer), shapes)?)?;
-    Ok(())
+    Group::with(alloc, class_of(layer), title_of(layer), shapes)
 }
 
-// Adds groups that have no marks.
-fn push_layers(
-    alloc: Global,
-    groups: &mut Vec<Group>,
-    labels: &mut Labels,
-    sheet: &Sheet,
-    layers: &[Layer],
-) -> Result<(), AllocError>
-    ensures { OnOk result (marks_in groups.new.items ≡ marks_in groups.old.items) }
-{
-    for layer in layers {
-        push_layer(alloc, groups, labels, sheet, *layer)?;
-    }
-    Ok(())
-}
-
-// Adds the group of all moves.
-fn push_moves(
-    alloc: Global,
-    groups: &mut Vec<Group>,
-    axes: &Axes,
-    steps: &[Step],
-) -> Result<(), AllocError>
-    ensures { OnOk result (marks_in groups.new.items ≡ marks_in groups.old.items ++ map (mark_of axes.now) steps.now) }
-{
-    let marks = marks(alloc, axes, steps)?;
-    groups.push(Group::with(alloc, "moves", "moves", marks)?)?;
-    Ok(())
-}
-
-// Adds all groups, from the back to the front.
-fn push_groups(alloc: Global, groups: &mut Vec<Group>, sheet: &Sheet) -> Result<(), AllocError>
-    ensures { OnOk result (marks_in groups.new.items
-        ≡ marks_in groups.old.items ++ map (mark_of sheet.now.axes.now) sheet.now.run.now.steps.items) }
+// The groups of all layers, from the back to the front.
+fn groups_of(alloc: Global, sheet: &Sheet) -> Result<Vec<Group>, AllocError>
+    ensures { IfOk result (λ groups. AllZip (IsLayer sheet.now.axes.now sheet.now.layout.now sheet.now.run.now) layers groups.items) }
 {
     let mut labels = Labels::new(alloc);
-    push_layers(alloc, groups, &mut labels, sheet, &BEHIND)?;
-    push_moves(alloc, groups, sheet.axes, &sheet.run.steps)?;
-    push_layers(alloc, groups, &mut labels, sheet, &BEFORE)
+    let mut groups = Vec::new(alloc);
+    for layer in &LAYERS {
+        groups.push(group_of(alloc, &mut labels, sheet, *layer)?)?;
+    }
+    Ok(groups)
 }

@@ -1,4 +1,9 @@
 // The grid of ticks and points, and the tables that take over.
+ghost use Rattle.std.specs.Prelude.{◌≡◌, ◌++◌, ◌∷◌, [], OnOk, flat_map};
+ghost use Rattle.run_timetable.specs.Timetable.{name_of};
+ghost use Rattle.svg_text.specs.Shapes.{label_of, line_of};
+ghost use Rattle.train_graph.specs.Layers.{row_shapes};
+
 use crate::Axes;
 use crate::labels::{Labels, text_width};
 use crate::shapes::{push_label, push_line};
@@ -110,38 +115,43 @@ fn push_upright(
     push_line(alloc, shapes, top, bottom)
 }
 
-/// Adds the lines of points, each with its name, which ends so far to the left of tick 0.
+/// Adds the lines of points, each with its name, which begins so far to the left of tick 0.
 pub(crate) fn push_points(
     alloc: Global,
     shapes: &mut Vec<Shape>,
     axes: &Axes,
     layout: &Layout,
     before: u64,
-) -> Result<(), AllocError> {
+) -> Result<(), AllocError>
+    ensures { OnOk result (shapes.new.items ≡ shapes.old.items ++ flat_map (row_shapes axes.now layout.now before) axes.now.rows.items) }
+{
     for point in &axes.rows {
-        let name = point_name(layout, *point);
-        push_point(alloc, shapes, axes, axes.y(*point), name, before)?;
+        push_point(alloc, shapes, axes, layout, *point, before)?;
     }
     Ok(())
 }
 
-// Adds the line of a point, and its name, which ends so far to the left of tick 0.
+// Adds the line of a point, and its name, which begins so far to the left of tick 0.
 fn push_point(
     alloc: Global,
     shapes: &mut Vec<Shape>,
     axes: &Axes,
-    y: u64,
-    name: &str,
+    layout: &Layout,
+    point: u32,
     before: u64,
-) -> Result<(), AllocError> {
+) -> Result<(), AllocError>
+    ensures { OnOk result (shapes.new.items ≡ shapes.old.items ++ row_shapes axes.now layout.now before point) }
+{
+    let y = axes.y(point);
     let left = u64::from(axes.left);
-    let end = Spot {
+    let start = Spot { x: left, y };
+    let end = Spot { x: axes.right(), y };
+    let under = Spot {
         x: left.saturating_sub(before),
-        y: y.saturating_add(4),
+        y: y + 4,
     };
-    let right = axes.right();
-    push_line(alloc, shapes, Spot { x: left, y }, Spot { x: right, y })?;
-    push_label(alloc, shapes, end, name)
+    push_line(alloc, shapes, start, end)?;
+    push_label(alloc, shapes, under, point_name(layout, point))
 }
 
 /// Adds the lines of tables that take over, each with its number.

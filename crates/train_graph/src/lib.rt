@@ -6,6 +6,7 @@ mod colours;
 mod drawing;
 mod grid;
 mod labels;
+mod layers;
 mod legend;
 mod levels;
 mod marks;

@@ -1,5 +1,5 @@
 // The marks of moves.
-ghost use Rattle.std.specs.Prelude.{◌≡◌, IfOk, OnOk, map};
+ghost use Rattle.std.specs.Prelude.{◌≡◌, ◌++◌, IfOk, OnOk, map};
 ghost use Rattle.svg_text.specs.Shapes.{line_of};
 ghost use Rattle.train_graph.specs.Marks.{mark_of, of_train as marked};
 
@@ -45,13 +45,17 @@ fn mark(alloc: Global, axes: &Axes, step: &Step) -> Result<Shape, AllocError>
     train_line(alloc, step.train, from, to)
 }
 
-/// The marks of all steps, in order.
-pub(crate) fn marks(alloc: Global, axes: &Axes, steps: &[Step]) -> Result<Vec<Shape>, AllocError>
-    ensures { IfOk result (λ shapes. shapes.items ≡ map (mark_of axes.now) steps.now) }
+/// Adds the marks of steps, in order.
+pub(crate) fn push_marks(
+    alloc: Global,
+    shapes: &mut Vec<Shape>,
+    axes: &Axes,
+    steps: &[Step],
+) -> Result<(), AllocError>
+    ensures { OnOk result (shapes.new.items ≡ shapes.old.items ++ map (mark_of axes.now) steps.now) }
 {
-    let mut shapes = Vec::new(alloc);
     for step in steps {
         shapes.push(mark(alloc, axes, step)?)?;
     }
-    Ok(shapes)
+    Ok(())
 }

@@ -1,4 +1,7 @@
 // Shapes that are added to others.
+ghost use Rattle.std.specs.Prelude.{◌≡◌, ◌++◌, ◌∷◌, [], OnOk};
+ghost use Rattle.svg_text.specs.Shapes.{label_of, line_of};
+
 use crate::marks::train_line;
 use std::alloc::{AllocError, Global};
 use svg_text::{Shape, Spot, label, line};
@@ -9,7 +12,9 @@ pub(crate) fn push_line(
     shapes: &mut Vec<Shape>,
     from: Spot,
     to: Spot,
-) -> Result<(), AllocError> {
+) -> Result<(), AllocError>
+    ensures { OnOk result (shapes.new.items ≡ shapes.old.items ++ line_of from to ∷ []) }
+{
     shapes.push(line(alloc, from, to)?)?;
     Ok(())
 }
@@ -32,7 +37,9 @@ pub(crate) fn push_label(
     shapes: &mut Vec<Shape>,
     at: Spot,
     words: &str,
-) -> Result<(), AllocError> {
+) -> Result<(), AllocError>
+    ensures { OnOk result (shapes.new.items ≡ shapes.old.items ++ label_of at words.now ∷ []) }
+{
     shapes.push(label(alloc, at, words)?)?;
     Ok(())
 }

@@ -5,12 +5,12 @@ pub returns : goal.returns
 returns c =
     let axes = c.in_ok-axes.axes in
     let lie = c.in_ok-axes.ensures in
-    IfOk-weaker c.drawn.result _ _ (λ picture marks. record {
+    IfOk-weaker c.drawn.result _ _ (λ picture groups. record {
       axes = axes;
       span = lie.span;
       wide = lie.wide;
       apart = lie.apart;
       rows = lie.rows;
-      marks = marks;
+      groups = groups;
     })
     c.drawn.ensures

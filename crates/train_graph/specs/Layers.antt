@@ -1,0 +1,55 @@
+-- The layers of a train graph, each a group of its picture.
+use Rattle.std.specs.Prelude.{◌≡◌, ℕ, ◌+◌, ◌-◌, List, [], ◌∷◌, codes, flat_map, map}
+use Rattle.rail_model.specs.Layout.{Layout}
+use Rattle.run_timetable.specs.Timetable.{name_of}
+use Rattle.run_timetable.specs.declared.run.Run.{Run}
+use Rattle.svg_text.specs.Tree.{Group, Shape}
+use Rattle.svg_text.specs.Shapes.{label_of, line_of}
+use Rattle.train_graph.specs.declared.layers.Layer.{Layer}
+use Rattle.train_graph.specs.declared.layers.Layer.TheVariants.{Paper, Ticks, Points, Tables, Stays, Waits, Moves, Starts, Ends, Legend}
+use Rattle.train_graph.specs.declared.scale.Axes.{Axes}
+use Rattle.train_graph.specs.Marks.{mark_of}
+use Rattle.train_graph.specs.Places.{y_at}
+
+-- all layers, from the back to the front
+abbrev pub layers : List Layer
+layers = Paper ∷ Ticks ∷ Points ∷ Tables ∷ Stays ∷ Waits ∷ Moves ∷ Starts ∷ Ends ∷ Legend ∷ []
+
+-- the class of a layer's group
+abbrev pub class_of : Layer → List ℕ
+class_of Paper = codes "paper"
+class_of Ticks = codes "ticks"
+class_of Points = codes "points"
+class_of Tables = codes "table"
+class_of Stays = codes "stay"
+class_of Waits = codes "wait"
+class_of Moves = codes "moves"
+class_of Starts = codes "start"
+class_of Ends = codes "end"
+class_of Legend = codes "legend"
+
+-- the row of a point: a line over all ticks, and the point's name, which begins so far to the left of them
+abbrev pub row_shapes : Axes → Layout → ℕ → ℕ → List Shape
+row_shapes axes L before p =
+    line_of (record { x = axes.left; y = y_at axes p }) (record { x = axes.left + axes.width; y = y_at axes p })
+    ∷ label_of (record { x = axes.left - before; y = y_at axes p + 4 }) (name_of L p)
+    ∷ []
+
+-- Points: exactly a row for each point that has one. Moves: exactly a mark for each step. Of the others nothing is said.
+abbrev pub Shows : Axes → Layout → Run → Layer → List Shape → Type 0
+Shows axes L run Points shapes = (before : ℕ) × (shapes ≡ flat_map (row_shapes axes L before) axes.rows.items)
+Shows axes L run Moves shapes = shapes ≡ map (mark_of axes) run.steps.items
+Shows axes L run Paper shapes = Unit {0}
+Shows axes L run Ticks shapes = Unit {0}
+Shows axes L run Tables shapes = Unit {0}
+Shows axes L run Stays shapes = Unit {0}
+Shows axes L run Waits shapes = Unit {0}
+Shows axes L run Starts shapes = Unit {0}
+Shows axes L run Ends shapes = Unit {0}
+Shows axes L run Legend shapes = Unit {0}
+
+-- The group is that of the layer: it has its class and no other attribute, so that nothing hides or moves it, and shows what it should.
+pub record IsLayer (axes : Axes) (L : Layout) (run : Run) (layer : Layer) (g : Group) : Type 0 where
+  pub class : g.class ≡ class_of layer
+  pub plain : g.attributes ≡ []
+  pub shows : Shows axes L run layer g.shapes
