@@ -6,12 +6,12 @@ use Rattle.ats_io.specs.Bytes.{Adds, AddsPrefix}
 use Rattle.ats_io.specs.Faults.{Rose}
 use Rattle.ats_io.specs.Memory.{HasMade, IsFull}
 use Rattle.ats_words.specs.declared.orders.Order.{Order}
-use Rattle.ats_run.specs.declared.failure.Failure.{Failure}
-use Rattle.ats_run.specs.declared.failure.Failure.TheVariants as failure
-use Rattle.ats_run.specs.declared.status.Status.{Status}
+use Rattle.ats_answers.specs.declared.failure.Failure.{Failure}
+use Rattle.ats_answers.specs.declared.failure.Failure.TheVariants as failure
+use Rattle.ats_answers.specs.declared.status.Status.{Status}
 use Rattle.ats_run.specs.Causes.{IsServed, IsCause, TellsCause}
 use Rattle.ats_run.specs.Command.{Comes}
-use Rattle.ats_run.specs.Report.{line_of}
+use Rattle.ats_answers.specs.Report.{line_of}
 use Rattle.ats_run.proofs.Reading.{on_weaker}
 use Rattle.ats_rows.specs.declared.calls.Played.{Played}
 use Rattle.ats_rows.specs.Calls.{IsPlayed}

@@ -3,11 +3,11 @@ use Rattle.std.proofs.Common.{◌≡◌, ℕ, ◌<◌, List, [], length, sym, �
 use Rattle.clap.specs.Words.{Text}
 use Rattle.ats_io.specs.Memory.{HasMade}
 use Rattle.ats_io.specs.declared.memory.room.TheConstants.{SINK_ROOM}
-use Rattle.ats_run.specs.declared.failure.Failure.{Failure}
-use Rattle.ats_run.specs.declared.failure.Failure.TheVariants as failure
-use Rattle.ats_run.specs.declared.status.Status.TheVariants as status
+use Rattle.ats_answers.specs.declared.failure.Failure.{Failure}
+use Rattle.ats_answers.specs.declared.failure.Failure.TheVariants as failure
+use Rattle.ats_answers.specs.declared.status.Status.TheVariants as status
 use Rattle.ats_run.specs.Causes.{IsCause}
-use Rattle.ats_run.specs.Ending.{status_of}
+use Rattle.ats_answers.specs.Ending.{status_of}
 use Rattle.ats_rows.specs.declared.calls.Played.{Played}
 use Rattle.ats_rows.specs.Calls.{IsPlayed, call_of}
 

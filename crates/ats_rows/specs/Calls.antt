@@ -4,7 +4,7 @@ use Rattle.clap.specs.Words.{Text}
 use Rattle.ats_io.specs.Bytes.{Adds, AddsPrefix, ConsumesAtMost}
 use Rattle.ats_io.specs.Memory.{HasMade, IsFull}
 use Rattle.ats_words.specs.declared.orders.Order.{Order}
-use Rattle.ats_run.specs.declared.status.Status.TheVariants.{Done, WriteFault}
+use Rattle.ats_answers.specs.declared.status.Status.TheVariants.{Done, WriteFault}
 use Rattle.ats_run.specs.Orders.{order_of, Reads, HoldsInput}
 use Rattle.ats_run.specs.Causes.{Call, IsServed, TellsCause, most_bytes}
 use Rattle.ats_run.specs.Complete.{IsGoodInput, IsDoneOrMemory}

@@ -6,75 +6,31 @@ use Rattle.std.proofs.lemmas.List.{append-nil}
 use Rattle.ats_io.specs.Bytes.{Adds, AddsPrefix, ConsumesAtMost}
 use Rattle.ats_words.specs.declared.orders.Order.{Order}
 use Rattle.ats_words.specs.declared.orders.Order.TheVariants.{Run, Resume, Check, Verify, Migrate, Make, Derive, Repair, Simulate, Generate, Drill, Weave}
-use Rattle.document_json.specs.Doc.{Doc, table_at}
-use Rattle.ats_run.specs.declared.failure.Failure.{Failure}
-use Rattle.ats_run.specs.declared.failure.Failure.TheVariants as failure
+use Rattle.ats_answers.specs.declared.failure.Failure.{Failure}
+use Rattle.ats_answers.specs.declared.failure.Failure.TheVariants as failure
 use Rattle.ats_run.specs.Causes.{Call, call_of, IsOrderOf, IsReadWhole, IsServed, IsCause, IsUnread, most_bytes}
-use Rattle.ats_run.specs.Command.{Comes, RefusesCheck, RefusesVerify, RefusesResume, RefusesDocument, RefusesMake, RefusesDerive}
-use Rattle.ats_run.specs.Deriving.{derived, HasTooManyRings}
+use Rattle.ats_run.specs.Command.{Comes}
 use Rattle.document_generator.specs.Generated.{generated}
-use Rattle.ats_run.specs.Generating.{full_budget}
-use Rattle.ats_run.specs.Making.{MakesNone, tables_in, table_in}
+use Rattle.ats_answers.specs.Making.{full_budget}
 use Rattle.ats_run.specs.Orders.{Reads, OnInput}
-use Rattle.ats_run.specs.Repairing.{RepairsNone, FailsToRepair}
 use Rattle.ats_run.specs.Serving.{SourceSeen, SinkSeen, Serves}
-use Rattle.ats_run.specs.Starting.{IsBadStart}
+use Rattle.ats_answers.proofs.Outside.{IsOutside, never_no_doc, never_unmade, never_underived, never_repaired, never_unchecked, never_unverified, never_unresumed}
 use Rattle.ats_run.proofs.Reading.{on_input, of_bytes}
-
--- a failure of words or devices
-abbrev IsOutside : Failure → Type 0
-IsOutside e = (e ≡ failure.Words) ⊎ (e ≡ failure.ReadFault) ⊎ (e ≡ failure.WriteFault) ⊎ (e ≡ failure.TooLong)
-
--- what fails for each of them
-outside : (P : Failure → Type 0) → (P failure.Words → ⊥) → (P failure.ReadFault → ⊥) → (P failure.WriteFault → ⊥) → (P failure.TooLong → ⊥)
-    → (e : Failure) → IsOutside e → P e → ⊥
-outside P words read write long e o h = elim o [
-  | inl is ↦ words (subst P is h)
-  | inr (inl is) ↦ read (subst P is h)
-  | inr (inr (inl is)) ↦ write (subst P is h)
-  | inr (inr (inr is)) ↦ long (subst P is h)
-]
-
-never_no_doc : (input : List ℕ) (e : Failure) → IsOutside e → RefusesDocument input e → ⊥
-never_no_doc input e o h = outside (RefusesDocument input) (λ n. let is = n.1 in cc) (λ n. let is = n.1 in cc) (λ n. let is = n.1 in cc) (λ n. let is = n.1 in cc) e o h
-
-never_underived : (input : List ℕ) (most budget : ℕ) (e : Failure) → IsOutside e → RefusesDerive input most budget e → ⊥
-never_underived input most budget e o (inl none) = never_no_doc input e o none
-never_underived input most budget e o (inr h) = elim h.2 [
-  | inl many ↦
-      outside (HasTooManyRings most (table_at h.0 many.table) many.table) (λ n. let is = n.0 in cc) (λ n. let is = n.0 in cc) (λ n. let is = n.0 in cc) (λ n. let is = n.0 in cc) e o
-      many.many
-  | inr (inl bad) ↦
-      outside (IsBadStart (table_in (derived h.0 most) 0) h.0.start) (λ n. let is = n.1 in cc) (λ n. let is = n.1 in cc) (λ n. let is = n.1 in cc) (λ n. let is = n.1 in cc) e o
-      bad.1
-  | inr (inr none) ↦
-      outside (MakesNone (table_in (derived h.0 most) none.2.table) none.2.table budget) (λ n. n) (λ n. n) (λ n. n) (λ n. n) e o none.2.none
-]
-
-never_unrepaired : (D : Doc) (budget rounds : ℕ) (e : Failure) → IsOutside e → FailsToRepair D budget rounds e → ⊥
-never_unrepaired D budget rounds e o h = elim h [
-  | inl c ↦ outside (λ f. f ≡ failure.Connected c.table) (λ n. cc) (λ n. cc) (λ n. cc) (λ n. cc) e o c.told
-  | inr (inl u) ↦ outside (RepairsNone (table_at D u.table) u.table budget rounds) (λ n. n) (λ n. n) (λ n. n) (λ n. n) e o u.none
-  | inr (inr s) ↦ outside (IsBadStart s.1.table D.start) (λ n. let is = n.1 in cc) (λ n. let is = n.1 in cc) (λ n. let is = n.1 in cc) (λ n. let is = n.1 in cc) e o s.1.start
-]
-
-never_unmade : (input : List ℕ) (b : ℕ) (e : Failure) → IsOutside e → RefusesMake input b e → ⊥
-never_unmade input b e o h = elim h [ inl none ↦ never_no_doc input e o none | inr none ↦ outside (MakesNone (table_in (tables_in none.0) none.2.table) none.2.table b) (λ n. n) (λ n. n) (λ n. n) (λ n. n) e o none.2.none ]
 
 -- no command comes to a failure of words or devices
 never : (order : Order) (input : List ℕ) (e : Failure) → IsOutside e → Comes order input (Err e) → ⊥
-never (Run w r k) input e o h = outside (RefusesCheck input) (λ n. n) (λ n. n) (λ n. n) (λ n. n) e o h
-never (Resume w r k) input e o h = outside (RefusesResume input) (λ n. n.2) (λ n. n.2) (λ n. n.2) (λ n. n.2) e o h
-never Check input e o h = outside (RefusesCheck input) (λ n. n) (λ n. n) (λ n. n) (λ n. n) e o h
-never Verify input e o h = outside (RefusesVerify input) (λ n. n.2) (λ n. n.2) (λ n. n.2) (λ n. n.2) e o h
+never (Run w r k) input e o h = never_unchecked input e o h
+never (Resume w r k) input e o h = never_unresumed input e o h
+never Check input e o h = never_unchecked input e o h
+never Verify input e o h = never_unverified input e o h
 never Migrate input e o h = never_no_doc input e o h
 never (Make b) input e o h = never_unmade input b e o h
 never (Derive m b) input e o h = never_underived input m b e o h
-never (Repair b r) input e o h = elim h [ inl none ↦ never_no_doc input e o none | inr un ↦ never_unrepaired un.0 b r e o un.2 ]
-never Simulate input e o h = outside (RefusesCheck input) (λ n. n) (λ n. n) (λ n. n) (λ n. n) e o h
+never (Repair b r) input e o h = never_repaired input b r e o h
+never Simulate input e o h = never_unchecked input e o h
 never (Generate s n) input e o h = never_unmade (generated s n) full_budget e o h
 never (Drill s n w) input e o h = never_unmade (generated s n) full_budget e o h
-never (Weave s k) input e o h = outside (RefusesCheck input) (λ n. n) (λ n. n) (λ n. n) (λ n. n) e o h
+never (Weave s k) input e o h = never_unchecked input e o h
 
 -- what a command comes to on the bytes that were read is the cause of the end of its call
 pub answered : (call : Call) (order : Order) (bytes : List ℕ) (e : Failure) → call.order ≡ Some order → IsOrderOf call order

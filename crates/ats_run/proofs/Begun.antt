@@ -15,19 +15,19 @@ use Rattle.shared_run.specs.Crews.{IsCrew}
 use Rattle.document_json.specs.Doc.{Doc, IsDoc, offers_of, names_of}
 use Rattle.document_json.specs.Reading.{doc_of}
 use Rattle.document_json.proofs.Offered.{legal_start}
-use Rattle.ats_run.specs.declared.failure.Failure.{Failure}
-use Rattle.ats_run.specs.declared.failure.Failure.TheVariants.{Memory as NoMemory}
+use Rattle.ats_answers.specs.declared.failure.Failure.{Failure}
+use Rattle.ats_answers.specs.declared.failure.Failure.TheVariants.{Memory as NoMemory}
 use Rattle.accepted_documents.specs.declared.accepting.Checked.{Checked}
 use Rattle.ats_run.specs.declared.tasks.Begun.{Begun}
 use Rattle.ats_run.specs.declared.tasks.Printout.TheVariants as printout
 use Rattle.ats_run.specs.declared.tasks.Task.{Task}
 use Rattle.ats_run.specs.declared.tasks.Task.TheVariants.{Goes, Printed}
 use Rattle.accepted_documents.specs.Accepting.{AreAccepted}
-use Rattle.ats_run.specs.Checking.{nodes_below}
+use Rattle.ats_answers.specs.Checking.{nodes_below}
 use Rattle.ats_run.specs.Command.{Comes, IsRunInput, IsResumedInput}
-use Rattle.ats_run.specs.Generating.{IsDrilled}
+use Rattle.ats_run.specs.Drilling.{IsDrilled}
 use Rattle.ats_run.specs.Headline.{Ends, plain_after}
-use Rattle.ats_run.specs.Journals.{IsCutAt, document_part, journal_part}
+use Rattle.ats_answers.specs.Journals.{IsCutAt, document_part, journal_part}
 use Rattle.ats_run.specs.Orders.{crew_in}
 use Rattle.ats_run.specs.Tasks.{EndsWith, LeadsTo, TaskLeads, IsPrinted}
 use Rattle.ats_run.proofs.Drilled.{drilled}

@@ -5,12 +5,12 @@ use Rattle.ats_words.specs.declared.orders.Order.TheVariants.{Check, Verify, Gen
 use Rattle.document_shapes.specs.declared.refused.ShapeRefused.TheVariants.{NotJson}
 use Rattle.document_json.specs.declared.refused.DocRefused.TheVariants.{Shape}
 use Rattle.document_json.specs.Reading.{doc_of}
-use Rattle.ats_run.specs.declared.failure.Failure.TheVariants.{Words, Memory, ReadFault, WriteFault, TooLong, Document, NoJournal}
-use Rattle.ats_run.specs.declared.status.Status.TheVariants as status
+use Rattle.ats_answers.specs.declared.failure.Failure.TheVariants.{Words, Memory, ReadFault, WriteFault, TooLong, Document, NoJournal}
+use Rattle.ats_answers.specs.declared.status.Status.TheVariants as status
 use Rattle.ats_run.specs.Causes.{Call, IsCause, TellsCause, most_bytes}
 use Rattle.ats_run.specs.Command.{Comes}
 use Rattle.ats_run.specs.Orders.{Reads, OnInput}
-use Rattle.ats_run.proofs.CutRows.{is_cut, no_cut}
+use Rattle.ats_answers.proofs.CutRows.{is_cut, no_cut}
 
 no_document : (input : List ℕ) → doc_of input ≡ Err (Shape NotJson) → Comes Check input (Err (Document (Shape NotJson)))
 no_document input refused = refused

@@ -8,8 +8,8 @@ use Rattle.document_json.specs.Doc.{Doc, IsDoc, offers_of, names_of}
 use Rattle.shared_run.specs.declared.crews.Crew.{Crew}
 use Rattle.ats_run.specs.Headline.{Ends, plain_after}
 use Rattle.accepted_documents.specs.Accepting.{AreAccepted}
-use Rattle.ats_run.specs.Checking.{nodes_below}
-use Rattle.ats_run.specs.Generating.{IsDrilled, IsDrillLine, drill_text}
+use Rattle.ats_answers.specs.Checking.{nodes_below}
+use Rattle.ats_run.specs.Drilling.{IsDrilled, IsDrillLine, drill_text}
 use Rattle.ats_run.proofs.OneTable.{all_moves, none_exchanged}
 use Rattle.ats_run.proofs.Runs.{runs}
 

@@ -1,31 +1,29 @@
 -- A drill runs the generated document; what it counts is the run of the document with the certificates that are made for it.
-use Rattle.std.proofs.Common.{◌≡◌, ◌∙◌, ℕ, ◌<◌, ◌≤◌, List, [], ◌∷◌, length, map, refl, sym, ap, subst, arith}
+use Rattle.std.proofs.Common.{◌≡◌, ◌∙◌, ℕ, ◌≤◌, List, [], ◌∷◌, length, map, refl, sym, ap, subst, arith}
 use Rattle.std.specs.Prelude.{Ok}
 use Rattle.rail_model.specs.Certificate.{Tree}
 use Rattle.rail_model.specs.Journal.{IsRight, IsDone}
-use Rattle.rail_model.specs.Move.{Live}
 use Rattle.rail_model.specs.Plain.{Plain}
 use Rattle.rail_model.specs.Yard.{Offer}
-use Rattle.rail_model.proofs.Sound.{live}
 use Rattle.plain_yard.specs.Keeps.{Keeps}
 use Rattle.shared_run.specs.declared.crews.Crew.{Crew}
 use Rattle.shared_run.specs.Shared.{setup, IsAddedBy}
 use Rattle.document_generator.specs.Generated.{generated}
-use Rattle.document_json.specs.Doc.{Doc, DocTable, table_at, offers_of}
+use Rattle.document_json.specs.Doc.{Doc, DocTable, offers_of}
 use Rattle.document_json.specs.Reading.{doc_of}
 use Rattle.document_json.specs.Replaced.{each_with, recertified, certified}
-use Rattle.document_json.specs.Trees.{tree_at}
 use Rattle.document_json.specs.Written.{written}
 use Rattle.document_json.proofs.FormedDoc.{read-is-formed}
 use Rattle.ats_run.specs.Command.{IsDrilledInput}
-use Rattle.ats_run.specs.Generating.{full_budget}
+use Rattle.ats_answers.specs.Making.{full_budget, tables_in, AreMade}
 use Rattle.ats_run.specs.Headline.{Ends, plain_after}
-use Rattle.ats_run.specs.Making.{tables_in, AreMade}
 use Rattle.ats_run.specs.Tasks.{LeadsTo}
 use Rattle.ats_run.specs.declared.tasks.Printout.TheVariants.{Counts}
 use Rattle.ats_run.proofs.Begun.{begun_keeps, drill_leads}
-use Rattle.ats_run.proofs.Generated.{has_one_table, accepts_made, reads_back, drilled_input}
-use Rattle.ats_run.proofs.Made.{table_count, table_of_doc}
+use Rattle.ats_answers.proofs.Generated.{has_one_table, accepts_made, reads_back}
+use Rattle.ats_answers.proofs.Made.{table_count}
+use Rattle.ats_run.specs.Drilling.{IsDrilled}
+use Rattle.ats_answers.proofs.AcceptedText.{made_text}
 
 -- with other certificates the same tables are offered
 offers_stay : (ts : List DocTable) (cs : List Tree) → length cs ≡ length ts
@@ -45,14 +43,19 @@ ends_so D trees crew from end same ends = record {
   done = subst (λ (os : List Offer). IsDone os end.yard) (sym same) ends.done;
 }
 
--- each table for which a certificate is made is live
-pub made_live : (D : Doc) (budget : ℕ) (trees : List Tree) → AreMade (tables_in D) budget trees → (t : ℕ) → t < length D.tables → Live (table_at D t)
-made_live D budget trees made t lt =
-    subst Live (table_of_doc D t lt) (live _ (tree_at trees t) (made.accepted t (omega (arith, lt, table_count D))))
-
 module _ (crew : Crew) (seed trains : ℕ) (few : trains ≤ 32) (D : Doc) (is : doc_of (generated seed trains) ≡ Ok D) (trees : List Tree) (made : AreMade (tables_in D) full_budget trees) where
+  -- what a run of the document with these certificates prints is the line of the drill
+  drilled_input : (line : List ℕ) → IsDrilled (certified D trees) crew line → IsDrilledInput crew (generated seed trains) line
+  drilled_input line h =
+      let E = certified D trees in
+      let again = reads_back seed trains few D is trees made in (
+        written E,
+        (D, is, (trees, made, made_text D E full_budget trees (written E) (omega arith) made refl refl again)),
+        (E, again, h),
+      )
+
   -- from the start, what is counted of the end is what the drill comes to
-  drill_from : (from : Plain) → from ≡ plain_after D [] → LeadsTo crew Counts (λ line. IsDrilledInput crew (generated seed trains) line) D trees from
+  pub drill_from : (from : Plain) → from ≡ plain_after D [] → LeadsTo crew Counts (λ line. IsDrilledInput crew (generated seed trains) line) D trees from
   drill_from from begun =
       let E = certified D trees in
       let same : offers_of E ≡ offers_of D = offers_stay D.tables trees (made.one_each ∙ table_count D) in
@@ -64,14 +67,6 @@ module _ (crew : Crew) (seed trains : ℕ) (few : trains ≤ 32) (D : Doc) (is :
         keeps = begun_keeps D from doc begun;
         few = made.one_each ∙ table_count D;
         leads = λ end line ends keeps printed.
-            drilled_input seed trains few D is trees made E refl crew line
+            drilled_input line
             (drill.leads end line (ends_so D trees crew from end same ends) (subst (λ (os : List Offer). Keeps os end.yard end.lines) (sym same) keeps) printed);
       }
-
-  -- of the same document and certificates
-  pub drill_begins : (F : Doc) (certs : List Tree) (from : Plain) → F ≡ D → certs ≡ trees → from ≡ plain_after F []
-      → LeadsTo crew Counts (λ line. IsDrilledInput crew (generated seed trains) line) F certs from
-  drill_begins F certs from document are begun =
-      subst (λ (E : Doc). LeadsTo crew Counts (λ line. IsDrilledInput crew (generated seed trains) line) E certs from) (sym document)
-      (subst (λ (cs : List Tree). LeadsTo crew Counts (λ line. IsDrilledInput crew (generated seed trains) line) D cs from) (sym are)
-      (drill_from from (begun ∙ ap (λ (E : Doc). plain_after E []) document)))

@@ -16,8 +16,8 @@ use Rattle.document_json.specs.Doc.{Doc, IsDoc, offers_of, names_of}
 use Rattle.document_json.proofs.Offered.{legal_start}
 use Rattle.accepted_documents.specs.Accepting.{AreAccepted}
 use Rattle.ats_run.specs.Headline.{IsRun, Ends}
-use Rattle.ats_run.specs.Journals.{IsResumed}
-use Rattle.ats_run.proofs.Runs.{goes_on_well}
+use Rattle.ats_run.specs.Resuming.{IsResumed}
+use Rattle.ats_answers.proofs.GoingOn.{goes_on_well}
 
 -- the text of a whole journal is that of a run
 run_of_whole : (D : Doc) (trees : List Tree) (J : Journal) (written : List ℕ) → IsDoc D → AreAccepted D trees → IsWhole (offers_of D) (opening D.start) J

@@ -10,8 +10,8 @@ use Rattle.document_json.proofs.FormedDoc.{read-is-formed}
 use Rattle.shared_run.specs.Crews.{crew_of}
 use Rattle.ats_run.specs.Command.{Comes}
 use Rattle.ats_run.specs.Headline.{IsRun, IsRoundRobin, Ends, plain_after}
-use Rattle.ats_run.specs.Journals.{IsCutAt, document_part, journal_part}
-use Rattle.ats_run.proofs.Runs.{goes_on_well}
+use Rattle.ats_answers.specs.Journals.{IsCutAt, document_part, journal_part}
+use Rattle.ats_answers.proofs.GoingOn.{goes_on_well}
 use Rattle.accepted_documents.proofs.Samples.{good, trees, accepted}
 use Rattle.accepted_documents.proofs.JournalRows.{legal_at, line, lines, done, journal, whole, run_text, is_text, nothing, is_front}
 

@@ -9,14 +9,13 @@ use Rattle.shared_run.specs.Crews.{crew_of}
 use Rattle.ats_run.specs.Causes.{IsServed}
 use Rattle.accepted_documents.specs.Accepting.{IsDocWith}
 use Rattle.ats_run.specs.Command.{Comes, IsRunInput, IsAnyDrill}
-use Rattle.ats_run.specs.Complete.{IsAcceptedInput}
-use Rattle.ats_run.specs.Generating.{full_budget}
+use Rattle.ats_answers.specs.Suited.{IsAcceptedInput}
 use Rattle.ats_run.specs.Headline.{IsRun, IsRoundRobin}
-use Rattle.ats_run.specs.Making.{trees_in}
+use Rattle.ats_answers.specs.Making.{full_budget, trees_in}
 use Rattle.ats_run.specs.Orders.{OnInput, MakesCertificates, drill_crew}
 use Rattle.document_generator.specs.Generated.{generated}
 use Rattle.ats_run.proofs.Drilled.{any_drill}
-use Rattle.ats_run.proofs.AcceptedText.{accepted_input, made_input}
+use Rattle.ats_answers.proofs.AcceptedText.{accepted_input, made_input}
 use Rattle.ats_run.proofs.Reading.{if_weaker, on_weaker}
 
 -- a document whose tables accept their certificates

@@ -6,10 +6,11 @@ use Rattle.document_generator.specs.Generated.{generated}
 use Rattle.rail_model.specs.Yard.{opening}
 use Rattle.shared_run.specs.declared.crews.Crew.{Crew}
 use Rattle.shared_run.specs.Crews.{crew_of}
-use Rattle.ats_run.specs.declared.status.Status.{Status}
-use Rattle.ats_run.specs.declared.status.Status.TheVariants.{Done}
+use Rattle.ats_answers.specs.declared.status.Status.{Status}
+use Rattle.ats_answers.specs.declared.status.Status.TheVariants.{Done}
 use Rattle.accepted_documents.specs.Accepting.{IsDocWith}
-use Rattle.ats_run.specs.Complete.{IsAcceptedInput, IsGoodInput}
+use Rattle.ats_answers.specs.Suited.{IsAcceptedInput}
+use Rattle.ats_run.specs.Complete.{IsGoodInput}
 use Rattle.ats_run.specs.Headline.{IsRun, IsRoundRobin}
 use Rattle.ats_run.specs.Orders.{order_of, OnInput, HoldsInput, MakesCertificates}
 

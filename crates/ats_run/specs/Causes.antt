@@ -3,13 +3,13 @@ use Rattle.std.specs.Prelude.{◌≡◌, ◌⊎◌, ℕ, ◌<◌, ◌≤◌, Lis
 use Rattle.std.specs.Io.KnownBytes.{IsAtEnd}
 use Rattle.ats_io.specs.Bytes.{Adds, AddsPrefix}
 use Rattle.ats_words.specs.declared.orders.Order.{Order}
-use Rattle.ats_run.specs.declared.status.Status.{Status}
-use Rattle.ats_run.specs.declared.failure.Failure.{Failure}
-use Rattle.ats_run.specs.declared.failure.Failure.TheVariants.{Words, Memory, ReadFault, WriteFault, TooLong}
-use Rattle.ats_run.specs.Ending.{status_of}
+use Rattle.ats_answers.specs.declared.status.Status.{Status}
+use Rattle.ats_answers.specs.declared.failure.Failure.{Failure}
+use Rattle.ats_answers.specs.declared.failure.Failure.TheVariants.{Words, Memory, ReadFault, WriteFault, TooLong}
+use Rattle.ats_answers.specs.Ending.{status_of}
 use Rattle.ats_run.specs.Orders.{Reads, OnInput}
 use Rattle.ats_run.specs.Command.{Comes}
-use Rattle.ats_run.specs.Report.{line_of}
+use Rattle.ats_answers.specs.Report.{line_of}
 
 -- the greatest number of bytes of an input
 abbrev pub most_bytes : ℕ

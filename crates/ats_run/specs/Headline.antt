@@ -3,20 +3,15 @@ use Rattle.std.specs.Prelude.{◌≡◌, ◌-◌, ℕ, List, ◌++◌}
 use Rattle.rail_model.specs.declared.types.Line.{Line}
 use Rattle.rail_model.specs.Table.{trains}
 use Rattle.rail_model.specs.State.{Legal}
-use Rattle.rail_model.specs.Move.{Completes}
 use Rattle.rail_model.specs.Certificate.{Tree}
-use Rattle.rail_model.specs.Yard.{Offer, Yard, opening, offer, in_force}
+use Rattle.rail_model.specs.Yard.{Yard, opening, offer, in_force}
 use Rattle.rail_model.specs.Plain.{Plain}
 use Rattle.rail_model.specs.Journal.{Journal, IsRight, IsDone, IsWhole, IsRound, after_lines, text}
 use Rattle.shared_run.specs.declared.crews.Crew.{Crew}
 use Rattle.shared_run.specs.Shared.{setup, IsAddedBy}
 use Rattle.document_json.specs.Doc.{Doc, offers_of, names_of}
 use Rattle.accepted_documents.specs.Accepting.{AreAccepted}
-
--- From the state after any first lines on, each legal way of going on ends with all trains arrived after exactly the remaining moves.
-abbrev pub GoesOnWell : List Offer → Yard → List Line → Type 0
-GoesOnWell tables y lines = (front later : List Line) → lines ≡ front ++ later
-    → Completes (in_force tables (after_lines y front)) (after_lines y front).positions
+use Rattle.ats_answers.specs.Going.{GoesOnWell}
 
 -- The bytes are the text of one whole journal of the document: from its start, which is legal, until all trains have arrived and each
 -- table was tried, each table with a certificate that it accepts; and from every state on it every way of going on ends well.

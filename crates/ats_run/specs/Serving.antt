@@ -3,8 +3,8 @@ use Rattle.std.specs.Prelude.{◌≡◌, ◌≢◌, ℕ, ◌+◌, List, [], Opti
 use Rattle.ats_io.specs.Bytes.{Adds, AddsPrefix, ConsumesAtMost}
 use Rattle.ats_io.specs.Faults.{Rose}
 use Rattle.ats_words.specs.declared.orders.Order.{Order}
-use Rattle.ats_run.specs.declared.failure.Failure.{Failure}
-use Rattle.ats_run.specs.declared.failure.Failure.TheVariants.{WriteFault}
+use Rattle.ats_answers.specs.declared.failure.Failure.{Failure}
+use Rattle.ats_answers.specs.declared.failure.Failure.TheVariants.{WriteFault}
 use Rattle.ats_run.specs.Causes.{call_of, IsServed, IsCause, most_bytes}
 use Rattle.ats_run.specs.Orders.{Reads}
 

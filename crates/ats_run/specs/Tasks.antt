@@ -12,8 +12,8 @@ use Rattle.ats_run.specs.declared.tasks.Printout.{Printout}
 use Rattle.ats_run.specs.declared.tasks.Printout.TheVariants.{Journal, Counts}
 use Rattle.ats_run.specs.declared.tasks.Task.{Task}
 use Rattle.ats_run.specs.declared.tasks.Task.TheVariants.{Goes, Printed}
-use Rattle.ats_run.specs.Checking.{nodes_below}
-use Rattle.ats_run.specs.Generating.{drill_text}
+use Rattle.ats_answers.specs.Checking.{nodes_below}
+use Rattle.ats_run.specs.Drilling.{drill_text}
 use Rattle.ats_run.specs.Headline.{Ends, plain_after}
 
 -- The bytes are what is printed of a run's end: the text of its journal, or its counts.

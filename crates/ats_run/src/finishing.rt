@@ -4,13 +4,13 @@ ghost use Rattle.document_json.specs.Doc.{offers_of};
 ghost use Rattle.plain_yard.specs.Keeps.{Keeps};
 ghost use Rattle.shared_run.specs.Crews.{IsCrew};
 ghost use Rattle.ats_run.specs.Tasks.{EndsWith, Prints};
-ghost use Rattle.ats_run.specs.declared.failure.Failure.TheVariants.{Memory as NoMemory};
+ghost use Rattle.ats_answers.specs.declared.failure.Failure.TheVariants.{Memory as NoMemory};
 
-use crate::Failure;
 use crate::drill::counts_of_run;
 use crate::run::{finish_from, text_of_run};
 use crate::tasks::{Begun, Printout};
 use accepted_documents::Checked;
+use ats_answers::Failure;
 use ats_io::Gate;
 use rail_model::PlainState;
 use shared_run::work;

@@ -2,28 +2,13 @@
 #![tactic(auto)]
 
 mod answer;
-mod check;
-mod checked;
-mod derive;
 mod drill;
-mod failure;
 mod finishing;
-mod generate;
-mod journals;
-mod lines;
-mod make;
-mod migrate;
-mod repair;
 mod resume;
 mod run;
-mod simulate;
-mod starting;
-mod status;
 mod tasks;
 mod top;
-mod verify;
 mod weave;
 
-pub use failure::Failure;
-pub use status::{Status, code};
+pub use ats_answers::{Failure, Status, code};
 pub use top::{ats, refuse, serve_alone};

@@ -2,14 +2,13 @@
 ghost use Rattle.std.specs.Prelude.{◌≡◌, ◌⊎◌, IfOk, IfErr};
 ghost use Rattle.ats_run.specs.Tasks.{IsPrinted, TaskLeads};
 ghost use Rattle.shared_run.specs.Crews.{crew_of};
-ghost use Rattle.ats_run.specs.Command.{IsResumedInput, RefusesResume};
-ghost use Rattle.ats_run.specs.declared.failure.Failure.TheVariants.{Memory as NoMemory};
+ghost use Rattle.ats_run.specs.Command.{IsResumedInput};
+ghost use Rattle.ats_answers.specs.Refusing.{RefusesResume};
+ghost use Rattle.ats_answers.specs.declared.failure.Failure.TheVariants.{Memory as NoMemory};
 
-use crate::Failure;
-use crate::checked::check_document;
-use crate::journals::cut;
 use crate::tasks::{Begun, Printout, Task};
 use accepted_documents::{Replayed, replay_text};
+use ats_answers::{Failure, check_document, cut};
 use shared_run::Crew;
 use std::alloc::Global;
 use std::thread::Threads;

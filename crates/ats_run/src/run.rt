@@ -6,14 +6,14 @@ ghost use Rattle.rail_model.specs.Yard.{offer};
 ghost use Rattle.rail_model.specs.Journal.{IsDone, text as text_of, with_counts};
 ghost use Rattle.plain_yard.specs.Keeps.{Keeps};
 ghost use Rattle.plain_yard.specs.Rounds.{Finishes};
-ghost use Rattle.ats_run.specs.Command.{IsRunInput, RefusesCheck};
+ghost use Rattle.ats_run.specs.Command.{IsRunInput};
+ghost use Rattle.ats_answers.specs.Refusing.{RefusesCheck};
 ghost use Rattle.ats_run.specs.Tasks.{TaskLeads};
 ghost use Rattle.shared_run.specs.Crews.{crew_of};
-ghost use Rattle.ats_run.specs.declared.failure.Failure.TheVariants.{Memory as NoMemory};
+ghost use Rattle.ats_answers.specs.declared.failure.Failure.TheVariants.{Memory as NoMemory};
 
-use crate::Failure;
-use crate::checked::check_document;
 use crate::tasks::{Printout, Task, task_at_start};
+use ats_answers::{Failure, check_document};
 use cert_checker::Accepted;
 use document_json::Frame;
 use move_journal::{Journal, text};

@@ -11,12 +11,11 @@ ghost use Rattle.ats_run.specs.Causes.{call_of, IsReadWhole, IsServed, IsUnread,
 ghost use Rattle.ats_run.specs.Command.{IsRunInput, IsAnyDrill};
 ghost use Rattle.ats_run.specs.Complete.{IsDoneOrMemory};
 ghost use Rattle.ats_run.specs.Orders.{Reads, OnInput, IsAlone};
-ghost use Rattle.ats_run.specs.Report.{line_of as line_of_failure, IsLineMade};
+ghost use Rattle.ats_answers.specs.Report.{line_of as line_of_failure, IsLineMade};
 ghost use Rattle.ats_run.specs.Serving.{Serves, source_seen, sink_seen};
 
 use crate::answer::{answer_alone, answer_by};
-use crate::lines::{NO_MEMORY, fixed_line, line_of};
-use crate::{Failure, Status};
+use ats_answers::{Failure, NO_MEMORY, Status, fixed_line, line_of};
 use ats_io::{Gate, ReadAll, Sink, Source, WriteFault, read_all, write_all};
 use ats_words::{Order, WordsRefused, words};
 use std::alloc::Global;

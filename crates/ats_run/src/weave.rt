@@ -1,27 +1,17 @@
 // A run that begins with drawn turns of its trains and its control, as text.
-ghost use Rattle.std.specs.Prelude.{◌≡◌, ◌⊎◌, ◌≤◌, [], IfOk, IfErr};
-ghost use Rattle.rail_model.specs.Yard.{opening, IsHistory};
-ghost use Rattle.zone_machine.specs.Sound.{Sound};
-ghost use Rattle.zone_machine.specs.Weave.{plain_of};
-ghost use Rattle.document_generator.specs.Draws.{drawn_of};
-ghost use Rattle.document_json.specs.Doc.{IsDoc, offers_of};
+ghost use Rattle.std.specs.Prelude.{◌≡◌, ◌⊎◌, ◌≤◌, IfOk, IfErr};
+ghost use Rattle.document_json.specs.Doc.{offers_of};
 ghost use Rattle.accepted_documents.specs.Accepting.{AreAccepted, IsDocWith};
-ghost use Rattle.ats_run.specs.Command.{RefusesCheck};
+ghost use Rattle.ats_answers.specs.Refusing.{RefusesCheck};
+ghost use Rattle.ats_answers.specs.Weaving.{IsWoven};
+ghost use Rattle.ats_answers.specs.declared.failure.Failure.TheVariants.{Memory as NoMemory};
 ghost use Rattle.ats_run.specs.Headline.{IsRun};
-ghost use Rattle.ats_run.specs.Weaving.{IsWoven, after_turn, core_of, drawn_actor as actor_of_draw, drawn_world, woven};
-ghost use Rattle.ats_run.specs.declared.failure.Failure.TheVariants.{Memory as NoMemory};
 
-use crate::Failure;
-use crate::checked::check_document;
 use crate::run::{finish_from, text_of_run};
 use accepted_documents::Checked;
-use cert_checker::Accepted;
-use document_generator::Draws;
-use document_json::Frame;
-use rail_model::{HasTable, PlainState, trains_of};
-use std::alloc::{AllocError, Global};
+use ats_answers::{Failure, check_document, state_after};
+use std::alloc::Global;
 use std::thread::Threads;
-use zone_machine::{CONTROL, Core};
 
 /// The text of the journal of a document's run that begins with this number of drawn turns.
 pub fn weave(
@@ -58,60 +48,4 @@ fn weave_checked(
     let state = state_after(alloc, &checked.doc, &checked.tables, seed, turns)?;
     let end = finish_from(&checked.doc, &checked.tables, state)?;
     Ok(text_of_run(alloc, &checked.doc, end)?)
-}
-
-// The state and the lines after the drawn turns.
-fn state_after(
-    alloc: Global,
-    doc: &Frame,
-    tables: &[Accepted],
-    seed: u32,
-    turns: u32,
-) -> Result<PlainState, AllocError>
-    requires tables { tables.now ≡ offers_of doc.now }
-    requires few { turns ≤ 1000000 }
-    ensures formed { IsDoc doc.now }
-    ensures plain { IfOk result (λ state. state ≡ plain_of (core_of doc.now turns) [] (woven doc.now seed turns)) }
-    ensures legal { IfOk result (λ _. IsHistory (offers_of doc.now) (opening doc.now.start) (woven doc.now seed turns).history) }
-{
-    let mut core = Core::new(alloc, doc.layout(), tables, doc.start(), u64::from(turns))?;
-    make_turns(&mut core, trains_of(tables[0].table()), seed, turns);
-    core.plain(alloc)
-}
-
-// Makes a number of turns, each of the actor that is drawn.
-fn make_turns<A: HasTable>(core: &mut Core<'_, A>, trains: u32, seed: u32, turns: u32)
-    requires trains { trains ≤ 32 }
-    requires sound { Sound core.old.setup core.old.world }
-    ensures setup { core.new.setup ≡ core.old.setup }
-    ensures world { core.new.world ≡ drawn_world core.old.setup trains turns (drawn_of seed) core.old.world }
-    ensures sound { Sound core.new.setup core.new.world }
-{
-    let mut draws = Draws::new(seed);
-    for _turn in 0..turns {
-        let actor = drawn_actor(trains, draws.draw());
-        make_turn(core, actor);
-    }
-}
-
-// Whom a drawn number means: a train, or after the last of them the control.
-fn drawn_actor(trains: u32, drawn: u32) -> u32
-    requires { trains ≤ 32 }
-    ensures { result ≡ actor_of_draw trains drawn }
-{
-    let actor = drawn % (trains + 1);
-    if actor == trains { CONTROL } else { actor }
-}
-
-// Makes an actor's next step, where it has one.
-fn make_turn<A: HasTable>(core: &mut Core<'_, A>, actor: u32)
-    requires { Sound core.old.setup core.old.world }
-    ensures setup { core.new.setup ≡ core.old.setup }
-    ensures world { core.new.world ≡ after_turn core.old.setup actor core.old.world }
-    ensures sound { Sound core.new.setup core.new.world }
-{
-    if let Some(step) = core.next(actor) {
-        // A step that isn't allowed changes nothing.
-        let _ = core.step(actor, step);
-    }
 }

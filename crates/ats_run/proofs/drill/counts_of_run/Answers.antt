@@ -1,6 +1,6 @@
 use Rattle.std.proofs.Common.{◌<◌, ◌^◌, List, length, sym, subst}
 use Rattle.rail_model.specs.declared.types.Line.{Line}
-use Rattle.ats_run.proofs.Runs.{few_lines}
+use Rattle.ats_answers.proofs.GoingOn.{few_lines}
 use Rattle.ats_run.proofs.drill.counts_of_run.Goals as goal
 
 pub from_lines-journal-requires : goal.from_lines-journal-requires

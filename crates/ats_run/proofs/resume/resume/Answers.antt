@@ -2,13 +2,14 @@ use Rattle.std.proofs.Common.{◌≡◌, ◌⊎◌, refl, sym, subst}
 use Rattle.std.specs.Prelude.{IfErr}
 use Rattle.std.proofs.lemmas.Result.{IfOk-weaker, err_from_is_err_and}
 use Rattle.accepted_documents.specs.Replaying.{IsReplay}
-use Rattle.ats_run.specs.declared.failure.Failure.{Failure}
-use Rattle.ats_run.specs.declared.failure.Failure.TheVariants.{Memory as NoMemory}
-use Rattle.ats_run.specs.Command.{IsResumedInput, RefusesResume}
+use Rattle.ats_answers.specs.declared.failure.Failure.{Failure}
+use Rattle.ats_answers.specs.declared.failure.Failure.TheVariants.{Memory as NoMemory}
+use Rattle.ats_run.specs.Command.{IsResumedInput}
+use Rattle.ats_answers.specs.Refusing.{RefusesResume}
 use Rattle.shared_run.specs.Crews.{crew_of}
 use Rattle.ats_run.proofs.Begun.{front_leads, printed_leads}
 use Rattle.ats_run.proofs.Inputs.{resumed_input}
-use Rattle.ats_run.proofs.PairFaults.{resume_refused}
+use Rattle.ats_answers.proofs.PairFaults.{resume_refused}
 use Rattle.ats_run.proofs.Resumed.{resumed_whole}
 use Rattle.ats_run.proofs.resume.resume.Goals as goal
 

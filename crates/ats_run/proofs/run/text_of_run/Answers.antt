@@ -5,7 +5,7 @@ use Rattle.rail_model.specs.Names.{Names}
 use Rattle.rail_model.specs.Journal.{Journal}
 use Rattle.move_journal.specs.Printable.{IsNamed}
 use Rattle.document_json.specs.Doc.{names_of}
-use Rattle.ats_run.proofs.Runs.{few_lines, named_lines}
+use Rattle.ats_answers.proofs.GoingOn.{few_lines, named_lines}
 use Rattle.ats_run.proofs.run.text_of_run.Goals as goal
 
 pub from_lines-requires : goal.from_lines-requires

@@ -1,0 +1,15 @@
+pub mod Certificates
+pub mod Checking
+pub mod Deriving
+pub mod Ending
+pub mod Going
+pub mod Journals
+pub mod Making
+pub mod Migrating
+pub mod Refusing
+pub mod Repairing
+pub mod Report
+pub mod Simulating
+pub mod Starting
+pub mod Suited
+pub mod Weaving

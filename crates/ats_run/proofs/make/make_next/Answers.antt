@@ -1,4 +1,0 @@
-use Rattle.ats_run.proofs.make.make_next.Goals as goal
-
-pub returns-clause-part : goal.returns-clause-part
-returns-clause-part c = (c.in_ok-cert.cert, c.in_ok-push.ensures.items, c.in_ok-cert.ensures.made, c.in_ok-cert.ensures.accepted)
