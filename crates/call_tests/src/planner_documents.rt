@@ -9,6 +9,24 @@ A circle: T0 waits for T1. T1 waits for T0.
 No train can move, so the state is stuck. The sections of table 0 allow it, whether or not trains can come to it from the start.
 A section keeps it out: write one that these places overfill, or let planner protect make one.
 ====
+explain|--at|1,1
+{"version":1,"points":[["A",0],["M",0],["N",0],["B",0],["C",0],["K",0],["D",0]],"links":[["A","M"],["M","N"],["N","B"],["C","N"],["N","K"],["K","D"]],"zones":1,"trains":["T0","T1"],"start":[0,0],"tables":[{"missions":[["A","M","N","B"],["C","N","K","D"]],"sections":[{"limit":1,"changes":[[0,1,-1,0],[0,0,1,-1]]}],"certificate":[]}]}
+----
+T0 is at M, place 1 of 3, and wants N: T1 is there
+T1 is at N, place 1 of 3, and wants K: section 0 has no room for 1 more, 1 of 1 are taken; T0 has 1
+A knot: T0 waits for T1. T1 waits for section 0; T0 has 1. None of them can ever move.
+No train can move, so the state is stuck. The sections of table 0 allow it, whether or not trains can come to it from the start.
+A section keeps it out: write one that these places overfill, or let planner protect make one.
+====
+explain|--at|0,1
+{"version":1,"points":[["A",0],["B",0],["C",0],["D",0]],"links":[["A","B"],["B","C"],["D","B"]],"zones":1,"trains":["T0","T1"],"start":[0,0],"tables":[{"missions":[["A","B","C"],["D","B"]],"sections":[],"certificate":[]}]}
+----
+T0 is at A, place 0 of 2, and wants B: T1 is there
+T1 is at B, place 1 of 1, and has arrived
+A knot: T0 waits for T1. T1 has arrived and stays. None of them can ever move.
+No train can move, so the state is stuck. The sections of table 0 allow it, whether or not trains can come to it from the start.
+A train of the knot has arrived where it is in the way: it has to come later, or to end elsewhere.
+====
 explain|--at|1,0
 {"version":1,"points":[["A",0],["M",0],["N",0],["B",0],["C",0],["D",0]],"links":[["A","M"],["M","N"],["N","B"],["C","N"],["M","D"]],"zones":1,"trains":["T0","T1"],"start":[0,0],"tables":[{"missions":[["A","M","N","B"],["C","N","M","D"]],"sections":[{"limit":1,"changes":[[0,1,0,-1],[0,1,0,-1]]}],"certificate":[[0,0,0],[0,1,0],[4,0],[0,1,2],[4,1],[4,0],[0,0,2],[0,1,0],[4,0],[0,1,2],[2,0],[4,0],[0,1,2],[4,1],[3]]}]}
 ----

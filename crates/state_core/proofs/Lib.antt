@@ -1,7 +1,9 @@
 pub mod Combined
 pub mod Doomed
+pub mod First
 pub mod FirstStay
 pub mod Holding
+pub mod Leaving
 pub mod Listing
 pub mod OneCombination
 pub mod Rows

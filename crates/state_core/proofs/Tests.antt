@@ -68,10 +68,10 @@ Decides-kept T p group i =
     (Decides-or _ _ (Decides-shut T p group i) (Decides-held_within T p group i))
 
 -- a train of the group that isn't kept
-abbrev IsLoose : Table → List ℕ → List ℕ → ℕ → Type 0
+abbrev pub IsLoose : Table → List ℕ → List ℕ → ℕ → Type 0
 IsLoose T p group i = (IsTrue (has group i) × (place p i < last T i)) × (IsKept T p group i → ⊥)
 
-Decides-loose : (T : Table) (p group : List ℕ) (i : ℕ) → Decides (is_loose T p group i) (IsLoose T p group i)
+pub Decides-loose : (T : Table) (p group : List ℕ) (i : ℕ) → Decides (is_loose T p group i) (IsLoose T p group i)
 Decides-loose T p group i =
     Decides-and _ _ (Decides-and _ _ (itself (has group i)) (Decides-ltb _ _))
     (Decides-not _ (Decides-kept T p group i))

@@ -1,3 +1,5 @@
 pub mod Core
 pub mod Guard
+pub mod Keeper
+pub mod Least
 pub mod Trap

@@ -55,7 +55,7 @@ impl Group {
 }
 
 /// The trains below a number.
-pub(crate) fn all_below(alloc: Global, count: u32) -> Result<Group, AllocError>
+pub fn all_below(alloc: Global, count: u32) -> Result<Group, AllocError>
     ensures { IfOk result (λ group. group ≡ below count) }
 {
     let mut trains = Vec::new(alloc);

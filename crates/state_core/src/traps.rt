@@ -9,7 +9,8 @@ ghost use Rattle.state_core.specs.Trap.{IsPlaced, IsAmong, EndsEarly, IsKeptAtEn
 ghost use Rattle.state_core.specs.Trap.{EachCombination, group_of as trains_of_stays};
 
 use crate::Group;
-use crate::cores::{count_within, is_kept};
+use crate::cores::is_kept;
+use crate::keepers::count_within;
 use forbidden_states::Stay;
 use rail_model::{State, Table, has_point, last_of, limit_of, point_of, sections_of, trains_of};
 use std::alloc::{AllocError, Global};

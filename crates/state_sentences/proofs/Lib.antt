@@ -2,4 +2,5 @@ pub mod Asking
 pub mod Verdicts
 pub mod Walks
 pub mod Joined
+pub mod ToldKnots
 pub mod Rows

@@ -1,5 +1,5 @@
--- The text on a legal state: a sentence for each train, the circle, and whether the state is stuck.
-use Rattle.std.specs.Prelude.{◌+◌, ◌==◌, ◌++◌, ◌∷◌, ℕ, zero, suc, pos, int_lt, List, [], length, codes, decimal, flat_map, Option, Some, None, slice_get, if◌then◌else◌}
+-- The words on the trains of a legal state, and on a circle of them.
+use Rattle.std.specs.Prelude.{◌+◌, ◌++◌, ◌∷◌, ℕ, zero, suc, pos, int_lt, List, [], codes, decimal, flat_map, Option, Some, None, slice_get, if◌then◌else◌}
 use Rattle.std.specs.Fmt.{signed_decimal}
 use Rattle.rail_model.specs.declared.types.Ask.{Ask}
 use Rattle.rail_model.specs.declared.types.Ask.TheVariants.{Yes, Arrived as AtEnd, Occupied, Full, Waits}
@@ -8,8 +8,6 @@ use Rattle.rail_model.specs.Table.{Table, Connection, trains, last, limit, chang
 use Rattle.rail_model.specs.Checks.{ask}
 use Rattle.state_sentences.specs.Named.{name_at}
 use Rattle.state_sentences.specs.Circle.{waits_for}
-use Rattle.state_sentences.specs.declared.closing.Verdict.{Verdict}
-use Rattle.state_sentences.specs.declared.closing.Verdict.TheVariants.{Arrived, Going, Stuck}
 
 -- f 0 ++ f 1 ++ .. ++ f (n - 1)
 abbrev pub joined_below : (ℕ → List ℕ) → ℕ → List ℕ
@@ -104,22 +102,3 @@ abbrev pub circle_words : Names → Table → List ℕ → List ℕ → List ℕ
 circle_words N T p [] = []
 circle_words N T p (i ∷ later) =
     codes "A circle:" ++ flat_map (λ k. pair_words N k (waits_for T p k)) (i ∷ later) ++ codes "\n"
-
--- what keeps a stuck state out
-abbrev pub cure_words : Table → List ℕ
-cure_words T =
-    if length T.connections == 0
-    then codes "A section keeps it out: write one that these places overfill, or let planner protect make one.\n"
-    else codes "A section keeps it out: write one that these places overfill. ats repair refuses a table with connections.\n"
-
--- whether the state is stuck, and what keeps it out
-abbrev pub verdict_words : Table → ℕ → Verdict → List ℕ
-verdict_words T t Arrived = codes "All trains have arrived.\n"
-verdict_words T t Going = codes "The state isn't stuck: a train may move.\n"
-verdict_words T t Stuck =
-    codes "No train can move, so the state is stuck. The sections of table " ++ decimal t
-    ++ codes " allow it, whether or not trains can come to it from the start.\n" ++ cure_words T
-
--- the whole text
-abbrev pub explanation : Names → Table → List ℕ → ℕ → List ℕ → Verdict → List ℕ
-explanation N T p t circle verdict = trains_words N T p ++ circle_words N T p circle ++ verdict_words T t verdict

@@ -1,4 +1,7 @@
 pub mod Named
 pub mod Circle
 pub mod Explanation
+pub mod Knot
+pub mod KnotWords
+pub mod Text
 pub mod Tells

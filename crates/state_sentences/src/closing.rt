@@ -1,11 +1,13 @@
 // The last sentences: whether the state is stuck, and what keeps it out.
 ghost use Rattle.std.specs.Prelude.{◌≡◌, ◌++◌, ◌↔◌, IsTrue, OnOk, length, string_bytes};
 ghost use Rattle.rail_model.specs.State.{Arrived};
-ghost use Rattle.state_sentences.specs.Explanation.{cure_words, verdict_words};
+ghost use Rattle.state_sentences.specs.Text.{section_words, cure_words, verdict_words};
 ghost use Rattle.state_sentences.specs.Tells.{HasMove, IsVerdict};
 
 use crate::Scene;
+use crate::knots::has_arrived;
 use rail_model::{Ask, Table, connections_of, last_of};
+use state_core::Group;
 use std::alloc::AllocError;
 
 /// Whether trains can go on from a state.
@@ -53,9 +55,9 @@ pub(crate) fn verdict_of(scene: &Scene) -> Verdict
     }
 }
 
-// Adds what keeps a stuck state out.
-fn write_cure(out: &mut String, table: &Table) -> Result<(), AllocError>
-    ensures { OnOk result (string_bytes out.new ≡ string_bytes out.old ++ cure_words table.now) }
+// Adds that a section keeps a stuck state out.
+fn write_section(out: &mut String, table: &Table) -> Result<(), AllocError>
+    ensures { OnOk result (string_bytes out.new ≡ string_bytes out.old ++ section_words table.now) }
 {
     if connections_of(table) == 0 {
         out.push_str(
@@ -68,14 +70,29 @@ fn write_cure(out: &mut String, table: &Table) -> Result<(), AllocError>
     }
 }
 
+// Adds what keeps a stuck state out.
+fn write_cure(out: &mut String, scene: &Scene, knot: &Group) -> Result<(), AllocError>
+    ensures { OnOk result (string_bytes out.new ≡ string_bytes out.old ++ cure_words scene.now.table.now scene.now.state.now knot.now) }
+{
+    if has_arrived(scene, knot) {
+        out.push_str(
+            "A train of the knot has arrived where it is in the way: it has to come later, or to end elsewhere.\n",
+        )
+    } else {
+        write_section(out, scene.table)
+    }
+}
+
 /// Adds whether the state is stuck, and what keeps it out.
 pub(crate) fn write_verdict(
     out: &mut String,
     scene: &Scene,
+    knot: &Group,
     table: u32,
     verdict: Verdict,
 ) -> Result<(), AllocError>
-    ensures { OnOk result (string_bytes out.new ≡ string_bytes out.old ++ verdict_words scene.now.table.now table verdict) }
+    ensures { OnOk result (string_bytes out.new ≡ string_bytes out.old
+        ++ verdict_words scene.now.table.now scene.now.state.now table knot.now verdict) }
 {
     match verdict {
         Verdict::Arrived => out.push_str("All trains have arrived.\n"),
@@ -85,7 +102,7 @@ pub(crate) fn write_verdict(
                 out,
                 "No train can move, so the state is stuck. The sections of table {table} allow it, whether or not trains can come to it from the start.\n"
             )?;
-            write_cure(out, scene.table)
+            write_cure(out, scene, knot)
         }
     }
 }

@@ -63,8 +63,13 @@ fn write_next(out: &mut String, scene: &Scene, train: u32, place: u32) -> Result
     write_wish(out, wish)
 }
 
-// Adds what a train has of a section, if it has anything of it.
-fn write_holder(out: &mut String, scene: &Scene, section: u32, train: u32) -> Result<(), AllocError>
+/// Adds what a train has of a section, if it has anything of it.
+pub(crate) fn write_holder(
+    out: &mut String,
+    scene: &Scene,
+    section: u32,
+    train: u32,
+) -> Result<(), AllocError>
     requires section { section < length scene.now.table.now.sections }
     requires train { train < trains scene.now.table.now }
     ensures { OnOk result (string_bytes out.new ≡ string_bytes out.old ++ holder_words scene.now.names.now scene.now.table.now scene.now.state.now section train) }

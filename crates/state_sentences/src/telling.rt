@@ -7,7 +7,9 @@ ghost use Rattle.state_sentences.specs.Tells.{Tells};
 use crate::Scene;
 use crate::circles::{first_circle, write_circle};
 use crate::closing::{verdict_of, write_verdict};
+use crate::knots::{knot_of, write_knot};
 use crate::sentences::write_train;
+use state_core::Group;
 use std::alloc::{AllocError, Global};
 
 // Adds the sentence on each train.
@@ -22,15 +24,18 @@ fn write_trains(out: &mut String, scene: &Scene) -> Result<(), AllocError>
 }
 
 /// What is told of a state of the table with this number: a sentence for each train, then the circle of trains that
-/// wait for one another, if there is one, and whether the state is stuck. Each ends with a newline.
+/// wait for one another, if there is one, then the knot, if there is one with other trains, and whether the state is
+/// stuck. Each ends with a newline.
 pub fn text_of(alloc: Global, scene: &Scene, table: u32) -> Result<String, AllocError>
     ensures { IfOk result (λ text. Tells scene.now.names.now scene.now.table.now scene.now.state.now table (string_bytes text)) }
 {
     let circle = first_circle(alloc, scene)?;
+    let knot = knot_of(alloc, scene, &circle)?;
     let verdict = verdict_of(scene);
     let mut text = String::new(alloc);
     write_trains(&mut text, scene)?;
     write_circle(&mut text, scene, &circle)?;
-    write_verdict(&mut text, scene, table, verdict)?;
+    write_knot(&mut text, scene, &Group::from(circle), &knot)?;
+    write_verdict(&mut text, scene, &knot, table, verdict)?;
     Ok(text)
 }

@@ -3,7 +3,7 @@ use Rattle.std.specs.Prelude.{if◌then◌else◌}
 use Rattle.rail_model.specs.Sums.{total_below}
 use Rattle.rail_model.specs.Table.{share, place}
 use Rattle.state_core.specs.Core.{has}
-use Rattle.state_core.proofs.cores.count_within.Given as goal
+use Rattle.state_core.proofs.keepers.count_within.Given as goal
 
 abbrev pub invariant-loop-train : goal.invariant-loop-train
 invariant-loop-train l = record {

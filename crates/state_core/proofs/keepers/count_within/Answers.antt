@@ -4,7 +4,7 @@ use Rattle.std.proofs.lemmas.Int.{ints}
 use Rattle.rail_model.specs.Table.{share, place}
 use Rattle.rail_model.proofs.Sums.{total_next}
 use Rattle.state_core.specs.Core.{has}
-use Rattle.state_core.proofs.cores.count_within.Goals as goal
+use Rattle.state_core.proofs.keepers.count_within.Goals as goal
 
 pub loop-train-preserved : goal.loop-train-preserved
 loop-train-preserved c =
