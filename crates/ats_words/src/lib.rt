@@ -6,5 +6,6 @@ mod orders;
 mod reading;
 mod table;
 
+pub use options::{BUDGET, NumberOption, number};
 pub use orders::{Order, WordsRefused};
 pub use reading::words;
