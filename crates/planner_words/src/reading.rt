@@ -1,16 +1,15 @@
 // Reading the words.
 ghost use Rattle.std.specs.Prelude.{◌≡◌, IfErr, IfNone, IfOk, IfSome, IsSomeAnd, Some, codes, map, string_bytes, true};
-ghost use Rattle.clap.specs.Words.{first_of, found_of, kind_of, rows_of, subcommand_of, subcommand_rows_of, takes};
-ghost use Rattle.planner_words.specs.Answered.{AnswersWords, MissesNone};
+ghost use Rattle.clap.specs.Words.{first_of, found_of, rows_of, subcommand_of, subcommand_rows_of, takes};
+ghost use Rattle.planner_words.specs.Answered.{MissesNone};
 ghost use Rattle.planner_words.specs.Line.{planner};
 ghost use Rattle.planner_words.specs.Named.{AsksFor, IsAsked, IsEffort, table_in, word_of};
 ghost use Rattle.planner_words.specs.declared.orders.Effort as declared;
 
 use crate::asking::command;
 use crate::{Effort, Order, WordsAnswered};
-use ats_words::{BUDGET, NumberOption, number};
-use clap::error::ErrorKind;
-use clap::{ArgMatches, Error};
+use ats_words::{BUDGET, NumberOption, answer_to, number};
+use clap::ArgMatches;
 use decimal_number::number_of;
 use std::alloc::Global;
 
@@ -63,23 +62,6 @@ pub fn words<'a>(alloc: Global, words: &'a [String]) -> Result<Order<'a>, WordsA
     match command.try_get_matches_from(words) {
         Ok(matches) => order_of(alloc, &matches),
         Err(error) => Err(answer_to(alloc, &error)),
-    }
-}
-
-// What is written for words that are no order.
-fn answer_to(alloc: Global, error: &Error) -> WordsAnswered
-    ensures { AnswersWords (kind_of error.now) result }
-{
-    if error.kind() == ErrorKind::OutOfMemory {
-        return WordsAnswered::Memory;
-    }
-    match format!(in alloc; "{error}") {
-        Ok(text) => if error.use_stderr() {
-            WordsAnswered::Refused(text)
-        } else {
-            WordsAnswered::Shown(text)
-        },
-        Err(_) => WordsAnswered::Memory,
     }
 }
 
