@@ -1,3 +1,4 @@
+pub mod Answered
 pub mod Built
 pub mod Options
 pub mod Subcommands

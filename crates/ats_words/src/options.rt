@@ -8,11 +8,11 @@ use decimal_number::number_of;
 
 /// An option: its name, the numbers from `least` to `greatest` that it takes, and the one that it has where it isn't given.
 #[derive(Clone, Copy)]
-pub(crate) struct NumberOption {
-    pub(crate) name: &'static str,
-    least: u32,
-    greatest: u32,
-    default: u32,
+pub struct NumberOption {
+    pub name: &'static str,
+    pub least: u32,
+    pub greatest: u32,
+    pub default: u32,
 }
 
 pub(crate) const WORKERS: NumberOption = NumberOption {
@@ -43,7 +43,8 @@ pub(crate) const STEPS: NumberOption = NumberOption {
     default: 0,
 };
 
-pub(crate) const BUDGET: NumberOption = NumberOption {
+/// How many nodes a certificate has at most.
+pub const BUDGET: NumberOption = NumberOption {
     name: "budget",
     least: 1,
     greatest: 1_000_000,
@@ -78,8 +79,8 @@ pub(crate) const TRAINS: NumberOption = NumberOption {
     default: 2,
 };
 
-/// The number of the option, or its default where it isn't given.
-pub(crate) fn number(matches: &ArgMatches<'_>, option: &NumberOption) -> Option<u32>
+/// The number of the option, or its default where it isn't given; none where what is given is no number in its range.
+pub fn number(matches: &ArgMatches<'_>, option: &NumberOption) -> Option<u32>
     requires not_low { option.now.least ≤ option.now.default }
     requires not_high { option.now.default ≤ option.now.greatest }
     ensures exact { result ≡ spec.number (spec.of option.now) (rows_of (found_of matches.now)) }

@@ -11,30 +11,71 @@ use crate::options::{
 use clap::{Arg, Command};
 use std::alloc::{AllocError, Global};
 
-// The subcommands, each with its options.
-const SUBCOMMANDS: [(&str, &[NumberOption]); 12] = [
-    ("run", &[WORKERS, ROUNDS, BLOCK]),
-    ("resume", &[WORKERS, ROUNDS, BLOCK]),
-    ("check", &[]),
-    ("verify", &[]),
-    ("migrate", &[]),
-    ("make", &[BUDGET]),
-    ("derive", &[MOST, BUDGET]),
-    ("repair", &[BUDGET, REPAIR_ROUNDS]),
-    ("sim", &[]),
-    ("gen", &[SEED, TRAINS]),
-    ("drill", &[SEED, TRAINS, WORKERS]),
-    ("weave", &[SEED, STEPS]),
+// A subcommand, with its options.
+struct Subcommand {
+    name: &'static str,
+    options: &'static [NumberOption],
+}
+
+const SUBCOMMANDS: [Subcommand; 12] = [
+    Subcommand {
+        name: "run",
+        options: &[WORKERS, ROUNDS, BLOCK],
+    },
+    Subcommand {
+        name: "resume",
+        options: &[WORKERS, ROUNDS, BLOCK],
+    },
+    Subcommand {
+        name: "check",
+        options: &[],
+    },
+    Subcommand {
+        name: "verify",
+        options: &[],
+    },
+    Subcommand {
+        name: "migrate",
+        options: &[],
+    },
+    Subcommand {
+        name: "make",
+        options: &[BUDGET],
+    },
+    Subcommand {
+        name: "derive",
+        options: &[MOST, BUDGET],
+    },
+    Subcommand {
+        name: "repair",
+        options: &[BUDGET, REPAIR_ROUNDS],
+    },
+    Subcommand {
+        name: "sim",
+        options: &[],
+    },
+    Subcommand {
+        name: "gen",
+        options: &[SEED, TRAINS],
+    },
+    Subcommand {
+        name: "drill",
+        options: &[SEED, TRAINS, WORKERS],
+    },
+    Subcommand {
+        name: "weave",
+        options: &[SEED, STEPS],
+    },
 ];
 
 /// The whole command.
 pub(crate) fn command<'a>(alloc: Global) -> Result<Command<'a>, AllocError>
     ensures { IfOk result (IsBuiltAs spec.ats) }
 {
-    let subcommands: &[(&str, &[NumberOption])] = &SUBCOMMANDS;
+    let subcommands: &[Subcommand] = &SUBCOMMANDS;
     let mut command = start(alloc);
-    for &(name, options) in subcommands {
-        command = with_subcommand(alloc, command, name, options)?;
+    for subcommand in subcommands {
+        command = with_subcommand(alloc, command, subcommand)?;
     }
     Ok(command)
 }
@@ -50,29 +91,23 @@ fn start<'a>(alloc: Global) -> Command<'a>
         .disable_help_subcommand(true)
 }
 
-// The command with one more subcommand, which has these options.
+// The command with one more subcommand.
 fn with_subcommand<'a>(
     alloc: Global,
     command: Command<'a>,
-    name: &'static str,
-    options: &[NumberOption],
+    subcommand: &Subcommand,
 ) -> Result<Command<'a>, AllocError>
     requires { IsLocal command }
-    ensures { IfOk result (IsBuiltAs (with_subcommand (app_of command.entry) (leaf name.entry.now (map rule_for options.now)))) }
+    ensures { IfOk result (IsBuiltAs (with_subcommand (app_of command.entry) (leaf subcommand.now.name.now (map rule_for subcommand.now.options.now)))) }
 {
-    command.subcommand(leaf(alloc, name, options)?)
+    command.subcommand(leaf(alloc, subcommand)?)
 }
 
-// A subcommand with these options.
-fn leaf<'a>(
-    alloc: Global,
-    name: &'static str,
-    options: &[NumberOption],
-) -> Result<Command<'a>, AllocError>
-    ensures { IfOk result (IsSubcommand (leaf name.entry.now (map rule_for options.now))) }
+fn leaf<'a>(alloc: Global, subcommand: &Subcommand) -> Result<Command<'a>, AllocError>
+    ensures { IfOk result (IsSubcommand (leaf subcommand.now.name.now (map rule_for subcommand.now.options.now))) }
 {
-    let mut command = Command::new(alloc, name);
-    for option in options {
+    let mut command = Command::new(alloc, subcommand.name);
+    for option in subcommand.options {
         command = command.arg(long_option(alloc, option.name))?;
     }
     Ok(command)

@@ -1,14 +1,12 @@
 -- The words of a command line: a document's file or none, or what is shown or said instead.
-use Rattle.std.specs.Prelude.{◌≡◌, ◌≢◌, ◌⊎◌, List, Option, codes, true, Some, string_bytes, ℕ}
+use Rattle.std.specs.Prelude.{◌≡◌, ◌⊎◌, List, Option, codes, true, Some, string_bytes, ℕ}
 use Rattle.clap.specs.Words.{App, Rule, Text, first_of, matches_of, new_app, new_rule, with_rule}
 use Rattle.clap.specs.declared.builder.action.ArgAction.TheVariants.{Set}
-use Rattle.clap.specs.declared.error.ErrorKind.{ErrorKind}
-use Rattle.clap.specs.declared.error.ErrorKind.TheVariants.{DisplayHelp, DisplayVersion, OutOfMemory}
 use Rattle.ats_io.specs.Bytes.{Adds, AddsPrefix}
 use Rattle.dispatch_run.specs.declared.status.Status.{Status}
 use Rattle.dispatch_run.specs.declared.status.Status.TheVariants as status
-use Rattle.dispatch_run.specs.declared.asking.WordsAnswered.{WordsAnswered}
-use Rattle.dispatch_run.specs.declared.asking.WordsAnswered.TheVariants.{Shown, Refused, Memory}
+use Rattle.ats_words.specs.declared.answering.WordsAnswered.{WordsAnswered}
+use Rattle.ats_words.specs.declared.answering.WordsAnswered.TheVariants.{Shown, Refused, Memory}
 use Rattle.dispatch_run.specs.Report.{Tells, no_memory_line}
 
 -- the argument that names the file of a document
@@ -24,16 +22,6 @@ dispatcher =
 -- the file of a document that the words name, or none
 abbrev pub document_in : List Text → Option Text
 document_in words = first_of (codes "document") (matches_of dispatcher words)
-
--- What clap gives an error of this kind for is help or the version.
-abbrev pub IsHelp : ErrorKind → Type 0
-IsHelp kind = (kind ≡ DisplayHelp) ⊎ (kind ≡ DisplayVersion)
-
--- Help and the version are shown, and any other words are refused, unless there was no memory.
-abbrev pub AnswersWords : ErrorKind → WordsAnswered → Type 0
-AnswersWords kind (Shown text) = IsHelp kind
-AnswersWords kind (Refused text) = (IsHelp kind → ⊥) × (kind ≢ OutOfMemory)
-AnswersWords kind Memory = Unit {0}
 
 -- Help and the version are written to `out`; what is wrong with the words to `err`.
 abbrev pub TurnsDown : WordsAnswered → Status → Type 0 → Option (List ℕ) → Option (List ℕ) → Type 0 → Option (List ℕ)

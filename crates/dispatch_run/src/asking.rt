@@ -1,10 +1,10 @@
 // The words of a command line.
 ghost use Rattle.std.specs.Prelude.{◌≡◌, IfOk, map, option_map, string_bytes};
-ghost use Rattle.clap.specs.Words.{app_of, kind_of};
-ghost use Rattle.dispatch_run.specs.Words.{AnswersWords, dispatcher, document_in};
+ghost use Rattle.clap.specs.Words.{app_of};
+ghost use Rattle.dispatch_run.specs.Words.{dispatcher, document_in};
 
-use clap::error::ErrorKind;
-use clap::{Arg, ArgAction, Command, Error};
+use ats_words::{WordsAnswered, answer_to};
+use clap::{Arg, ArgAction, Command};
 use std::alloc::{AllocError, Global};
 
 const ABOUT: &str = "Lets trains go on while they run.
@@ -16,17 +16,6 @@ Where a file of the document is named, standard input begins with the line `jour
 #[derive(Clone, Copy)]
 pub struct Order<'a> {
     pub document: Option<&'a str>,
-}
-
-/// What is answered to words that ask for no session.
-#[derive(Drop)]
-pub enum WordsAnswered {
-    /// Help or the version.
-    Shown(String),
-    /// What is wrong with the words.
-    Refused(String),
-    /// There was no memory.
-    Memory,
 }
 
 // The command as clap takes it.
@@ -62,22 +51,5 @@ pub fn words<'a>(alloc: Global, words: &'a [String]) -> Result<Order<'a>, WordsA
             document: matches.get_str("document"),
         }),
         Err(error) => Err(answer_to(alloc, &error)),
-    }
-}
-
-// What is written for words that ask for no session.
-fn answer_to(alloc: Global, error: &Error) -> WordsAnswered
-    ensures { AnswersWords (kind_of error.now) result }
-{
-    if error.kind() == ErrorKind::OutOfMemory {
-        return WordsAnswered::Memory;
-    }
-    match format!(in alloc; "{error}") {
-        Ok(text) => if error.use_stderr() {
-            WordsAnswered::Refused(text)
-        } else {
-            WordsAnswered::Shown(text)
-        },
-        Err(_) => WordsAnswered::Memory,
     }
 }

@@ -13,7 +13,8 @@ mod status;
 mod telling;
 mod top;
 
-pub use asking::{Order, WordsAnswered, words};
+pub use asking::{Order, words};
+pub use ats_words::WordsAnswered;
 pub use begun::{Begun, begin};
 pub use failure::Failure;
 pub use serving::serve_session;

@@ -15,5 +15,6 @@ pub mod Taken
 pub mod Marked
 pub mod Remade
 pub mod MigratedLemmas
+pub mod MoreSections
 pub mod FormedDoc
 pub mod Offered

@@ -13,6 +13,7 @@ use Rattle.document_json.specs.Reading.{doc_of}
 use Rattle.document_json.specs.Replaced.{each_with, exchanged, new_table, replaced}
 use Rattle.document_json.specs.Written.{written}
 use Rattle.document_json.proofs.FormedDoc.{no_table}
+use Rattle.document_json.proofs.MoreSections.{is_taken}
 use Rattle.document_json.proofs.Remade.{length-each_with, each_with-at}
 use Rattle.reached_states.specs.Reached.{offered}
 use Rattle.order_sections.specs.Found.{HaveSameTrains}
@@ -21,7 +22,6 @@ use Rattle.order_sections.specs.Orders.{AddsOrders, SameOffers, with_more}
 use Rattle.order_sections.proofs.Reaching.{kept_opening, legal_with}
 use Rattle.document_orders.specs.Ordered.{IsOrdered, KeepsTree, new_tree}
 use Rattle.document_orders.proofs.Offering.{offer_from, table_there, after_there, listed_there, new_there, listed_is, each_table, are_offered}
-use Rattle.document_orders.proofs.Taking.{is_taken, later_is_not_first}
 
 -- Tables with sections were found for those of a document, and come with certificates.
 pub record AreFound (E : Doc) (tables made : List Table) (parts : List (Table × Tree)) : Type 0 where
@@ -105,8 +105,6 @@ offers_back D E new m same =
     subst (λ (p : List ℕ). SameOffers (offers_of D) new p) m.start
     (subst (λ (ts : List DocTable). SameOffers (map offer_from ts) new E.start) m.tables same)
 
-pub version_back : (D E : Doc) → IsMigrated D E → (E.version == 1) ≡ false
-version_back D E m = ap (λ v. v == 1) m.later ∙ later_is_not_first D.version
 
 -- the text of the document with tables that were found for it in a later version
 pub is_ordered : (D E : Doc) (tables made : List Table) (parts : List (Table × Tree)) (text : List ℕ) → AreFound E tables made parts → IsMigrated D E

@@ -2,4 +2,3 @@ pub mod Adding
 pub mod Certificates
 pub mod Offering
 pub mod Rows
-pub mod Taking

@@ -1,4 +1,4 @@
+mod Listed
 mod Naming
 mod Parts
 mod Rows
-mod Taking

@@ -17,6 +17,7 @@ use Rattle.document_json.specs.Keeps.{IsTaken}
 use Rattle.document_json.specs.Migrated.{IsMigrated}
 use Rattle.document_json.specs.Replaced.{new_table, replaced}
 use Rattle.document_json.proofs.FormedDoc.{no_table}
+use Rattle.document_json.proofs.MoreSections.{is_taken}
 use Rattle.section_protect.proofs.Lossless.{guards_stay}
 use Rattle.section_protect.specs.Protects.{IsGuarded}
 use Rattle.state_core.proofs.Tables.{is_guarded_table}
@@ -26,7 +27,7 @@ use Rattle.document_protection.specs.Protected.{guards_at, new_tree, table_in}
 use Rattle.document_protection.specs.declared.unprotected.Unprotected.{Unprotected}
 use Rattle.document_protection.specs.declared.unprotected.Unprotected.TheVariants.{Memory, Uncertified, Start}
 use Rattle.document_protection.specs.declared.unprotected.Why.{Why}
-use Rattle.document_protection.proofs.Taking.{listed_there, offer_from, is_taken, later_is_not_first}
+use Rattle.document_protection.proofs.Listed.{listed_there, offer_from}
 
 abbrev pub none : Table × Tree
 none = (record { missions = []; sections = []; connections = [] }, arrived)
@@ -220,6 +221,3 @@ module _ (E : Doc) (tables : List Table) (guards : List (List (List Stay))) (par
             (subst (λ (ts : List DocTable). IsForbidden (doc_at ts 0).table (guards_at guards 0) E.start) m.tables
             forbidden);
       }
-
-pub version_back : (D E : Doc) → IsMigrated D E → (E.version == 1) ≡ false
-version_back D E m = ap (λ v. v == 1) m.later ∙ later_is_not_first D.version

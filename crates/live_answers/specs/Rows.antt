@@ -37,16 +37,6 @@ abbrev pub IsToldRow : Names → Seen → List ℕ → ℕ → Told → List ℕ
 IsToldRow N v tag i told text =
     (what : Prospect) × IsProspect v i told what × (text ≡ line_of tag (row_words N (row.Told what)))
 
--- the words on what a train is told, in a row or in the answer to its request
-abbrev pub told_words : Bool → Names → Prospect → List ℕ
-told_words true N what = row_words N (row.Told what)
-told_words false N what = train_words N (answer.Told what)
-
--- What train i is told, as a row or as the answer to its request.
-abbrev pub IsToldText : Bool → Names → Seen → List ℕ → ℕ → Told → List ℕ → Type 0
-IsToldText is_row N v tag i told text =
-    (what : Prospect) × IsProspect v i told what × (text ≡ line_of tag (told_words is_row N what))
-
 -- what a train is told, in short
 abbrev pub is_may : Told → Bool
 is_may May = true

@@ -1,112 +1,74 @@
 // Rows and answers on what trains are told.
-ghost use Rattle.std.specs.Prelude.{◌≡◌, ◌<◌, ◌≤◌, ◌++◌, OnOk, count_by, length};
-ghost use Rattle.live_lines.specs.Lines.{line_of};
-ghost use Rattle.live_lines.specs.Told.{IsNamedProspect};
+ghost use Rattle.std.specs.Prelude.{◌≡◌, ◌<◌, ◌≤◌, OnOk, count_by, length};
 ghost use Rattle.rail_model.specs.Table.{trains};
 ghost use Rattle.live_answers.specs.Seen.{AreTold, IsTold, told_at};
 ghost use Rattle.live_lines.specs.declared.session.SessionAnswer.TheVariants.{Could};
 ghost use Rattle.live_answers.specs.Prospects.{HasNames};
-ghost use Rattle.live_answers.specs.Rows.{AreRows, IsAtRow, IsToldAnswer, IsToldRow, IsToldText, Says, TellsAll};
+ghost use Rattle.live_answers.specs.Rows.{AreRows, IsAtRow, IsToldAnswer, IsToldRow, Says, TellsAll};
 ghost use Rattle.live_answers.specs.Rows.{TellsState};
-ghost use Rattle.live_answers.specs.Rows.{is_arrived as is_arrived_told, is_may as is_may_told, there_of, told_words};
+ghost use Rattle.live_answers.specs.Rows.{is_arrived as is_arrived_told, is_may as is_may_told, there_of};
 ghost use Rattle.live_answers.specs.Rows.{waits as waits_told};
 
 use crate::prospects::{prospect_of, spot};
 use crate::{Scene, in_the_way, tolds_of};
-use live_lines::{
-    Answer, Counts, Prospect, Row, SessionAnswer, TrainAnswer, push_answer, push_row,
-};
+use live_lines::{Answer, Counts, Page, Row, SessionAnswer, TrainAnswer};
 use live_yard::Told;
-use rail_model::Names;
-use std::alloc::{AllocError, Global};
-
-// Adds the words on what a train is told, as a row or as the answer to its request.
-fn push_prospect(
-    alloc: Global,
-    out: &mut Vec<u8>,
-    tag: &[u8],
-    names: &Names,
-    is_row: bool,
-    prospect: Prospect<'_>,
-) -> Result<(), AllocError>
-    requires { IsNamedProspect names.now prospect }
-    ensures { OnOk result (out.new.items ≡ out.old.items ++ line_of tag.now
-        (told_words is_row names.now prospect.entry)) }
-{
-    if is_row {
-        push_row(alloc, out, tag, names, Row::Told { prospect })
-    } else {
-        let answer = TrainAnswer::Told { prospect };
-        push_answer(alloc, out, tag, names, Answer::Train(answer))
-    }
-}
-
-/// Adds what a train was told, as a row or as the answer to its request.
-pub(crate) fn push_told_text(
-    alloc: Global,
-    out: &mut Vec<u8>,
-    tag: &[u8],
-    names: &Names,
-    scene: &Scene<'_>,
-    is_row: bool,
-    train: u32,
-    told: Told,
-) -> Result<(), AllocError>
-    requires named { HasNames names.now scene.now.table }
-    requires train { train < trains scene.now.table }
-    requires told { IsTold scene.now train told }
-    ensures { OnOk result (Says (IsToldText is_row names.now scene.now tag.now train told) out.old.items
-        out.new.items) }
-{
-    let by = in_the_way(alloc, scene, train, told)?;
-    let prospect = prospect_of(scene, train, told, &by);
-    push_prospect(alloc, out, tag, names, is_row, prospect)
-}
+use std::alloc::AllocError;
 
 /// Adds what a train was told, as the answer to its request.
 pub fn push_told(
-    alloc: Global,
+    page: &Page<'_>,
     out: &mut Vec<u8>,
-    tag: &[u8],
-    names: &Names,
     scene: &Scene<'_>,
     train: u32,
     told: Told,
 ) -> Result<(), AllocError>
-    requires named { HasNames names.now scene.now.table }
+    requires named { HasNames page.now.names.now scene.now.table }
     requires train { train < trains scene.now.table }
     requires told { IsTold scene.now train told }
-    ensures { OnOk result (Says (IsToldAnswer names.now scene.now tag.now train told) out.old.items out.new.items) }
+    ensures { OnOk result (Says (IsToldAnswer page.now.names.now scene.now page.now.tag.now train told)
+        out.old.items out.new.items) }
 {
-    push_told_text(alloc, out, tag, names, scene, false, train, told)
+    let by = in_the_way(page.alloc, scene, train, told)?;
+    let prospect = prospect_of(scene, train, told, &by);
+    page.push_answer(out, Answer::Train(TrainAnswer::Told { prospect }))
+}
+
+/// Adds a row with what a train is told.
+pub(crate) fn push_told_row(
+    page: &Page<'_>,
+    out: &mut Vec<u8>,
+    scene: &Scene<'_>,
+    tolds: &[Told],
+    train: u32,
+) -> Result<(), AllocError>
+    requires named { HasNames page.now.names.now scene.now.table }
+    requires told { AreTold scene.now tolds.now }
+    requires train { train < trains scene.now.table }
+    ensures { OnOk result (Says (IsToldRow page.now.names.now scene.now page.now.tag.now train
+        (told_at tolds.now train)) out.old.items out.new.items) }
+{
+    let told = tolds[train as usize];
+    let by = in_the_way(page.alloc, scene, train, told)?;
+    let prospect = prospect_of(scene, train, told, &by);
+    page.push_row(out, Row::Told { prospect })
 }
 
 // Adds a row for each train.
 fn push_told_rows(
-    alloc: Global,
+    page: &Page<'_>,
     out: &mut Vec<u8>,
-    tag: &[u8],
-    names: &Names,
     scene: &Scene<'_>,
     tolds: &[Told],
 ) -> Result<(), AllocError>
-    requires named { HasNames names.now scene.now.table }
+    requires named { HasNames page.now.names.now scene.now.table }
     requires told { AreTold scene.now tolds.now }
-    ensures { OnOk result (Says (AreRows (λ i. IsToldRow names.now scene.now tag.now i (told_at tolds.now i))
+    ensures { OnOk result (Says (AreRows (λ i. IsToldRow page.now.names.now scene.now page.now.tag.now i (told_at tolds.now i))
         (trains scene.now.table))
         out.old.items out.new.items) }
 {
     for train in 0..scene.trains() {
-        push_told_text(
-            alloc,
-            out,
-            tag,
-            names,
-            scene,
-            true,
-            train,
-            tolds[train as usize],
-        )?;
+        push_told_row(page, out, scene, tolds, train)?;
     }
     Ok(())
 }
@@ -155,35 +117,31 @@ fn could_of(tolds: &[Told]) -> SessionAnswer<'static>
 
 // Adds what these trains are told, a row each, and how many may go on, wait and have arrived.
 fn push_tolds(
-    alloc: Global,
+    page: &Page<'_>,
     out: &mut Vec<u8>,
-    tag: &[u8],
-    names: &Names,
     scene: &Scene<'_>,
     tolds: &[Told],
 ) -> Result<(), AllocError>
-    requires named { HasNames names.now scene.now.table }
+    requires named { HasNames page.now.names.now scene.now.table }
     requires told { AreTold scene.now tolds.now }
     requires few { length tolds.now ≤ 32 }
-    ensures { OnOk result (Says (TellsAll names.now scene.now tag.now) out.old.items out.new.items) }
+    ensures { OnOk result (Says (TellsAll page.now.names.now scene.now page.now.tag.now) out.old.items out.new.items) }
 {
-    push_told_rows(alloc, out, tag, names, scene, tolds)?;
-    push_answer(alloc, out, tag, names, Answer::Session(could_of(tolds)))
+    push_told_rows(page, out, scene, tolds)?;
+    page.push_answer(out, Answer::Session(could_of(tolds)))
 }
 
 /// Adds what each train is told, a row each, and how many may go on, wait and have arrived.
 pub fn push_told_all(
-    alloc: Global,
+    page: &Page<'_>,
     out: &mut Vec<u8>,
-    tag: &[u8],
-    names: &Names,
     scene: &Scene<'_>,
 ) -> Result<(), AllocError>
-    requires { HasNames names.now scene.now.table }
-    ensures { OnOk result (Says (TellsAll names.now scene.now tag.now) out.old.items out.new.items) }
+    requires { HasNames page.now.names.now scene.now.table }
+    ensures { OnOk result (Says (TellsAll page.now.names.now scene.now page.now.tag.now) out.old.items out.new.items) }
 {
-    let tolds = tolds_of(alloc, scene)?;
-    push_tolds(alloc, out, tag, names, scene, &tolds)
+    let tolds = tolds_of(page.alloc, scene)?;
+    push_tolds(page, out, scene, &tolds)
 }
 
 // The place that a train has reported, where trains report.
@@ -200,19 +158,17 @@ fn there(scene: &Scene<'_>, reports: bool, train: u32) -> Option<u32>
 
 // Adds where a train is and what it is told, as a row.
 fn push_at_row(
-    alloc: Global,
+    page: &Page<'_>,
     out: &mut Vec<u8>,
-    tag: &[u8],
-    names: &Names,
     scene: &Scene<'_>,
     reports: bool,
     tolds: &[Told],
     train: u32,
 ) -> Result<(), AllocError>
-    requires named { HasNames names.now scene.now.table }
+    requires named { HasNames page.now.names.now scene.now.table }
     requires train { train < trains scene.now.table }
     requires told { AreTold scene.now tolds.now }
-    ensures { OnOk result (Says (IsAtRow names.now scene.now tag.now reports tolds.now train) out.old.items
+    ensures { OnOk result (Says (IsAtRow page.now.names.now scene.now page.now.tag.now reports tolds.now train) out.old.items
         out.new.items) }
 {
     let row = Row::At {
@@ -220,51 +176,41 @@ fn push_at_row(
         told: tolds[train as usize],
         there: there(scene, reports, train),
     };
-    push_row(alloc, out, tag, names, row)
+    page.push_row(out, row)
 }
 
 // Adds a row for each train.
 fn push_at_rows(
-    alloc: Global,
+    page: &Page<'_>,
     out: &mut Vec<u8>,
-    tag: &[u8],
-    names: &Names,
     scene: &Scene<'_>,
     reports: bool,
     tolds: &[Told],
 ) -> Result<(), AllocError>
-    requires named { HasNames names.now scene.now.table }
+    requires named { HasNames page.now.names.now scene.now.table }
     requires told { AreTold scene.now tolds.now }
-    ensures { OnOk result (Says (AreRows (IsAtRow names.now scene.now tag.now reports tolds.now)
+    ensures { OnOk result (Says (AreRows (IsAtRow page.now.names.now scene.now page.now.tag.now reports tolds.now)
         (trains scene.now.table))
         out.old.items out.new.items) }
 {
     for train in 0..scene.trains() {
-        push_at_row(alloc, out, tag, names, scene, reports, tolds, train)?;
+        push_at_row(page, out, scene, reports, tolds, train)?;
     }
     Ok(())
 }
 
 /// Adds where each train is and what it is told, a row each, and the counts.
 pub fn push_state(
-    alloc: Global,
+    page: &Page<'_>,
     out: &mut Vec<u8>,
-    tag: &[u8],
-    names: &Names,
     scene: &Scene<'_>,
     reports: bool,
     counts: Counts,
 ) -> Result<(), AllocError>
-    requires { HasNames names.now scene.now.table }
-    ensures { OnOk result (Says (TellsState names.now scene.now tag.now reports counts) out.old.items out.new.items) }
+    requires { HasNames page.now.names.now scene.now.table }
+    ensures { OnOk result (Says (TellsState page.now.names.now scene.now page.now.tag.now reports counts) out.old.items out.new.items) }
 {
-    let tolds = tolds_of(alloc, scene)?;
-    push_at_rows(alloc, out, tag, names, scene, reports, &tolds)?;
-    push_answer(
-        alloc,
-        out,
-        tag,
-        names,
-        Answer::Session(SessionAnswer::State { counts }),
-    )
+    let tolds = tolds_of(page.alloc, scene)?;
+    push_at_rows(page, out, scene, reports, &tolds)?;
+    page.push_answer(out, Answer::Session(SessionAnswer::State { counts }))
 }

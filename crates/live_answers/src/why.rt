@@ -6,41 +6,28 @@ ghost use Rattle.live_answers.specs.Waiting.{AreAwaited};
 ghost use Rattle.live_answers.specs.Prospects.{HasNames};
 ghost use Rattle.live_answers.specs.Rows.{AreRows, IsToldRow, Says, TellsWhy, is_one_of, of_told, why_line};
 
-use crate::rows::push_told_text;
+use crate::rows::push_told_row;
 use crate::{Scene, awaited, tolds_of};
-use live_lines::{Answer, TrainAnswer, push_answer};
+use live_lines::{Answer, Page, TrainAnswer};
 use live_yard::Told;
-use rail_model::Names;
 use std::alloc::{AllocError, Global};
 
 // Adds a row for each train of a list.
 fn push_rows_of(
-    alloc: Global,
+    page: &Page<'_>,
     out: &mut Vec<u8>,
-    tag: &[u8],
-    names: &Names,
     scene: &Scene<'_>,
     tolds: &[Told],
     waiting: &[u32],
 ) -> Result<(), AllocError>
-    requires named { HasNames names.now scene.now.table }
+    requires named { HasNames page.now.names.now scene.now.table }
     requires told { AreTold scene.now tolds.now }
     requires below { All (λ i. i < trains scene.now.table) waiting.now }
-    ensures { OnOk result (Says (AreRows (λ k. IsToldRow names.now scene.now tag.now (slice_index waiting.now k)
+    ensures { OnOk result (Says (AreRows (λ k. IsToldRow page.now.names.now scene.now page.now.tag.now (slice_index waiting.now k)
         (told_at tolds.now (slice_index waiting.now k))) (length waiting.now)) out.old.items out.new.items) }
 {
     for index in 0..waiting.len() {
-        let train = waiting[index];
-        push_told_text(
-            alloc,
-            out,
-            tag,
-            names,
-            scene,
-            true,
-            train,
-            tolds[train as usize],
-        )?;
+        push_told_row(page, out, scene, tolds, waiting[index])?;
     }
     Ok(())
 }
@@ -77,10 +64,8 @@ fn some_of(
 
 // Adds the answer on a train and those that it waits for.
 fn push_why_answer(
-    alloc: Global,
+    page: &Page<'_>,
     out: &mut Vec<u8>,
-    tag: &[u8],
-    names: &Names,
     train: u32,
     tolds: &[Told],
     waiting: &[u32],
@@ -88,65 +73,52 @@ fn push_why_answer(
     requires train { train < length tolds.now }
     requires below { All (λ i. i < length tolds.now) waiting.now }
     requires few { length waiting.now ≤ 32 }
-    requires named { length tolds.now ≤ length names.now.trains }
-    ensures { OnOk result (out.new.items ≡ out.old.items ++ why_line names.now tag.now tolds.now waiting.now train) }
+    requires named { length tolds.now ≤ length page.now.names.now.trains }
+    ensures { OnOk result (out.new.items ≡ out.old.items ++ why_line page.now.names.now page.now.tag.now tolds.now waiting.now train) }
 {
-    let may = some_of(alloc, tolds, waiting, false)?;
-    let away = some_of(alloc, tolds, waiting, true)?;
+    let may = some_of(page.alloc, tolds, waiting, false)?;
+    let away = some_of(page.alloc, tolds, waiting, true)?;
     let why = TrainAnswer::Why {
         train,
         trains: waiting.len() as u32,
         may: &may,
         away: &away,
     };
-    push_answer(alloc, out, tag, names, Answer::Train(why))
+    page.push_answer(out, Answer::Train(why))
 }
 
 // Adds a row for each train of a list that one waits for, and then the answer.
 fn push_waiting(
-    alloc: Global,
+    page: &Page<'_>,
     out: &mut Vec<u8>,
-    tag: &[u8],
-    names: &Names,
     scene: &Scene<'_>,
     train: u32,
     tolds: &[Told],
     waiting: &[u32],
 ) -> Result<(), AllocError>
-    requires named { HasNames names.now scene.now.table }
+    requires named { HasNames page.now.names.now scene.now.table }
     requires train { train < trains scene.now.table }
     requires told { AreTold scene.now tolds.now }
     requires few { length tolds.now ≤ 32 }
     requires awaited { AreAwaited scene.now tolds.now train waiting.now }
-    ensures { OnOk result (Says (TellsWhy names.now scene.now tag.now train) out.old.items out.new.items) }
+    ensures { OnOk result (Says (TellsWhy page.now.names.now scene.now page.now.tag.now train) out.old.items out.new.items) }
 {
-    push_rows_of(alloc, out, tag, names, scene, tolds, waiting)?;
-    push_why_answer(alloc, out, tag, names, train, tolds, waiting)
+    push_rows_of(page, out, scene, tolds, waiting)?;
+    push_why_answer(page, out, train, tolds, waiting)
 }
 
 /// Adds what a train waits for: a row for it and for each train that one of them waits for, and how many they are.
 pub fn push_why(
-    alloc: Global,
+    page: &Page<'_>,
     out: &mut Vec<u8>,
-    tag: &[u8],
-    names: &Names,
     scene: &Scene<'_>,
     train: u32,
 ) -> Result<(), AllocError>
-    requires named { HasNames names.now scene.now.table }
+    requires named { HasNames page.now.names.now scene.now.table }
     requires train { train < trains scene.now.table }
-    ensures { OnOk result (Says (TellsWhy names.now scene.now tag.now train) out.old.items out.new.items) }
+    ensures { OnOk result (Says (TellsWhy page.now.names.now scene.now page.now.tag.now train) out.old.items out.new.items) }
 {
-    let tolds = tolds_of(alloc, scene)?;
-    let waiting = awaited(alloc, scene, &tolds, train)?;
-    push_waiting(
-        alloc,
-        out,
-        tag,
-        names,
-        scene,
-        train,
-        &tolds,
-        waiting.as_slice(),
-    )
+    let tolds = tolds_of(page.alloc, scene)?;
+    let waiting = awaited(page.alloc, scene, &tolds, train)?;
+    push_waiting(page, out, scene, train, &tolds, waiting.as_slice())
 }

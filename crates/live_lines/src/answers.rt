@@ -8,9 +8,9 @@ use crate::refusals::write_refusal;
 use crate::session::write_session;
 use crate::tables::write_table;
 use crate::trains::write_train;
-use crate::{Refusal, SessionAnswer, TableAnswer, TrainAnswer};
+use crate::{Page, Refusal, SessionAnswer, TableAnswer, TrainAnswer};
 use rail_model::Names;
-use std::alloc::{AllocError, Global};
+use std::alloc::AllocError;
 
 /// The answer of a request.
 #[derive(Clone, Copy)]
@@ -34,19 +34,15 @@ fn write_answer(out: &mut String, names: &Names, answer: Answer<'_>) -> Result<(
     }
 }
 
-/// Adds the answer of a request, behind its tag.
-pub fn push_answer(
-    alloc: Global,
-    out: &mut Vec<u8>,
-    tag: &[u8],
-    names: &Names,
-    answer: Answer<'_>,
-) -> Result<(), AllocError>
-    requires { spec.IsNamed names.now answer }
-    ensures { OnOk result (out.new.items ≡ out.old.items ++ line_of tag.now
-        (spec.answer_words names.now answer.entry)) }
-{
-    let mut words = String::new(alloc);
-    write_answer(&mut words, names, answer)?;
-    push_words(out, tag, &words)
+impl<'a> Page<'a> {
+    /// Adds the answer of a request, behind its tag.
+    pub fn push_answer(&self, out: &mut Vec<u8>, answer: Answer<'_>) -> Result<(), AllocError>
+        requires { spec.IsNamed self.now.names.now answer }
+        ensures { OnOk result (out.new.items ≡ out.old.items ++ line_of self.now.tag.now
+            (spec.answer_words self.now.names.now answer.entry)) }
+    {
+        let mut words = String::new(self.alloc);
+        write_answer(&mut words, self.names, answer)?;
+        push_words(out, self.tag, &words)
+    }
 }

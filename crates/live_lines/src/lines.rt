@@ -4,6 +4,7 @@ ghost use Rattle.rail_model.specs.Journal.{words};
 ghost use Rattle.move_journal.specs.Printable.{IsNamed};
 ghost use Rattle.live_lines.specs.Lines as spec;
 
+use crate::Page;
 use move_journal::push_line;
 use rail_model::{Line, Names};
 use std::alloc::{AllocError, Global};
@@ -45,20 +46,20 @@ pub fn push_journal_line(
     out.extend_from_slice(text.as_bytes())
 }
 
-/// Adds a line of the journal as a row, behind the tag of its request.
-pub fn push_journal_row(
-    alloc: Global,
-    out: &mut Vec<u8>,
-    tag: &[u8],
-    names: &Names,
-    number: u64,
-    line: &Line,
-) -> Result<(), AllocError>
-    requires { IsNamed names.now line.now }
-    ensures { OnOk result (out.new.items
-        ≡ out.old.items ++ spec.line_of tag.now (codes "| " ++ decimal number ++ words names.now line.now)) }
-{
-    push_tag(out, tag)?;
-    out.extend_from_slice(b"| ")?;
-    push_journal_line(alloc, out, names, number, line)
+impl<'a> Page<'a> {
+    /// Adds a line of the journal as a row, behind the tag of its request.
+    pub fn push_journal_row(
+        &self,
+        out: &mut Vec<u8>,
+        number: u64,
+        line: &Line,
+    ) -> Result<(), AllocError>
+        requires { IsNamed self.now.names.now line.now }
+        ensures { OnOk result (out.new.items ≡ out.old.items ++ spec.line_of self.now.tag.now
+            (codes "| " ++ decimal number ++ words self.now.names.now line.now)) }
+    {
+        push_tag(out, self.tag)?;
+        out.extend_from_slice(b"| ")?;
+        push_journal_line(self.alloc, out, self.names, number, line)
+    }
 }

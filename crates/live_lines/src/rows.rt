@@ -6,10 +6,10 @@ ghost use Rattle.live_lines.specs.Told.{IsNamedSpot};
 
 use crate::causes::{word_of, write_prospect, write_spot};
 use crate::lines::push_words;
-use crate::{Prospect, Spot};
+use crate::{Page, Prospect, Spot};
 use live_yard::Told;
 use rail_model::Names;
-use std::alloc::{AllocError, Global};
+use std::alloc::AllocError;
 
 /// A row before the answer that it belongs to.
 #[derive(Clone, Copy)]
@@ -58,18 +58,15 @@ fn write_row(out: &mut String, names: &Names, row: Row<'_>) -> Result<(), AllocE
     }
 }
 
-/// Adds a row, behind the tag of its request.
-pub fn push_row(
-    alloc: Global,
-    out: &mut Vec<u8>,
-    tag: &[u8],
-    names: &Names,
-    row: Row<'_>,
-) -> Result<(), AllocError>
-    requires { spec.IsNamedRow names.now row }
-    ensures { OnOk result (out.new.items ≡ out.old.items ++ line_of tag.now (spec.row_words names.now row.entry)) }
-{
-    let mut words = String::new(alloc);
-    write_row(&mut words, names, row)?;
-    push_words(out, tag, &words)
+impl<'a> Page<'a> {
+    /// Adds a row, behind the tag of its request.
+    pub fn push_row(&self, out: &mut Vec<u8>, row: Row<'_>) -> Result<(), AllocError>
+        requires { spec.IsNamedRow self.now.names.now row }
+        ensures { OnOk result (out.new.items ≡ out.old.items ++ line_of self.now.tag.now
+            (spec.row_words self.now.names.now row.entry)) }
+    {
+        let mut words = String::new(self.alloc);
+        write_row(&mut words, self.names, row)?;
+        push_words(out, self.tag, &words)
+    }
 }

@@ -9,9 +9,7 @@ ghost use Rattle.live_session.specs.Answering.{IsQueryText, ready_text as ready_
 
 use crate::Session;
 use live_answers::{fit_of, push_since, push_state, push_told, push_told_all, push_why};
-use live_lines::{
-    Answer, Call, Fault, Refusal, SessionAnswer, TableAnswer, push_answer, push_help,
-};
+use live_lines::{Answer, Call, Fault, Page, Refusal, SessionAnswer, TableAnswer, push_help};
 use plain_yard::CheckedTable;
 use std::alloc::AllocError;
 
@@ -29,6 +27,18 @@ impl<'a, A: CheckedTable> Session<'a, A> {
         self.yard.yard().there().len() as u32
     }
 
+    // What the lines that answer a request of this tag are written with.
+    pub(crate) fn page<'b>(&'b self, tag: &'b [u8]) -> Page<'b>
+        ensures tag { result.tag.now ≡ tag.now }
+        ensures names { result.names.now ≡ self.now.names }
+    {
+        Page {
+            alloc: self.alloc,
+            tag,
+            names: self.names,
+        }
+    }
+
     // Refuses a line.
     pub(crate) fn refuse(
         &self,
@@ -39,7 +49,7 @@ impl<'a, A: CheckedTable> Session<'a, A> {
         ensures { OnOk result (text.new.items ≡ text.old.items ++ refused_text tag.now fault) }
     {
         let refusal = Refusal::Line { fault };
-        push_answer(self.alloc, text, tag, self.names, Answer::Refused(refusal))
+        self.page(tag).push_answer(text, Answer::Refused(refusal))
     }
 
     // What a train is told.
@@ -51,7 +61,7 @@ impl<'a, A: CheckedTable> Session<'a, A> {
         }
         let scene = self.scene();
         let told = scene.told(train);
-        push_told(self.alloc, text, tag, self.names, &scene, train, told)
+        push_told(&self.page(tag), text, &scene, train, told)
     }
 
     // What a train waits for.
@@ -61,7 +71,7 @@ impl<'a, A: CheckedTable> Session<'a, A> {
         if self.trains() <= train {
             return self.refuse(tag, Fault::Train, text);
         }
-        push_why(self.alloc, text, tag, self.names, &self.scene(), train)
+        push_why(&self.page(tag), text, &self.scene(), train)
     }
 
     // Whether the next table would take over.
@@ -78,7 +88,7 @@ impl<'a, A: CheckedTable> Session<'a, A> {
         ensures { OnOk result (Says (IsQueryText self.now tag.now Fits) text.old.items text.new.items) }
     {
         let fit = self.fit();
-        push_answer(self.alloc, text, tag, self.names, Answer::Table(fit))
+        self.page(tag).push_answer(text, Answer::Table(fit))
     }
 
     // The first line.
@@ -89,7 +99,7 @@ impl<'a, A: CheckedTable> Session<'a, A> {
             document: self.document,
             counts: self.counts(),
         };
-        push_answer(self.alloc, text, tag, self.names, Answer::Session(ready))
+        self.page(tag).push_answer(text, Answer::Session(ready))
     }
 
     // The number of the last line.
@@ -112,35 +122,14 @@ impl<'a, A: CheckedTable> Session<'a, A> {
         match call {
             Call::Serve { .. } => self.refuse(tag, Fault::Train, text),
             Call::Can { train: Some(train) } => self.push_can(tag, train, text),
-            Call::Can { train: None } => push_told_all(
-                self.alloc,
-                text,
-                tag,
-                self.names,
-                &self.scene(),
-            ),
+            Call::Can { train: None } => push_told_all(&self.page(tag), text, &self.scene()),
             Call::Why { train } => self.push_why_of(tag, train, text),
             Call::State => {
                 let reports = self.yard.yard().reports();
-                push_state(
-                    self.alloc,
-                    text,
-                    tag,
-                    self.names,
-                    &self.scene(),
-                    reports,
-                    self.counts(),
-                )
+                push_state(&self.page(tag), text, &self.scene(), reports, self.counts())
             }
             Call::Fits => self.push_fit(tag, text),
-            Call::Since { line } => push_since(
-                self.alloc,
-                text,
-                tag,
-                self.names,
-                self.lines(),
-                line,
-            ),
+            Call::Since { line } => push_since(&self.page(tag), text, self.lines(), line),
             Call::Ping => self.push_session(
                 tag,
                 SessionAnswer::Pong {
@@ -169,6 +158,6 @@ impl<'a, A: CheckedTable> Session<'a, A> {
     ) -> Result<(), AllocError>
         ensures { OnOk result (text.new.items ≡ text.old.items ++ line_of tag.now (session_words answer.entry)) }
     {
-        push_answer(self.alloc, text, tag, self.names, Answer::Session(answer))
+        self.page(tag).push_answer(text, Answer::Session(answer))
     }
 }

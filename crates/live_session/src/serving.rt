@@ -13,7 +13,6 @@ use crate::start::{Start, start_of, train_of};
 use crate::status::Status;
 use crate::tags::keep_tag;
 use live_answers::push_told;
-use live_lines::push_answer;
 use live_yard::{Reply, Request, Served};
 use plain_yard::CheckedTable;
 use std::alloc::AllocError;
@@ -46,20 +45,12 @@ impl<'a, A: CheckedTable> Session<'a, A> {
     {
         let scene = self.scene();
         if let Reply::Held { told } = reply {
-            return push_told(
-                self.alloc,
-                text,
-                tag,
-                self.names,
-                &scene,
-                train_of(request),
-                told,
-            );
+            return push_told(&self.page(tag), text, &scene, train_of(request), told);
         }
         let Some(answer) = answer_of(self.lines(), start, request, reply) else {
             unreachable!();
         };
-        push_answer(self.alloc, text, tag, self.names, answer)
+        self.page(tag).push_answer(text, answer)
     }
 
     // Adds what is told after a request.

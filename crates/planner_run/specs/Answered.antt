@@ -28,8 +28,8 @@ use Rattle.svg_text.specs.Tree.{Picture}
 use Rattle.svg_text.specs.Text.{svg_text}
 use Rattle.planner_words.specs.declared.orders.Order.{Order}
 use Rattle.planner_words.specs.declared.orders.Order.TheVariants.{Plan as OfPlan, ExplainState, ExplainLine, Lint, Certify, Protect, AddOrders, OrderByRun, Timetable, Graph, Layout}
-use Rattle.planner_words.specs.declared.orders.WordsAnswered.{WordsAnswered}
-use Rattle.planner_words.specs.declared.orders.WordsAnswered.TheVariants.{Shown, Refused, Memory}
+use Rattle.ats_words.specs.declared.answering.WordsAnswered.{WordsAnswered}
+use Rattle.ats_words.specs.declared.answering.WordsAnswered.TheVariants.{Shown, Refused, Memory}
 use Rattle.planner_run.specs.Certifying.{IsCertifiedInput, IsCertifyingFault}
 use Rattle.planner_run.specs.Ordering.{IsOrderedInput}
 use Rattle.planner_run.specs.Protecting.{IsProtectedInput, IsProtectingFault}

@@ -9,12 +9,13 @@ use Rattle.clap.specs.declared.error.ErrorKind.{ErrorKind}
 use Rattle.clap.specs.declared.error.ErrorKind.TheVariants.{DisplayHelp, DisplayVersion, OutOfMemory}
 use Rattle.planner_words.specs.declared.orders.Effort.{Effort}
 use Rattle.planner_words.specs.declared.orders.Effort.TheVariants.{Small, Usual, Great}
-use Rattle.planner_words.specs.Answered.{AnswersWords, AsksForNone, MissesNone}
+use Rattle.ats_words.specs.Answered.{AnswersWords}
+use Rattle.planner_words.specs.Answered.{AsksForNone, MissesNone}
 use Rattle.planner_words.specs.Named.{AsksFor, IsEffort, budget_in, nodes_in, rounds_in, word_of}
 use Rattle.planner_words.specs.declared.orders.Order.{Order}
 use Rattle.planner_words.specs.declared.orders.Order.TheVariants.{Plan, ExplainState, ExplainLine, Lint, Certify, Protect, AddOrders, OrderByRun, Timetable, Graph, Layout}
-use Rattle.planner_words.specs.declared.orders.WordsAnswered.{WordsAnswered}
-use Rattle.planner_words.specs.declared.orders.WordsAnswered.TheVariants.{Shown, Refused, Memory}
+use Rattle.ats_words.specs.declared.answering.WordsAnswered.{WordsAnswered}
+use Rattle.ats_words.specs.declared.answering.WordsAnswered.TheVariants.{Shown, Refused, Memory}
 
 -- whatever the answer is, no order is missed where none is asked for
 pub none_missed : {A : Type 0} (found : Option (Text × List Row)) (r : Result A WordsAnswered) → AsksForNone found → IfErr r (MissesNone found)

@@ -1,22 +1,10 @@
--- How words that are no order are answered.
-use Rattle.std.specs.Prelude.{◌≡◌, ◌≢◌, ◌⊎◌, List, Option, IsSomeAnd}
+-- Words that are answered with no order ask for none.
+use Rattle.std.specs.Prelude.{List, Option, IsSomeAnd}
 use Rattle.clap.specs.Words.{Row, Text}
-use Rattle.clap.specs.declared.error.ErrorKind.{ErrorKind}
-use Rattle.clap.specs.declared.error.ErrorKind.TheVariants.{DisplayHelp, DisplayVersion, OutOfMemory}
+use Rattle.ats_words.specs.declared.answering.WordsAnswered.{WordsAnswered}
+use Rattle.ats_words.specs.declared.answering.WordsAnswered.TheVariants.{Shown, Refused, Memory}
 use Rattle.planner_words.specs.Named.{AsksFor}
 use Rattle.planner_words.specs.declared.orders.Order.{Order}
-use Rattle.planner_words.specs.declared.orders.WordsAnswered.{WordsAnswered}
-use Rattle.planner_words.specs.declared.orders.WordsAnswered.TheVariants.{Shown, Refused, Memory}
-
--- What clap gives an error of this kind for is help or the version.
-abbrev pub IsHelp : ErrorKind → Type 0
-IsHelp kind = (kind ≡ DisplayHelp) ⊎ (kind ≡ DisplayVersion)
-
--- Help and the version are shown, and any other words are refused, unless there was no memory.
-abbrev pub AnswersWords : ErrorKind → WordsAnswered → Type 0
-AnswersWords kind (Shown text) = IsHelp kind
-AnswersWords kind (Refused text) = (IsHelp kind → ⊥) × (kind ≢ OutOfMemory)
-AnswersWords kind Memory = Unit {0}
 
 -- What clap found asks for no order.
 abbrev pub AsksForNone : Option (Text × List Row) → Type 0

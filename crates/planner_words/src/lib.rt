@@ -5,5 +5,6 @@ mod asking;
 mod orders;
 mod reading;
 
-pub use orders::{Effort, Order, WordsAnswered};
+pub use ats_words::WordsAnswered;
+pub use orders::{Effort, Order};
 pub use reading::words;

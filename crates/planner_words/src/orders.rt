@@ -62,14 +62,3 @@ pub enum Order<'a> {
         at: Option<&'a str>,
     },
 }
-
-/// Why there is no order for the words.
-#[derive(Drop)]
-pub enum WordsAnswered {
-    /// They ask for help, or for the version, which this text is.
-    Shown(String),
-    /// They ask for nothing that there is; the text says why.
-    Refused(String),
-    /// There was no memory to read them.
-    Memory,
-}

@@ -1,16 +1,15 @@
 // Reading the words.
 ghost use Rattle.std.specs.Prelude.{◌≡◌, IfErr, IfNone, IfOk, IfSome, IsSomeAnd, Some, codes, map, string_bytes, true};
-ghost use Rattle.clap.specs.Words.{first_of, found_of, kind_of, rows_of, subcommand_of, subcommand_rows_of, takes};
-ghost use Rattle.planner_words.specs.Answered.{AnswersWords, MissesNone};
+ghost use Rattle.clap.specs.Words.{first_of, found_of, rows_of, subcommand_of, subcommand_rows_of, takes};
+ghost use Rattle.planner_words.specs.Answered.{MissesNone};
 ghost use Rattle.planner_words.specs.Line.{planner};
-ghost use Rattle.ats_words.specs.Options.{number, number_between, option};
 ghost use Rattle.planner_words.specs.Named.{AsksFor, IsAsked, IsEffort, table_in, word_of};
 ghost use Rattle.planner_words.specs.declared.orders.Effort as declared;
 
 use crate::asking::command;
 use crate::{Effort, Order, WordsAnswered};
-use clap::error::ErrorKind;
-use clap::{ArgMatches, Error};
+use ats_words::{BUDGET, NumberOption, answer_to, number};
+use clap::ArgMatches;
 use decimal_number::number_of;
 use std::alloc::Global;
 
@@ -30,14 +29,21 @@ const NO_SEED: &str = "planner order: --of-run takes a number, 0 to 4294967295\n
 
 const NO_RUN: &str = "planner order: --journal goes with --of-run\n";
 
-const MOST_NODES: u32 = 1_000_000;
+// The most nodes of a certificate that `protect` looks for.
+const NODES: NumberOption = NumberOption {
+    name: "budget",
+    least: 1,
+    greatest: 1_000_000,
+    default: 50_000,
+};
 
-// The most nodes of a certificate that `protect` looks for, where none are named.
-const FEW_NODES: u32 = 50_000;
-
-const MOST_ROUNDS: u32 = 1000;
-
-const FEW_ROUNDS: u32 = 100;
+// The most sections that `protect` makes for a table.
+const ROUNDS: NumberOption = NumberOption {
+    name: "rounds",
+    least: 0,
+    greatest: 1000,
+    default: 100,
+};
 
 /// What the words after the program's name ask for.
 ///
@@ -56,23 +62,6 @@ pub fn words<'a>(alloc: Global, words: &'a [String]) -> Result<Order<'a>, WordsA
     match command.try_get_matches_from(words) {
         Ok(matches) => order_of(alloc, &matches),
         Err(error) => Err(answer_to(alloc, &error)),
-    }
-}
-
-// What is written for words that are no order.
-fn answer_to(alloc: Global, error: &Error) -> WordsAnswered
-    ensures { AnswersWords (kind_of error.now) result }
-{
-    if error.kind() == ErrorKind::OutOfMemory {
-        return WordsAnswered::Memory;
-    }
-    match format!(in alloc; "{error}") {
-        Ok(text) => if error.use_stderr() {
-            WordsAnswered::Refused(text)
-        } else {
-            WordsAnswered::Shown(text)
-        },
-        Err(_) => WordsAnswered::Memory,
     }
 }
 
@@ -140,7 +129,7 @@ fn certify<'a>(alloc: Global, matches: &ArgMatches<'a>) -> Result<Order<'a>, Wor
     ensures asked { IfOk result (λ order. AsksFor order (codes "certify", rows_of (found_of matches.now))) }
     ensures answered { IfErr result (MissesNone (Some (codes "certify", rows_of (found_of matches.now)))) }
 {
-    let Some(budget) = number_in(matches, "budget", 1, MOST_NODES, MOST_NODES) else {
+    let Some(budget) = number(matches, &BUDGET) else {
         return refused(alloc, NO_BUDGET);
     };
     match effort_in(matches) {
@@ -153,10 +142,10 @@ fn protect<'a>(alloc: Global, matches: &ArgMatches<'a>) -> Result<Order<'a>, Wor
     ensures asked { IfOk result (λ order. AsksFor order (codes "protect", rows_of (found_of matches.now))) }
     ensures answered { IfErr result (MissesNone (Some (codes "protect", rows_of (found_of matches.now)))) }
 {
-    let Some(budget) = number_in(matches, "budget", 1, MOST_NODES, FEW_NODES) else {
+    let Some(budget) = number(matches, &NODES) else {
         return refused(alloc, NO_NODES);
     };
-    let Some(rounds) = number_in(matches, "rounds", 0, MOST_ROUNDS, FEW_ROUNDS) else {
+    let Some(rounds) = number(matches, &ROUNDS) else {
         return refused(alloc, NO_ROUNDS);
     };
     match effort_in(matches) {
@@ -166,33 +155,6 @@ fn protect<'a>(alloc: Global, matches: &ArgMatches<'a>) -> Result<Order<'a>, Wor
             rounds,
         }),
         None => refused(alloc, NO_SEARCHES),
-    }
-}
-
-// The number that is named for an option, or its default.
-fn number_in(
-    matches: &ArgMatches<'_>,
-    name: &str,
-    least: u32,
-    greatest: u32,
-    default: u32,
-) -> Option<u32>
-    ensures { result ≡ number (option name.now least greatest default) (rows_of (found_of matches.now)) }
-{
-    match matches.get_str(name) {
-        Some(text) => number_between(text, least, greatest),
-        None => Some(default),
-    }
-}
-
-fn number_between(text: &str, least: u32, greatest: u32) -> Option<u32>
-    ensures { result ≡ number_between least greatest text.now }
-{
-    let number = number_of(text.as_bytes())?;
-    if least <= number && number <= greatest {
-        Some(number)
-    } else {
-        None
     }
 }
 

@@ -13,11 +13,11 @@ use Rattle.document_json.specs.Migrated.{IsMigrated}
 use Rattle.document_json.specs.Reading.{doc_of}
 use Rattle.document_json.specs.Replaced.{new_table, replaced}
 use Rattle.document_json.specs.Written.{written}
+use Rattle.document_json.proofs.MoreSections.{is_taken}
 use Rattle.order_sections.specs.Grids.{table_at}
 use Rattle.order_sections.specs.Orders.{with_more}
 use Rattle.document_orders.specs.Ordered.{KeepsTree, new_tree}
 use Rattle.document_orders.proofs.Offering.{listed_there, new_there}
-use Rattle.document_orders.proofs.Taking.{is_taken}
 use Rattle.run_orders.specs.RunOrdered.{HaveMore, IsOrderedByRun}
 
 -- tables with more sections than those of the document, which were taken out of it

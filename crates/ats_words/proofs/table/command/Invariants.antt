@@ -5,6 +5,6 @@ use Rattle.ats_words.specs.Options.{rule_for}
 use Rattle.ats_words.specs.Words.{start}
 use Rattle.ats_words.proofs.table.command.Given as goal
 
-abbrev pub invariant-loop-name : goal.invariant-loop-name
-invariant-loop-name l =
-    IsBuiltAs (fold (λ app row. with_subcommand app (leaf row.0.now (map rule_for row.1.now))) start (take l.name-index l.subcommands)) l.command
+abbrev pub invariant-loop-subcommand : goal.invariant-loop-subcommand
+invariant-loop-subcommand l =
+    IsBuiltAs (fold (λ app row. with_subcommand app (leaf row.name.now (map rule_for row.options.now))) start (take l.subcommand-index l.subcommands)) l.command

@@ -10,5 +10,5 @@ loop-option-init c = (ap (λ app. app.top) c.new-command.ensures.app, c.new-comm
 
 pub loop-option-preserved : goal.loop-option-preserved
 loop-option-preserved c =
-    one_option_more rule_for c.args.name.now c.args.options.now c.loop-option.option-index _ c.long_option.result c.loop-option.command c.in_ok-command.command (search rules)
+    one_option_more rule_for c.args.subcommand.now.name.now c.args.subcommand.now.options.now c.loop-option.option-index _ c.long_option.result c.loop-option.command c.in_ok-command.command (search rules)
     c.long_option.ensures.rule c.long_option.ensures.local c.in_ok-command.ensures c.loop-option.invariant

@@ -4,4 +4,4 @@ use Rattle.ats_words.specs.Options.{rule_for}
 use Rattle.ats_words.proofs.table.leaf.Given as goal
 
 abbrev pub invariant-loop-option : goal.invariant-loop-option
-invariant-loop-option l = IsSubcommand (leaf l.name (map rule_for (take l.option-index l.options))) l.command
+invariant-loop-option l = IsSubcommand (leaf l.subcommand.name.now (map rule_for (take l.option-index l.subcommand.options.now))) l.command

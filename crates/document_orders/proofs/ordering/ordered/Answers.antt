@@ -4,11 +4,12 @@ use Rattle.rail_model.specs.Table.{Table}
 use Rattle.document_json.specs.Doc.{Doc, nodes_at}
 use Rattle.document_json.specs.Keeps.{IsTaken}
 use Rattle.document_json.specs.Migrated.{IsMigrated}
+use Rattle.document_json.proofs.MoreSections.{version_back}
 use Rattle.order_sections.specs.Found.{HaveSameTrains}
 use Rattle.order_sections.specs.Grids.{table_at}
 use Rattle.order_sections.specs.Orders.{AddsOrders}
 use Rattle.document_orders.specs.Ordered.{KeepsTree, new_tree}
-use Rattle.document_orders.proofs.Adding.{AreFound, is_ordered, replaced_is_taken, same_trains, version_back}
+use Rattle.document_orders.proofs.Adding.{AreFound, is_ordered, replaced_is_taken, same_trains}
 use Rattle.document_orders.proofs.ordering.ordered.Goals as goal
 
 pub order-requires : goal.order-requires

@@ -9,9 +9,10 @@ use Rattle.rail_model.specs.Table.{Table}
 use Rattle.document_json.specs.Doc.{IsDoc}
 use Rattle.document_json.specs.Keeps.{IsTaken}
 use Rattle.document_json.specs.Replaced.{new_table, replaced}
+use Rattle.document_json.proofs.MoreSections.{version_back}
 use Rattle.document_protection.specs.Protected.{ArePartsOf, AreProtected, HasNone}
 use Rattle.document_protection.proofs.Parts.{AreApart, are_apart, are_protected, few, none, none_for, one_each}
-use Rattle.document_protection.proofs.Parts.{replaced_is_taken, some, start_forbidden, version_back}
+use Rattle.document_protection.proofs.Parts.{replaced_is_taken, some, start_forbidden}
 use Rattle.document_protection.proofs.protecting.protected.Goals as goal
 
 pub parts_of-requires : goal.parts_of-requires

@@ -7,7 +7,7 @@ use Rattle.live_answers.proofs.rows.push_tolds.Goals as goal
 pub returns : goal.returns
 returns c =
     let rows = c.in_ok-push_told_rows.ensures in
-    let line = line_of c.args.tag.now (session_words c.could_of.result) in
+    let line = line_of c.args.page.now.tag.now (session_words c.could_of.result) in
     on_ok c.push_answer.result _ _
     (λ said. (
       _,
@@ -17,7 +17,7 @@ returns c =
         c.requires.told,
         rows.1,
         ap
-            (λ a. rows.0 ++ line_of c.args.tag.now (session_words a)) c.could_of.ensures,
+            (λ a. rows.0 ++ line_of c.args.page.now.tag.now (session_words a)) c.could_of.ensures,
       ),
       behind c.args.out.now.items c.push_told_rows.new.out.items line _ rows.0 rows.2 said,
     )) c.push_answer.ensures

@@ -30,7 +30,7 @@ push_why_answer-requires-clause-named c = omega (arith, c.requires.told.one_each
 pub returns : goal.returns
 returns c =
     let rows = c.in_ok-push_rows_of.ensures in
-    let line = why_line c.args.names.now c.args.tag.now c.args.tolds.now c.args.waiting.now c.args.train in
+    let line = why_line c.args.page.now.names.now c.args.page.now.tag.now c.args.tolds.now c.args.waiting.now c.args.train in
     on_ok c.push_why_answer.result _ _
     (λ said. (
       _,

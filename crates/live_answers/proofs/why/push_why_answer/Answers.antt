@@ -11,7 +11,7 @@ use Rattle.live_answers.proofs.why.push_why_answer.Goals as goal
 pub push_answer-requires : goal.push_answer-requires
 push_answer-requires c =
     let waiting = c.args.waiting.now in
-    let named = λ (i : ℕ). i < length c.args.names.now.trains in
+    let named = λ (i : ℕ). i < length c.args.page.now.names.now.trains in
     let all : All named waiting = All-weaker (λ i. i < length c.args.tolds.now) named
     (λ i lower. omega (arith, lower, c.requires.named)) waiting c.requires.below in
     let may = c.deref.ensures.value ∙ c.in_ok-may.ensures in
@@ -26,7 +26,7 @@ returns c =
     let may = c.deref.ensures.value ∙ c.in_ok-may.ensures in
     let away = c.deref-2.ensures.value ∙ c.in_ok-away.ensures in
     on_ok c.push_answer.result _ _
-    (λ said. said ∙ (λ j. c.args.out.now.items ++ line_of c.args.tag.now
-    (codes "why " ++ train_name c.args.names.now c.args.train ++ why_words c.args.names.now
+    (λ said. said ∙ (λ j. c.args.out.now.items ++ line_of c.args.page.now.tag.now
+    (codes "why " ++ train_name c.args.page.now.names.now c.args.train ++ why_words c.args.page.now.names.now
     (length c.args.waiting.now) (may j) (away j))))
     c.push_answer.ensures

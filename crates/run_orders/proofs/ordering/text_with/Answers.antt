@@ -2,7 +2,7 @@ use Rattle.std.proofs.Common.{◌∙◌, ℕ, ◌<◌, List, length, map, sym, a
 use Rattle.rail_model.specs.Certificate.{Tree}
 use Rattle.rail_model.specs.Table.{Table}
 use Rattle.document_json.specs.Doc.{nodes_at}
-use Rattle.document_orders.proofs.Adding.{version_back}
+use Rattle.document_json.proofs.MoreSections.{version_back}
 use Rattle.document_orders.specs.Ordered.{KeepsTree, new_tree}
 use Rattle.run_orders.proofs.Adding.{is_ordered, one_each, replaced_is_taken}
 use Rattle.run_orders.proofs.ordering.text_with.Goals as goal

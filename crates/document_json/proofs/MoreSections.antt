@@ -1,5 +1,5 @@
 -- Nothing of a document of version 2 or later is refused where its tables have more sections behind their own, as long as they are tables.
-use Rattle.std.proofs.Common.{◌≡◌, ◌∙◌, true, false, ℕ, ◌<◌, List, [], length, get_or, Ok, refl, sym, ap, subst}
+use Rattle.std.proofs.Common.{◌≡◌, ◌∙◌, true, false, ℕ, ◌<◌, List, [], ◌++◌, length, get_or, Ok, refl, sym, ap, subst}
 use Rattle.std.specs.Prelude.{◌==◌, if◌then◌else◌}
 use Rattle.rail_model.specs.Certificate.{Tree, arrived}
 use Rattle.rail_model.specs.State.{Legal}
@@ -9,7 +9,7 @@ use Rattle.section_marks.specs.declared.marks.Marks.TheVariants.{One, Four}
 use Rattle.document_json.specs.Doc.{Doc, doc_table, table_at}
 use Rattle.document_json.specs.Keeps.{IsTaken}
 use Rattle.document_json.specs.Members.{members_in}
-use Rattle.document_json.specs.Migrated.{later_version}
+use Rattle.document_json.specs.Migrated.{IsMigrated, later_version}
 use Rattle.document_json.specs.Replaced.{each_with, exchanged, new_table, replaced}
 use Rattle.document_json.specs.Start.{start_refusal}
 use Rattle.document_json.specs.Tables.{marks_of, times_refusal}
@@ -19,10 +19,9 @@ use Rattle.document_json.proofs.StartLemmas.{illegality-none, start-none}
 use Rattle.document_json.proofs.Taken.{makes}
 use Rattle.document_json.proofs.Marked.{sections-kept, connections-kept}
 use Rattle.document_json.proofs.Remade.{length-each_with, each_with-at}
-use Rattle.order_sections.specs.Orders.{with_more}
 
 -- a later version isn't the first
-pub later_is_not_first : (v : ℕ) → (later_version v == 1) ≡ false
+later_is_not_first : (v : ℕ) → (later_version v == 1) ≡ false
 later_is_not_first v = elim (v == 1) as (λ b. (v == 1) ≡ b → ((if b then 2 else v) == 1) ≡ false) [ true ↦ λ e. refl | false ↦ λ e. e ] refl
 
 -- a table keeps to the limits and shares of a version that isn't the first
@@ -30,6 +29,14 @@ marked : (version : ℕ) (T : Table) → (version == 1) ≡ false → IsTable T 
 marked version T later formed =
     subst (λ b. KeepsTo (if b then One else Four) T) (sym later)
     (record { limits = λ s lt. (formed.sections s lt).low_limit; shares = λ s i k lt train within. (formed.sections s lt).not_above i k train within })
+
+-- a document in a later version isn't of the first
+pub version_back : (D E : Doc) → IsMigrated D E → (E.version == 1) ≡ false
+version_back D E m = ap (λ v. v == 1) m.later ∙ later_is_not_first D.version
+
+-- a table with more sections behind its own
+abbrev with_more : Table → List Section → Table
+with_more T more = record { missions = T.missions; sections = T.sections ++ more; connections = T.connections }
 
 module _ (D : Doc) (taken : IsTaken D) (later : (D.version == 1) ≡ false) (parts : List (Table × Tree)) (same : length parts ≡ length D.tables)
     (formed : (t : ℕ) → t < length D.tables → IsTable (new_table parts t))
