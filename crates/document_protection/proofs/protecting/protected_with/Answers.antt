@@ -10,8 +10,8 @@ use Rattle.document_json.specs.Doc.{IsDoc}
 use Rattle.document_json.specs.Keeps.{IsTaken}
 use Rattle.document_json.specs.Replaced.{new_table, replaced}
 use Rattle.document_protection.specs.Protected.{ArePartsOf, AreProtected, HasNone}
-use Rattle.document_protection.proofs.Parts.{are_protected, none, none_for, one_each}
-use Rattle.document_protection.proofs.Parts.{replaced_is_taken, some, start_forbidden, version_back}
+use Rattle.document_protection.proofs.Parts.{are_protected, none, none_for}
+use Rattle.document_protection.proofs.Parts.{replaced_is_taken, start_forbidden, version_back}
 use Rattle.document_protection.proofs.protecting.protected_with.Goals as goal
 
 pub returns-in_err-parts-clause-none : goal.returns-in_err-parts-clause-none
