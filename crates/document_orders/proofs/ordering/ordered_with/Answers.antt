@@ -25,8 +25,9 @@ write_replaced-requires-clause-taken c =
       tables_are = c.requires.tables;
       count = c.in_ok-found.ensures.count;
       formed = c.in_ok-found.ensures.formed;
-      adds = subst (λ start. AddsOrders (length tables) (table_at tables) (table_at made) start) c.start.ensures.start c.in_ok-found.ensures.orders;
-      parts_are = ap (λ (ps : List (Table × Tree)). map (λ p. p.0) ps) c.deref-2.ensures.value ∙ c.in_ok-parts.ensures.tables ∙ c.deref.ensures.value;
+      adds = subst (AddsOrders (length tables) (table_at tables) (table_at made)) c.start.ensures.start c.in_ok-found.ensures.orders;
+      parts_are = ap (λ (ps : List (Table × Tree)). map (λ p. p.0) ps) c.deref-2.ensures.value ∙ c.in_ok-parts.ensures.tables
+          ∙ c.deref.ensures.value;
     } in
     replaced_is_taken E tables made parts found c.requires.taken (version_back c.args.doc.now E c.requires.migrated)
 
@@ -42,9 +43,11 @@ returns c =
       tables_are = c.requires.tables;
       count = c.in_ok-found.ensures.count;
       formed = c.in_ok-found.ensures.formed;
-      adds = subst (λ start. AddsOrders (length tables) (table_at tables) (table_at made) start) c.start.ensures.start c.in_ok-found.ensures.orders;
-      parts_are = ap (λ (ps : List (Table × Tree)). map (λ p. p.0) ps) c.deref-2.ensures.value ∙ c.in_ok-parts.ensures.tables ∙ c.deref.ensures.value;
+      adds = subst (AddsOrders (length tables) (table_at tables) (table_at made)) c.start.ensures.start c.in_ok-found.ensures.orders;
+      parts_are = ap (λ (ps : List (Table × Tree)). map (λ p. p.0) ps) c.deref-2.ensures.value ∙ c.in_ok-parts.ensures.tables
+          ∙ c.deref.ensures.value;
     } in
-    let trees = subst (λ (ps : List (Table × Tree)). (t : ℕ) → t < length D.tables → KeepsTree (nodes_at D t) (new_tree ps t)) (sym c.deref-2.ensures.value)
-    c.in_ok-parts.ensures.trees in
-    is_ordered D E tables made parts c.in_ok-text.text.items found c.requires.migrated trees c.in_ok-text.ensures.text c.in_ok-text.ensures.reads_back
+    let trees = subst (λ (ps : List (Table × Tree)). (t : ℕ) → t < length D.tables → KeepsTree (nodes_at D t) (new_tree ps t))
+    (sym c.deref-2.ensures.value) c.in_ok-parts.ensures.trees in
+    is_ordered D E tables made parts c.in_ok-text.text.items found c.requires.migrated trees c.in_ok-text.ensures.text
+    c.in_ok-text.ensures.reads_back
