@@ -1,4 +1,4 @@
-use Rattle.std.proofs.Common.{◌≡◌, ◌≤◌, length, ap, ◌∙◌, arith}
+use Rattle.std.proofs.Common.{◌≡◌, ◌≤◌, length, sym, ap, ◌∙◌, arith}
 use Rattle.std.proofs.lemmas.List.{length-map}
 use Rattle.document_json.specs.Doc.{offers_of}
 use Rattle.document_json.specs.Keeps.{untimed}
@@ -11,3 +11,9 @@ spelled-requires c =
     let offers : length (offers_of c.args.doc) ≡ length c.args.doc.tables = length-map c.args.doc.tables (λ t. offer_of (untimed t)) in
     let each = ap length c.into_parts-frame.ensures.tables ∙ length-map c.args.doc.tables untimed in
     omega (arith, few, offers, each)
+
+pub returns-clause-ok : goal.returns-clause-ok
+returns-clause-ok c = c.in_ok-found.ensures.ok c.args.doc (sym c.into_parts-frame.ensures.tables)
+
+pub returns-clause-tables : goal.returns-clause-tables
+returns-clause-tables c = c.in_ok-found.ensures.tables c.args.doc (sym c.into_parts-frame.ensures.tables)
