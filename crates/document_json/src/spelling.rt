@@ -4,7 +4,8 @@ ghost use Rattle.rail_model.specs.Certificate.{preorder};
 ghost use Rattle.cert_tree.specs.declared.reading.CertRefused.{CertRefused as Cause};
 ghost use Rattle.cert_tree.specs.Refused.{IsRefused};
 ghost use Rattle.cert_tree.specs.Spelling.{most_nodes};
-ghost use Rattle.document_json.specs.Doc.{IsDoc, offers_of};
+ghost use Rattle.document_json.specs.Doc.{Doc as DocValue, IsDoc, offers_of};
+ghost use Rattle.document_json.specs.Keeps.{untimed};
 ghost use Rattle.document_json.specs.Trees.{AreTrees, TreesRefused};
 ghost use Rattle.document_json.specs.declared.spelling.TreeRefused.TheVariants.{Memory, Tree as NoTree};
 
@@ -54,12 +55,25 @@ pub fn certificates(alloc: Global, doc: Doc) -> Result<(Frame, Vec<Certified>), 
     ensures refused { IfErr result (TreesRefused doc) }
 {
     let (frame, tables) = doc.into_parts();
+    let found = spelled(alloc, tables)?;
+    Ok((frame, found))
+}
+
+// The tables of a document with their trees. Here nothing else is owned, so that little has to be dropped at the exits.
+fn spelled(alloc: Global, tables: Vec<Untimed>) -> Result<Vec<Certified>, TreeRefused>
+    requires { length tables.items ≤ 16 }
+    ensures ok { IfOk result (λ found. (D : DocValue) → map untimed D.tables ≡ tables.items
+        → AreTrees D (map (λ t. t.cert) found.items)) }
+    ensures tables { IfOk result (λ found. (D : DocValue) → map untimed D.tables ≡ tables.items
+        → map (λ t. record { table = t.table; after = t.after }) found.items ≡ offers_of D) }
+    ensures refused { IfErr result (λ e. (D : DocValue) → map untimed D.tables ≡ tables.items → TreesRefused D e) }
+{
     let mut found = Vec::new(alloc);
     for table in tables {
         let number = found.len() as u32;
         found.push(certify(number, table)?)?;
     }
-    Ok((frame, found))
+    Ok(found)
 }
 
 // A table, which has this number, with the tree that its nodes spell.

@@ -1,10 +1,12 @@
 // A document with orders.
-ghost use Rattle.std.specs.Prelude.{IfOk};
+ghost use Rattle.std.specs.Prelude.{◌≡◌, IfOk, map};
+ghost use Rattle.document_json.specs.Keeps.{IsTaken};
+ghost use Rattle.document_json.specs.Migrated.{IsMigrated};
 ghost use Rattle.document_orders.specs.Ordered.{IsOrdered};
 
 use crate::NotOrdered;
 use crate::keeping::with_certs;
-use document_json::{Doc, migrate, tables_apart, version, write_replaced};
+use document_json::{Doc, Frame, migrate, tables_apart, version, write_replaced};
 use order_sections::{Chain, Order, Ordered, Two, order};
 use rail_model::{Table, sections_of};
 use std::alloc::Global;
@@ -32,6 +34,38 @@ pub fn has_no_room(tables: &[Table], found: &Ordered) -> bool {
                 .all(|table| sections_of(table) >= MOST_SECTIONS))
 }
 
+// A document with orders, of the tables of it in a later version. Both are lent, so that they aren't dropped at each exit.
+fn ordered_with(
+    alloc: Global,
+    doc: &Doc,
+    later: &Frame,
+    tables: &[Table],
+) -> Result<OrderedDoc, NotOrdered>
+    requires migrated { IsMigrated doc.now later.now }
+    requires taken { IsTaken later.now }
+    requires tables { tables.now ≡ map (λ t. t.table) later.now.tables }
+    ensures { IfOk result (λ made. IsOrdered doc.now made.text.items) }
+{
+    let found = order(alloc, tables, later.start())?;
+    if has_no_room(tables, &found) {
+        return Err(NotOrdered::NoRoom);
+    }
+    let parts = with_certs(alloc, doc, &found.tables)?;
+    let text = write_replaced(alloc, later, &parts)?;
+    let Ordered {
+        orders,
+        chains,
+        left_out,
+        ..
+    } = found;
+    Ok(OrderedDoc {
+        text,
+        orders,
+        chains,
+        left_out,
+    })
+}
+
 /// The document with sections behind its own that keep trains in the order that the tracks force: they forbid only what no run from the
 /// start reaches. It is in version 2 if it was in version 1. A certificate that isn't a tree is replaced by the smallest one; otherwise
 /// nothing but the sections changes.
@@ -46,22 +80,5 @@ pub fn ordered(alloc: Global, doc: &Doc) -> Result<OrderedDoc, NotOrdered>
     let is_later = version(&later) > 1;
     prove!(is_later);
     let (frame, tables) = tables_apart(alloc, later)?;
-    let found = order(alloc, &tables, frame.start())?;
-    if has_no_room(&tables, &found) {
-        return Err(NotOrdered::NoRoom);
-    }
-    let parts = with_certs(alloc, doc, &found.tables)?;
-    let text = write_replaced(alloc, &frame, &parts)?;
-    let Ordered {
-        orders,
-        chains,
-        left_out,
-        ..
-    } = found;
-    Ok(OrderedDoc {
-        text,
-        orders,
-        chains,
-        left_out,
-    })
+    ordered_with(alloc, doc, &frame, &tables)
 }

@@ -1,13 +1,15 @@
 // A document with guards and certificates.
-ghost use Rattle.std.specs.Prelude.{◌≤◌, IfOk, IfErr, MatchResult, length};
+ghost use Rattle.std.specs.Prelude.{◌≡◌, ◌<◌, ◌≤◌, IfOk, IfErr, MatchResult, length, map};
 ghost use Rattle.rail_model.specs.Certificate.{Accepts};
 ghost use Rattle.rail_model.specs.Table.{Table as TableValue};
+ghost use Rattle.document_json.specs.Keeps.{IsTaken};
+ghost use Rattle.document_json.specs.Migrated.{IsMigrated};
 ghost use Rattle.section_protect.specs.Protects.{Ends};
 ghost use Rattle.document_protection.specs.Protected.{ArePartsOf, IsProtected, IsStuckBy, HasNoneOf, HasNone};
 
 use crate::{Guards, Unprotected, Why};
 use cert_tree::Cert;
-use document_json::{Doc, migrate, tables_apart, version, write_replaced};
+use document_json::{Doc, Frame, migrate, tables_apart, version, write_replaced};
 use legal_state::judge;
 use rail_model::Table;
 use section_protect::{Ended, Finder, Protected, protect};
@@ -71,6 +73,35 @@ fn parts_of<F: Finder>(
     Ok(Parts { parts, guards })
 }
 
+// The text of a document in a later version with guards and certificates for its tables. Both are lent, so that they aren't dropped at each
+// exit.
+fn protected_with<F: Finder>(
+    alloc: Global,
+    doc: &Doc,
+    later: &Frame,
+    tables: &[Table],
+    finder: &F,
+    rounds: u32,
+) -> Result<ProtectedDoc, Unprotected>
+    requires migrated { IsMigrated doc.now later.now }
+    requires taken { IsTaken later.now }
+    requires tables { tables.now ≡ map (λ t. t.table) later.now.tables }
+    requires some { 0 < length tables.now }
+    requires few { length tables.now ≤ 16 }
+    ensures made { IfOk result (λ made. IsProtected doc.now made.guards.items made.text.items) }
+
+    ensures none { IfErr result (HasNone doc.now) }
+{
+    let Parts { parts, guards } = parts_of(alloc, tables, finder, rounds)?;
+    match judge(&parts[0].0, later.start()) {
+        Ok(()) => {
+            let text = write_replaced(alloc, later, &parts)?;
+            Ok(ProtectedDoc { text, guards })
+        }
+        Err(_) => Err(Unprotected::Start { guards }),
+    }
+}
+
 /// The document with guards behind the sections of each table, and with certificates that a finder finds, all else
 /// equal. In at most `rounds` rounds for each table a guard is made. It is in version 2 if it was in version 1.
 ///
@@ -92,12 +123,5 @@ pub fn protected<F: Finder>(
     let is_later = version(&later) > 1;
     prove!(is_later);
     let (frame, tables) = tables_apart(alloc, later)?;
-    let Parts { parts, guards } = parts_of(alloc, &tables, finder, rounds)?;
-    match judge(&parts[0].0, frame.start()) {
-        Ok(()) => {
-            let text = write_replaced(alloc, &frame, &parts)?;
-            Ok(ProtectedDoc { text, guards })
-        }
-        Err(_) => Err(Unprotected::Start { guards }),
-    }
+    protected_with(alloc, doc, &frame, &tables, finder, rounds)
 }

@@ -1,6 +1,6 @@
 -- A document whose tables get more sections, and nothing of which is refused.
-use Rattle.std.proofs.Common.{◌≡◌, false, ℕ, ◌<◌, List, length, map, Ok, sym, ap, ◌∙◌, subst, arith}
-use Rattle.std.specs.Prelude.{◌==◌}
+use Rattle.std.proofs.Common.{◌≡◌, false, ℕ, ◌<◌, List, length, map, Result, Ok, Err, sym, ap, ◌∙◌, subst, arith}
+use Rattle.std.specs.Prelude.{◌==◌, IfOk}
 use Rattle.std.proofs.lemmas.List.{length-map}
 use Rattle.rail_model.specs.Certificate.{Tree}
 use Rattle.rail_model.specs.Journal.{Journal, IsWhole}
@@ -65,3 +65,8 @@ module _ (E : Doc) (made : List Table) (parts : List (Table × Tree)) (h : HaveM
     is_text = is_text ∙ ap written is;
     reads_back = reads ∙ ap Ok is;
   }
+
+-- what holds of a text that is given where another fact holds of it
+pub if_given : {A E : Type 0} (P Q : A → Type 0) (r : Result A E) → ((a : A) → P a → Q a) → IfOk r P → IfOk r Q
+if_given P Q (Ok a) so holds = so a holds
+if_given P Q (Err e) so holds = tt

@@ -49,6 +49,12 @@ pub record IsOrderedByRun (D : Doc) (J : Journal) (text : List ℕ) : Type 0 whe
   pub is_text : text ≡ written (replaced later parts)
   pub reads_back : doc_of text ≡ Ok (replaced later parts)
 
+-- The text is that of the document and reads back as it, and the run is one of it, to its end.
+pub record IsTextWithRun (D : Doc) (J : Journal) (text : List ℕ) : Type 0 where
+  pub whole : IsWhole (offers_of D) (opening D.start) J
+  pub is_text : text ≡ written D
+  pub reads_back : doc_of text ≡ Ok D
+
 -- the lines of a journal's text, with its end line or without it
 abbrev pub lines_in : Part → List Line
 lines_in (Whole J) = J.lines

@@ -4,7 +4,7 @@ ghost use Rattle.rail_model.specs.State.{Legal};
 ghost use Rattle.document_json.specs.Keeps.{IsTaken};
 ghost use Rattle.document_json.specs.Migrated.{IsMigrated};
 ghost use Rattle.order_sections.specs.Grids.{table_at};
-ghost use Rattle.run_orders.specs.RunOrdered.{HaveMore, IsOrderedByRun};
+ghost use Rattle.run_orders.specs.RunOrdered.{HaveMore, IsOrderedByRun, IsTextWithRun};
 
 use crate::RunRefused;
 use crate::drawing::verified;
@@ -43,6 +43,17 @@ fn orders_of(
     Ok(found)
 }
 
+// The text of a document, if the run is one of it.
+fn text_if_run(alloc: Global, made: &Doc, run: &Journal) -> Result<Vec<u8>, RunRefused>
+    ensures { IfOk result (λ text. IsTextWithRun made.now run.now text.items) }
+{
+    match verified(alloc, made, run) {
+        Ok(()) => Ok(write(alloc, made)?),
+        Err(BadLine::Memory) => Err(RunRefused::Memory),
+        Err(_) => Err(RunRefused::Untrue),
+    }
+}
+
 // The text of a document, in a later version, with these tables, if the run is one of it.
 fn text_with(
     alloc: Global,
@@ -58,11 +69,36 @@ fn text_with(
 {
     let parts = with_certs(alloc, doc, tables)?;
     let made = replaced(alloc, later, &parts)?;
-    match verified(alloc, &made, run) {
-        Ok(()) => Ok(write(alloc, &made)?),
-        Err(BadLine::Memory) => Err(RunRefused::Memory),
-        Err(_) => Err(RunRefused::Untrue),
-    }
+    text_if_run(alloc, &made, run)
+}
+
+// A document with the orders of a run, of the tables of it in a later version. Both are lent, so that they aren't dropped at each exit.
+fn ordered_with(
+    alloc: Global,
+    doc: &Doc,
+    later: &Frame,
+    tables: &[Table],
+    run: &Journal,
+) -> Result<OrderedDoc, RunRefused>
+    requires migrated { IsMigrated doc.now later.now }
+    requires taken { IsTaken later.now }
+    requires tables { tables.now ≡ map (λ t. t.table) later.now.tables }
+    ensures { IfOk result (λ made. IsOrderedByRun doc.now run.now made.text.items) }
+{
+    let found = orders_of(alloc, later, tables, run)?;
+    let text = text_with(alloc, doc, later, &found.tables, run)?;
+    let Ordered {
+        orders,
+        chains,
+        left_out,
+        ..
+    } = found;
+    Ok(OrderedDoc {
+        text,
+        orders,
+        chains,
+        left_out,
+    })
 }
 
 /// The document with sections behind its own that keep its trains in the order of a run of it: for each two trains the
@@ -82,18 +118,5 @@ pub fn ordered_by_run(alloc: Global, doc: &Doc, run: &Journal) -> Result<Ordered
     let is_later = version(&later) > 1;
     prove!(is_later);
     let (frame, tables) = tables_apart(alloc, later)?;
-    let found = orders_of(alloc, &frame, &tables, run)?;
-    let text = text_with(alloc, doc, &frame, &found.tables, run)?;
-    let Ordered {
-        orders,
-        chains,
-        left_out,
-        ..
-    } = found;
-    Ok(OrderedDoc {
-        text,
-        orders,
-        chains,
-        left_out,
-    })
+    ordered_with(alloc, doc, &frame, &tables, run)
 }

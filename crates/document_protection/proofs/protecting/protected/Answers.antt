@@ -1,22 +1,48 @@
-use Rattle.std.proofs.Common.{◌<◌, ℕ, List, length, sym, subst, arith}
-use Rattle.std.specs.Prelude.{IfErr}
-use Rattle.std.proofs.lemmas.List.{get_or_read}
-use Rattle.std.proofs.lemmas.Result.{err_from_is_err_and}
-use Rattle.legal_state.specs.Illegal.{IsIllegal}
-use Rattle.rail_model.specs.Certificate.{Tree}
-use Rattle.rail_model.specs.State.{Legal}
-use Rattle.rail_model.specs.Table.{Table}
+use Rattle.std.proofs.Common.{sym, subst, arith}
 use Rattle.document_json.specs.Doc.{IsDoc}
 use Rattle.document_json.specs.Keeps.{IsTaken}
-use Rattle.document_json.specs.Replaced.{new_table, replaced}
-use Rattle.document_json.proofs.MoreSections.{version_back}
-use Rattle.document_protection.specs.Protected.{ArePartsOf, AreProtected, HasNone}
-use Rattle.document_protection.proofs.Parts.{AreApart, are_apart, are_protected, few, none, none_for, one_each}
-use Rattle.document_protection.proofs.Parts.{replaced_is_taken, some, start_forbidden}
+use Rattle.document_protection.proofs.Parts.{AreApart, are_apart, count, few, some}
 use Rattle.document_protection.proofs.protecting.protected.Goals as goal
 
-pub parts_of-requires : goal.parts_of-requires
-parts_of-requires g c =
+pub protected_with-requires-clause-migrated : goal.protected_with-requires-clause-migrated
+protected_with-requires-clause-migrated g c =
+    let D = c.args.doc.now in
+    let E = c.in_ok-frame.frame in
+    let tables = c.deref.result.now in
+    let apart : AreApart D E tables =
+    are_apart D E _ tables _ c.in_ok-frame.ensures.frame c.in_ok-later.ensures.kept c.deref.ensures.value
+    c.in_ok-frame.ensures.tables in
+    apart.migrated
+
+pub protected_with-requires-clause-taken : goal.protected_with-requires-clause-taken
+protected_with-requires-clause-taken g c = subst IsTaken (sym c.in_ok-frame.ensures.frame) c.version-is_later.ensures.taken
+
+pub protected_with-requires-clause-tables : goal.protected_with-requires-clause-tables
+protected_with-requires-clause-tables g c =
+    let D = c.args.doc.now in
+    let E = c.in_ok-frame.frame in
+    let tables = c.deref.result.now in
+    let apart : AreApart D E tables =
+    are_apart D E _ tables _ c.in_ok-frame.ensures.frame c.in_ok-later.ensures.kept c.deref.ensures.value
+    c.in_ok-frame.ensures.tables in
+    apart.tables_are
+
+pub protected_with-requires-clause-some : goal.protected_with-requires-clause-some
+protected_with-requires-clause-some g c =
+    let D = c.args.doc.now in
+    let E = c.in_ok-frame.frame in
+    let tables = c.deref.result.now in
+    let apart : AreApart D E tables =
+    are_apart D E _ tables _ c.in_ok-frame.ensures.frame c.in_ok-later.ensures.kept c.deref.ensures.value
+    c.in_ok-frame.ensures.tables in
+    omega (
+      arith,
+      some E tables apart.tables_are (subst IsDoc (sym c.in_ok-frame.ensures.frame) c.tables_apart.ensures.formed),
+      count E tables apart.tables_are,
+    )
+
+pub protected_with-requires-clause-few : goal.protected_with-requires-clause-few
+protected_with-requires-clause-few g c =
     let D = c.args.doc.now in
     let E = c.in_ok-frame.frame in
     let tables = c.deref.result.now in
@@ -24,88 +50,3 @@ parts_of-requires g c =
     are_apart D E _ tables _ c.in_ok-frame.ensures.frame c.in_ok-later.ensures.kept c.deref.ensures.value
     c.in_ok-frame.ensures.tables in
     few E tables apart.tables_are (subst IsDoc (sym c.in_ok-frame.ensures.frame) c.tables_apart.ensures.formed)
-
-pub returns-in_err-parts-clause-none : goal.returns-in_err-parts-clause-none
-returns-in_err-parts-clause-none g c =
-    let D = c.args.doc.now in
-    let E = c.in_ok-frame.frame in
-    let tables = c.deref.result.now in
-    let apart : AreApart D E tables =
-    are_apart D E _ tables _ c.in_ok-frame.ensures.frame c.in_ok-later.ensures.kept c.deref.ensures.value
-    c.in_ok-frame.ensures.tables in
-    let e = c.in_err-parts.field-0.0 in
-    let got = err_from_is_err_and c.from_residual-in_err-parts.result c.from_residual-in_err-parts.ensures.1 in
-    subst (λ r. IfErr r (HasNone D)) (sym got.1)
-    (subst (HasNone D) (sym got.2) (none_for E tables apart.tables_are D e apart.migrated c.in_err-parts.ensures.none))
-
-pub write_replaced-requires-clause-taken : goal.write_replaced-requires-clause-taken
-write_replaced-requires-clause-taken g c =
-    let D = c.args.doc.now in
-    let E = c.in_ok-frame.frame in
-    let tables = c.deref.result.now in
-    let apart : AreApart D E tables =
-    are_apart D E _ tables _ c.in_ok-frame.ensures.frame c.in_ok-later.ensures.kept c.deref.ensures.value
-    c.in_ok-frame.ensures.tables in
-    let is : IsDoc E = c.start.ensures.formed in
-    let made = c.in_ok-parts.field-0 in
-    let found : ArePartsOf tables made.guards.items made.parts.items = c.in_ok-parts.ensures.parts in
-    let taken : IsTaken E = subst IsTaken (sym c.in_ok-frame.ensures.frame) c.version-is_later.ensures.taken in
-    let within : 0 < length made.parts.items =
-    omega (
-      arith,
-      some E tables apart.tables_are is,
-      one_each E tables made.guards.items made.parts.items is apart.tables_are found,
-    ) in
-    let first = get_or_read made.parts.items 0 c.index.result.now within c.index.ensures none in
-    let start : Legal (new_table made.parts.items 0) E.start =
-    subst (Legal (new_table made.parts.items 0)) c.start.ensures.start
-    (subst (λ (p : Table × Tree). Legal p.0 c.start.result.now) first c.in-Ok.ensures.legal) in
-    subst (λ (ps : List (Table × Tree)). IsTaken (replaced E ps)) (sym c.deref-in-Ok.ensures.value)
-    (replaced_is_taken E tables made.guards.items made.parts.items is apart.tables_are found taken
-    (version_back D E apart.migrated) start)
-
-pub returns-in-Ok-clause-made : goal.returns-in-Ok-clause-made
-returns-in-Ok-clause-made g c =
-    let D = c.args.doc.now in
-    let E = c.in_ok-frame.frame in
-    let tables = c.deref.result.now in
-    let apart : AreApart D E tables =
-    are_apart D E _ tables _ c.in_ok-frame.ensures.frame c.in_ok-later.ensures.kept c.deref.ensures.value
-    c.in_ok-frame.ensures.tables in
-    let made = c.in_ok-parts.field-0 in
-    let found : ArePartsOf tables made.guards.items made.parts.items = c.in_ok-parts.ensures.parts in
-    record {
-      later = E;
-      parts = c.deref-in-Ok.result.now;
-      migrated = apart.migrated;
-      tables =
-          subst (λ (ps : List (Table × Tree)). AreProtected D made.guards.items ps) (sym c.deref-in-Ok.ensures.value)
-          (are_protected E tables made.guards.items made.parts.items c.start.ensures.formed apart.tables_are found D
-          apart.migrated);
-      is_text = c.in_ok-text-in-Ok.ensures.text;
-      reads_back = c.in_ok-text-in-Ok.ensures.reads_back;
-    }
-
-pub returns-clause-none : goal.returns-clause-none
-returns-clause-none g c =
-    let D = c.args.doc.now in
-    let E = c.in_ok-frame.frame in
-    let tables = c.deref.result.now in
-    let apart : AreApart D E tables =
-    are_apart D E _ tables _ c.in_ok-frame.ensures.frame c.in_ok-later.ensures.kept c.deref.ensures.value
-    c.in_ok-frame.ensures.tables in
-    let is : IsDoc E = c.start.ensures.formed in
-    let made = c.in_ok-parts.field-0 in
-    let found : ArePartsOf tables made.guards.items made.parts.items = c.in_ok-parts.ensures.parts in
-    let within : 0 < length made.parts.items =
-    omega (
-      arith,
-      some E tables apart.tables_are is,
-      one_each E tables made.guards.items made.parts.items is apart.tables_are found,
-    ) in
-    let first = get_or_read made.parts.items 0 c.index.result.now within c.index.ensures none in
-    let why = c.in-Err.field-0 in
-    let illegal : IsIllegal (new_table made.parts.items 0) E.start why =
-    subst (λ (p : List ℕ). IsIllegal (new_table made.parts.items 0) p why) c.start.ensures.start
-    (subst (λ (p : Table × Tree). IsIllegal p.0 c.start.result.now why) first c.in-Err.ensures.illegal) in
-    start_forbidden E tables made.guards.items made.parts.items is apart.tables_are found D why apart.migrated illegal

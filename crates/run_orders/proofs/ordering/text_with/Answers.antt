@@ -4,7 +4,8 @@ use Rattle.rail_model.specs.Table.{Table}
 use Rattle.document_json.specs.Doc.{nodes_at}
 use Rattle.document_json.proofs.MoreSections.{version_back}
 use Rattle.document_orders.specs.Ordered.{KeepsTree, new_tree}
-use Rattle.run_orders.proofs.Adding.{is_ordered, one_each, replaced_is_taken}
+use Rattle.run_orders.specs.RunOrdered.{IsOrderedByRun, IsTextWithRun}
+use Rattle.run_orders.proofs.Adding.{if_given, is_ordered, one_each, replaced_is_taken}
 use Rattle.run_orders.proofs.ordering.text_with.Goals as goal
 
 pub with_certs-requires : goal.with_certs-requires
@@ -23,12 +24,15 @@ replaced-requires-clause-taken c =
     replaced_is_taken c.args.later.now c.args.tables.now parts c.requires.more same c.requires.taken
     (version_back c.args.doc.now c.args.later.now c.requires.migrated)
 
-pub returns-in-Ok : goal.returns-in-Ok
-returns-in-Ok c =
+pub returns : goal.returns
+returns c =
     let D = c.args.doc.now in
+    let M = c.in_ok-made.made in
+    let J = c.args.run.now in
     let parts = c.deref.result.now in
     let same = ap (λ (ps : List (Table × Tree)). map (λ p. p.0) ps) c.deref.ensures.value ∙ c.in_ok-parts.ensures.tables in
     let trees = subst (λ (ps : List (Table × Tree)). (t : ℕ) → t < length D.tables → KeepsTree (nodes_at D t) (new_tree ps t))
     (sym c.deref.ensures.value) c.in_ok-parts.ensures.trees in
-    is_ordered c.args.later.now c.args.tables.now parts c.requires.more same D c.in_ok-made.made c.args.run.now _
-    c.requires.migrated c.in_ok-made.ensures trees c.in-Ok.ensures c.in_ok-write-in-Ok.ensures.text c.in_ok-write-in-Ok.ensures.reads_back
+    if_given (λ text. IsTextWithRun M J text.items) (λ text. IsOrderedByRun D J text.items) c.text_if_run.result
+    (λ text so. is_ordered c.args.later.now c.args.tables.now parts c.requires.more same D M J text.items
+    c.requires.migrated c.in_ok-made.ensures trees so.whole so.is_text so.reads_back) c.text_if_run.ensures
