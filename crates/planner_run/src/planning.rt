@@ -42,8 +42,11 @@ fn planned(alloc: Global, text: &[u8], plan: Plan) -> Result<Answer, AllocError>
     let remarks = remarks(alloc, text, &plan)?;
     let document = written(alloc, plan)?;
     match refusal_of(alloc, &document)? {
-        None if remarks.is_empty() => Ok(Answer::Text(document)),
-        None => Ok(Answer::Noted(document, lines_of(alloc, "remark: ", &remarks)?)),
+        None => if remarks.is_empty() {
+            Ok(Answer::Text(document))
+        } else {
+            Ok(Answer::Noted(document, lines_of(alloc, "remark: ", &remarks)?))
+        },
         Some(line) => Ok(Answer::Wrong(line)),
     }
 }
