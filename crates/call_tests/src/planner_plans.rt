@@ -2,7 +2,7 @@
 use crate::planner_rows::is_answered;
 use std::alloc::{AllocError, Global};
 
-// Words, a plan and an answer each: a document, or a line for each mistake.
+// Words, a plan and an answer each: a document, with a remark if a point is probably mistyped, or a line for each mistake.
 pub(crate) const PLANS: &str = r##"plan
 [[train]]
 name = "T0"
@@ -88,6 +88,25 @@ after = 3
 connection = []
 ----
 {"links":[["W","L1"],["L1","E"],["E","L2"],["L2","W"]],"points":[["W",0],["L1",0],["E",0],["L2",0]],"start":[0,0],"tables":[{"after":0,"certificate":[],"connections":[],"exits":[true,true],"missions":[["W","L1","E"],["E","L2","W"]],"sections":[{"changes":[[0,1,-1,0],[0,0,0,0]],"limit":1}],"times":[[1,1,1],[1,1,1]]},{"after":2,"certificate":[],"connections":[],"exits":[false,true],"missions":[["W","L1","E"],["E","L2","W"]],"sections":[{"changes":[[0,1,-1],[0,1,-1,0]],"limit":2}],"times":[[9,4],[1,1,1]]},{"after":3,"certificate":[],"connections":[],"exits":[true,true],"missions":[["W","L1","E"],["E","L2","W"]],"sections":[{"changes":[[0,1,-1,0],[0,0,0,0]],"limit":1}],"times":[[1,1,1],[1,1,1]]}],"trains":["T0","T1"],"version":3,"zones":1}
+====
+plan
+[[train]]
+name = "T0"
+route = ["A", "b", "C"]
+exit = true
+
+[[train]]
+name = "T1"
+route = ["C", "b", "A"]
+exit = true
+
+[[train]]
+name = "T2"
+route = ["D", "A", "bb", "C"]
+exit = true
+----
+{"links":[["A","b"],["b","C"],["D","A"],["A","bb"],["bb","C"]],"points":[["A",0],["b",0],["C",0],["D",0],["bb",0]],"start":[0,0,0],"tables":[{"after":0,"certificate":[],"connections":[],"exits":[true,true,true],"missions":[["A","b","C"],["C","b","A"],["D","A","bb","C"]],"sections":[],"times":[[1,1,1],[1,1,1],[1,1,1,1]]}],"trains":["T0","T1","T2"],"version":3,"zones":1}
+line 13: remark: train "T2": only this train comes to "bb", and once; did you mean "b"? Lines would say which tracks there are
 ====
 plan
 train = [{ name = "T0", route = ["A", "B"] }, { name = "T1", route = ["C", "C"] }]

@@ -1,10 +1,10 @@
 -- What an order comes to, told by what its answer is.
-use Rattle.std.proofs.Common.{ℕ, List, Option}
-use Rattle.std.specs.Prelude.{Result, Ok, Err, IfOk, string_bytes}
+use Rattle.std.proofs.Common.{◌≡◌, ◌⊎◌, inl, inr, ℕ, List, Option, Some, None, subst}
+use Rattle.std.specs.Prelude.{Result, Ok, Err, IfOk, IfSome, string_bytes}
 use Rattle.planner_words.specs.declared.orders.Effort.{Effort}
 use Rattle.planner_words.specs.declared.orders.Order.{Order}
-use Rattle.planner_words.specs.declared.orders.Order.TheVariants.{Lint, Certify, Protect, AddOrders, OrderByRun}
-use Rattle.planner_run.specs.Answered.{AreWrongFor, IfText, IsAnswerTo, IsCertifying, IsLinted, IsOrdering, IsOrderingByRun, IsProtecting, IsTextFor}
+use Rattle.planner_words.specs.declared.orders.Order.TheVariants.{Plan as OfPlan, ExplainState, ExplainLine, Lint, Certify, Protect, AddOrders, OrderByRun, Timetable, Graph, Layout}
+use Rattle.planner_run.specs.Answered.{AreWrongFor, HasNotes, IfText, IsAnswerTo, IsCertifying, IsLinted, IsOrdering, IsOrderingByRun, IsPlanning, IsProtecting, IsSuspected, IsTextFor}
 use Rattle.planner_run.specs.declared.answer.Answer.{Answer}
 use Rattle.planner_run.specs.declared.answer.Answer.TheVariants.{Text, Remarks, Noted, Wrong}
 use denote.Ref.{Bor}
@@ -15,6 +15,12 @@ if_text_answers order former input (Text text) unsaid holds = holds
 if_text_answers order former input (Remarks lines) unsaid holds = absurd holds
 if_text_answers order former input (Noted text lines) unsaid holds = absurd holds
 if_text_answers order former input (Wrong lines) unsaid holds = unsaid (string_bytes lines)
+
+pub planning_answers : (former : Option (Bor (List ℕ))) (input : List ℕ) (a : Answer) → IsPlanning input a → IsAnswerTo OfPlan former input a
+planning_answers former input (Text text) holds = holds
+planning_answers former input (Remarks lines) holds = absurd holds
+planning_answers former input (Noted text lines) holds = holds
+planning_answers former input (Wrong lines) holds = tt
 
 pub certifying_answers : (budget : ℕ) (effort : Effort) (former : Option (Bor (List ℕ))) (input : List ℕ) (a : Answer) → IsCertifying input budget a → IsAnswerTo (Certify budget effort) former input a
 certifying_answers budget effort former input (Text text) holds = holds
@@ -59,3 +65,23 @@ wrong_orders input (Wrong lines) holds = tt
 pub together : {X E : Type 0} (P : X → Type 0) (A B : Type 0) (result : Result X E) → IfOk result (λ x. P x → A) → IfOk result (λ x. P x → B) → IfOk result (λ x. P x → A × B)
 together P A B (Ok x) a b = λ p. (a p, b p)
 together P A B (Err e) a b = tt
+
+-- notes on what was read are notes on what the source had, if it is known
+notes_of_read : (order : Order) (left : Option (List ℕ)) (input : List ℕ) → IfSome left (λ all. input ≡ all) → HasNotes order (Some input) → HasNotes order left
+notes_of_read OfPlan (Some all) input is notes = subst IsSuspected is notes
+notes_of_read OfPlan None input is notes = tt
+notes_of_read (Protect budget effort rounds) left input is notes = tt
+notes_of_read AddOrders left input is notes = tt
+notes_of_read (OrderByRun seed journal) left input is notes = tt
+notes_of_read (ExplainState table at run) left input is notes = absurd notes
+notes_of_read (ExplainLine line) left input is notes = absurd notes
+notes_of_read (Lint before) left input is notes = absurd notes
+notes_of_read (Certify budget effort) left input is notes = absurd notes
+notes_of_read (Timetable csv journal) left input is notes = absurd notes
+notes_of_read (Graph train journal) left input is notes = absurd notes
+notes_of_read (Layout table at) left input is notes = absurd notes
+
+pub quiet_as_read : (Quiet : Type 0) (order : Order) (left : Option (List ℕ)) (input : List ℕ) → IfSome left (λ all. input ≡ all) →
+    HasNotes order (Some input) ⊎ Quiet → HasNotes order left ⊎ Quiet
+quiet_as_read Quiet order left input is (inl notes) = inl (notes_of_read order left input is notes)
+quiet_as_read Quiet order left input is (inr quiet) = inr quiet

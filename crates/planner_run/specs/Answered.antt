@@ -1,5 +1,5 @@
 -- What the answers to orders are.
-use Rattle.std.specs.Prelude.{◌≡◌, ℕ, ◌++◌, Bool, true, false, List, [], Ok, Option, Some, None, string_bytes}
+use Rattle.std.specs.Prelude.{◌≡◌, ℕ, ◌++◌, Bool, true, false, List, [], Ok, Option, Some, None, IfSome, IsTrue, string_bytes}
 use Rattle.ats_io.specs.Bytes.{AddsPrefix}
 use Rattle.decimal_number.specs.Decimal.{number_of}
 use Rattle.document_shapes.specs.Written.{text_of}
@@ -12,6 +12,7 @@ use Rattle.plan_document.specs.Written.{document_of}
 use Rattle.plan_document.specs.declared.plan.Plan.{Plan}
 use Rattle.plan_reading.specs.Said.{IsPlanRead}
 use Rattle.plan_reading.specs.declared.reading.PlanRead.TheVariants.{Plan as AsPlan}
+use Rattle.plan_suspects.specs.Suspects.{has_suspects}
 use Rattle.refusal_sentences.specs.Explains.{ExplainsIn}
 use Rattle.refusal_sentences.specs.ExplainedLines.{ExplainsLine}
 use Rattle.refusal_sentences.specs.declared.explained.Explained.{Explained}
@@ -214,19 +215,26 @@ AsksForRemarks (Timetable csv journal) = ⊥
 AsksForRemarks (Graph train journal) = ⊥
 AsksForRemarks (Layout table at) = ⊥
 
--- The order asks for a text with notes.
-abbrev pub AsksForNotes : Order → Type 0
-AsksForNotes (Protect budget effort rounds) = Unit {0}
-AsksForNotes AddOrders = Unit {0}
-AsksForNotes (OrderByRun seed journal) = Unit {0}
-AsksForNotes OfPlan = ⊥
-AsksForNotes (ExplainState table at run) = ⊥
-AsksForNotes (ExplainLine line) = ⊥
-AsksForNotes (Lint before) = ⊥
-AsksForNotes (Certify budget effort) = ⊥
-AsksForNotes (Timetable csv journal) = ⊥
-AsksForNotes (Graph train journal) = ⊥
-AsksForNotes (Layout table at) = ⊥
+-- The input is a plan, and a point of it is probably mistyped.
+pub record IsSuspected (input : List ℕ) : Type 0 where
+  pub plan : Plan
+  pub is_plan : IsPlanRead input (AsPlan plan)
+  pub is_suspected : IsTrue (has_suspects plan)
+
+-- The text that an order asks for has notes: those that add sections always; that of a plan only if a point of the plan that was read is
+-- probably mistyped, or if it isn't known what was read.
+abbrev pub HasNotes : Order → Option (List ℕ) → Type 0
+HasNotes OfPlan read = IfSome read IsSuspected
+HasNotes (Protect budget effort rounds) read = Unit {0}
+HasNotes AddOrders read = Unit {0}
+HasNotes (OrderByRun seed journal) read = Unit {0}
+HasNotes (ExplainState table at run) read = ⊥
+HasNotes (ExplainLine line) read = ⊥
+HasNotes (Lint before) read = ⊥
+HasNotes (Certify budget effort) read = ⊥
+HasNotes (Timetable csv journal) read = ⊥
+HasNotes (Graph train journal) read = ⊥
+HasNotes (Layout table at) read = ⊥
 
 -- The answer has no remarks and no notes, and where it is a text, this holds of it.
 abbrev pub IfText : (List ℕ → Type 0) → Answer → Type 0
@@ -249,12 +257,20 @@ SaysWrong Holds (Remarks lines) = ⊥
 SaysWrong Holds (Noted text lines) = ⊥
 SaysWrong Holds (Wrong lines) = Holds (string_bytes lines)
 
--- The answer is what an order comes to on an input, with remarks or notes only where it asks for them, or what is wrong with the input.
+-- The answer is what an order comes to on an input, with remarks only where it asks for them and notes only where it has them, or what is
+-- wrong with the input.
 abbrev pub IsAnswerTo : Order → Option (Bor (List ℕ)) → List ℕ → Answer → Type 0
 IsAnswerTo order former input (Text text) = IsTextFor order former input text.items
 IsAnswerTo order former input (Remarks lines) = AsksForRemarks order
-IsAnswerTo order former input (Noted text lines) = AsksForNotes order × IsTextFor order former input text.items
+IsAnswerTo order former input (Noted text lines) = HasNotes order (Some input) × IsTextFor order former input text.items
 IsAnswerTo order former input (Wrong lines) = AreWrongFor order input (string_bytes lines)
+
+-- The answer is the document of a plan, with notes only if a point of the plan is probably mistyped, or what is wrong.
+abbrev pub IsPlanning : List ℕ → Answer → Type 0
+IsPlanning input (Text text) = IsPlanned input text.items
+IsPlanning input (Remarks lines) = ⊥
+IsPlanning input (Noted text lines) = IsSuspected input × IsPlanned input text.items
+IsPlanning input (Wrong lines) = Unit {0}
 
 -- The answer is the document with certificates, or the line that says why it has none.
 abbrev pub IsCertifying : List ℕ → ℕ → Answer → Type 0

@@ -29,7 +29,7 @@ pub enum Answer {
 
 /// What an order comes to on this input. `former` is the former document, where the order names one. The watcher sees
 /// how far searches for certificates are.
-#[tactic(auto, using(crate::proofs::Suits::if_text_answers, crate::proofs::Suits::lint_answers, crate::proofs::Suits::certifying_answers, crate::proofs::Suits::ordering_answers, crate::proofs::Suits::run_ordering_answers, crate::proofs::Suits::protecting_answers))]
+#[tactic(auto, using(crate::proofs::Suits::if_text_answers, crate::proofs::Suits::planning_answers, crate::proofs::Suits::lint_answers, crate::proofs::Suits::certifying_answers, crate::proofs::Suits::ordering_answers, crate::proofs::Suits::run_ordering_answers, crate::proofs::Suits::protecting_answers))]
 pub fn answer_to<W: Watcher>(
     alloc: Global,
     order: &Order<'_>,

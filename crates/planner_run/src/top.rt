@@ -1,8 +1,8 @@
 // The top call.
-ghost use Rattle.std.specs.Prelude.{◌≡◌, ◌≢◌, ◌⊎◌, ℕ, List, None, IfSome};
+ghost use Rattle.std.specs.Prelude.{◌≡◌, ◌≢◌, ◌⊎◌, ℕ, List, Some, None, IfSome};
 ghost use Rattle.ats_io.specs.Bytes.{Adds, AddsPrefix};
 ghost use Rattle.ats_io.specs.Faults.{Rose};
-ghost use Rattle.planner_run.specs.Answered.{IsTextFor, AsksForNotes, AsksForRemarks, Tells, code_of, shown_text};
+ghost use Rattle.planner_run.specs.Answered.{AsksForRemarks, HasNotes, IsTextFor, Tells, code_of, shown_text};
 
 use crate::Answer;
 use crate::answer::answer_to;
@@ -94,6 +94,7 @@ fn print_noted<K: Sink, E: Sink>(text: &[u8], notes: &str, out: &mut K, err: &mu
 /// Answers an order: it reads the source to its end, and writes to `out` what the order asks for, or to `err` what is wrong.
 /// `former` is the former document, where the order names one. The watcher sees how far searches for certificates are; what
 /// it writes then, by a handle of its own, no clause says.
+#[tactic(auto, using(crate::proofs::Suits::quiet_as_read))]
 pub fn serve<S: Source, K: Sink, E: Sink, W: Watcher>(
     alloc: Global,
     order: &Order<'_>,
@@ -107,7 +108,7 @@ pub fn serve<S: Source, K: Sink, E: Sink, W: Watcher>(
     ensures done { result ≡ Status.Done → IfSome (S.left source.old) (λ all.
         (text : List ℕ) × IsTextFor order.now former.entry all text × Adds (K.taken out.old) (K.taken out.new) text) }
     // Notes are written to `err`, and nothing else.
-    ensures quiet { result ≡ Status.Done → AsksForNotes order.now ⊎ (E.taken err.new ≡ E.taken err.old) }
+    ensures quiet { result ≡ Status.Done → HasNotes order.now (S.left source.old) ⊎ (E.taken err.new ≡ E.taken err.old) }
     // Where the input has faults, nothing is written to `out`, except remarks that were asked for.
     ensures faulty { result ≡ Status.Faulty → AsksForRemarks order.now ⊎ (K.taken out.new ≡ K.taken out.old) }
     // And what is written to `err` is the beginning of lines that say what is wrong: all of them, unless `err` fails.
@@ -136,7 +137,7 @@ fn respond<K: Sink, E: Sink, W: Watcher>(
     watcher: &W,
 ) -> Status
     ensures done { result ≡ Status.Done → (text : List ℕ) × IsTextFor order.now former.entry input.now text × Adds (K.taken out.old) (K.taken out.new) text }
-    ensures quiet { result ≡ Status.Done → AsksForNotes order.now ⊎ (E.taken err.new ≡ E.taken err.old) }
+    ensures quiet { result ≡ Status.Done → HasNotes order.now (Some input.now) ⊎ (E.taken err.new ≡ E.taken err.old) }
     ensures faulty { result ≡ Status.Faulty → AsksForRemarks order.now ⊎ (K.taken out.new ≡ K.taken out.old) }
     ensures told { result ≡ Status.Faulty → AsksForRemarks order.now ⊎ Tells order.now input.now (E.taken err.old) (E.taken err.new) }
 {
