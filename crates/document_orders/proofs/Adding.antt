@@ -105,7 +105,6 @@ offers_back D E new m same =
     subst (λ (p : List ℕ). SameOffers (offers_of D) new p) m.start
     (subst (λ (ts : List DocTable). SameOffers (map offer_from ts) new E.start) m.tables same)
 
-
 -- the text of the document with tables that were found for it in a later version
 pub is_ordered : (D E : Doc) (tables made : List Table) (parts : List (Table × Tree)) (text : List ℕ) → AreFound E tables made parts → IsMigrated D E
     → ((t : ℕ) → t < length D.tables → KeepsTree (nodes_at D t) (new_tree parts t)) → text ≡ written (replaced E parts)

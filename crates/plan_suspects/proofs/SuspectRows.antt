@@ -1,10 +1,9 @@
 -- Worked rows: which points are suspects where three trains go from A over Yard to C, and the third one's route has another name for Yard.
-use Rattle.std.proofs.Common.{◌≡◌, List, [], ◌∷◌, String, Vec, Global, codes, lit<, refl}
+use Rattle.std.proofs.Common.{◌≡◌, [], ◌∷◌, String, Vec, Global, codes, lit<, refl}
 use Rattle.plan_document.specs.declared.plan.Plan.{Plan}
 use Rattle.plan_document.specs.declared.plan.TablePlan.{TablePlan}
 use Rattle.plan_suspects.specs.Letters.{is_one_letter_off}
 use Rattle.plan_suspects.specs.Suspects.{could_be, is_alone, lie_together, meant_at, suspects}
-use Rattle.plan_suspects.specs.declared.finding.Suspect.{Suspect}
 use Rattle.plan_suspects.proofs.Texts.{text_of, vec_of}
 
 module _ (s : String Global) (v : Vec (String Global) Global) (p : Plan) (t : TablePlan) where

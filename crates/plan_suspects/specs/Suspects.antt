@@ -1,5 +1,5 @@
 -- Which points of routes are probably mistyped, if no lines say which tracks there are.
-use Rattle.std.specs.Prelude.{ℕ, zero, suc, ◌+◌, List, [], ◌++◌, length, count_by, position, Bool, ◌==◌, ◌&&◌, ◌||◌, not, if◌then◌else◌, bytes_eq, string_bytes, String, Vec, Option, Some, None, option_map, option_to_list, slice_get}
+use Rattle.std.specs.Prelude.{ℕ, zero, suc, ◌+◌, List, [], ◌++◌, length, count_by, position, Bool, ◌==◌, ◌&&◌, ◌||◌, not, if◌then◌else◌, bytes_eq, string_bytes, String, Option, Some, None, option_map, option_to_list, slice_get}
 use Rattle.std.specs.List.{list_all, list_any}
 use Rattle.std.specs.Str.{str_eq_ignore_ascii_case}
 use Rattle.std.specs.declared.alloc.Global.{Global}

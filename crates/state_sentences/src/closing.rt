@@ -1,5 +1,5 @@
 // The last sentences: whether the state is stuck, and what keeps it out.
-ghost use Rattle.std.specs.Prelude.{◌≡◌, ◌++◌, ◌↔◌, IsTrue, OnOk, length, string_bytes};
+ghost use Rattle.std.specs.Prelude.{◌≡◌, ◌++◌, ◌↔◌, IsTrue, OnOk, string_bytes};
 ghost use Rattle.rail_model.specs.State.{Arrived};
 ghost use Rattle.state_sentences.specs.Text.{section_words, cure_words, verdict_words};
 ghost use Rattle.state_sentences.specs.Tells.{HasMove, IsVerdict};

@@ -1,8 +1,7 @@
 // The knot of a state: a least group of trains that keep one another where they are.
 ghost use Rattle.std.specs.Prelude.{◌≡◌, ◌<◌, ◌++◌, [], IfOk, IfSome, IsTrue, OnOk, codes, length, string_bytes};
-ghost use Rattle.std.specs.List.{list_any};
 ghost use Rattle.rail_model.specs.Table.{trains, last, place as place_of};
-ghost use Rattle.state_core.specs.Core.{has as has_train, is_unfinished as is_unfinished_of};
+ghost use Rattle.state_core.specs.Core.{is_unfinished as is_unfinished_of};
 ghost use Rattle.state_core.specs.Keeper.{IsKeeperOf};
 ghost use Rattle.state_sentences.specs.Explanation.{joined_below};
 ghost use Rattle.state_sentences.specs.Knot.{IsKnotOrNone};

@@ -1,5 +1,5 @@
 // The whole text on a state.
-ghost use Rattle.std.specs.Prelude.{◌≡◌, ◌++◌, ◌<◌, ℕ, IfOk, OnOk, length, string_bytes};
+ghost use Rattle.std.specs.Prelude.{◌≡◌, ◌++◌, ◌<◌, IfOk, OnOk, string_bytes};
 ghost use Rattle.rail_model.specs.Table.{trains};
 ghost use Rattle.state_sentences.specs.Explanation.{trains_words};
 ghost use Rattle.state_sentences.specs.Tells.{Tells};

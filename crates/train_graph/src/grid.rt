@@ -1,7 +1,5 @@
 // The grid of ticks and points, and the tables that take over.
-ghost use Rattle.std.specs.Prelude.{◌≡◌, ◌++◌, ◌∷◌, [], OnOk, flat_map};
-ghost use Rattle.run_timetable.specs.Timetable.{name_of};
-ghost use Rattle.svg_text.specs.Shapes.{label_of, line_of};
+ghost use Rattle.std.specs.Prelude.{◌≡◌, ◌++◌, OnOk, flat_map};
 ghost use Rattle.train_graph.specs.Layers.{row_shapes};
 
 use crate::Axes;
