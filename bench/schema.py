@@ -42,6 +42,8 @@ MEANING = re.compile(
     r": at the start \d+ of \d+ are taken, |: no line goes from \"|\" is in a zone already$|: zone \d+ has no point, and zone \d+ has$|"
     r"table \d+, train .*: the route has \d+ places|: there are more faults than these$"
 )
+# What it says of a plan that it takes.
+REMARK = re.compile(r'^line \d+: remark: train ".*": only this train comes to ".*", and once; did you mean ".*"\? ')
 NUMBER = re.compile(r"takes (a whole number|whole numbers).*, and this is of type float$")
 
 
@@ -129,7 +131,7 @@ class Plans:
     def verdict(self, text):
         """What planner says of a plan: `taken`, or refused for its `shape` or `meaning`, or `float` if its shape is wrong in that alone."""
         status, _, said, _ = called([*self.planner, "plan"], text)
-        lines = said.splitlines()
+        lines = [line for line in said.splitlines() if not (status == 0 and REMARK.search(line))]
         for line in lines:
             if not (SHAPE.search(line) or MEANING.search(line)):
                 self.tell(text, f"planner says: {line}")
