@@ -1,8 +1,8 @@
 -- A track is used by one train at most, so tracks let in no more trains than there are of them.
-use Rattle.std.proofs.Common.{◌≡◌, ◌≢◌, ℕ, zero, suc, ◌+◌, ◌<◌, ◌≤◌, Bool, true, false, cond, List, [], ◌∷◌, length, Option, Some, None, count_by, sum_by, refl, sym, ◌∙◌, ap, subst, arith, slice_index_or}
+use Rattle.std.proofs.Common.{◌≡◌, ◌≢◌, ℕ, suc, ◌+◌, ◌<◌, ◌≤◌, Bool, true, false, cond, List, [], ◌∷◌, length, Option, Some, None, count_by, sum_by, refl, arith, slice_index_or}
 use Rattle.std.proofs.lemmas.List.Sums.{sum_by-cons, sum_by-le-sum_by}
-use Rattle.clash_sections.specs.Stands.{stand, Meet}
-use Rattle.clash_sections.specs.Tracks.{is_on, count_on}
+use Rattle.clash_sections.specs.Stands.{stand}
+use Rattle.clash_sections.specs.Tracks.{is_on}
 
 -- whether the train, which may be on no stand, is on the track
 abbrev pub train_on : List Bool → Option ℕ → Bool

@@ -1,10 +1,10 @@
 -- The section of two stands that clash, and sections that forbid each clash.
-use Rattle.std.proofs.Common.{◌≡◌, ◌≢◌, ℕ, ◌+◌, ◌<◌, ◌≤◌, Bool, true, false, cond, List, [], ◌∷◌, ◌++◌, length, length-append, All, set, replicate, refl, sym, ◌∙◌, ap, subst, arith, ⊎_elim, ◌⊎◌, inl, inr, slice_index_or, get_or-set_same, get_or-set_other, length-set}
+use Rattle.std.proofs.Common.{◌≡◌, ℕ, ◌+◌, ◌<◌, ◌≤◌, Bool, true, false, cond, List, [], ◌∷◌, ◌++◌, length, length-append, set, replicate, sym, ◌∙◌, ap, subst, arith, ⊎_elim, ◌⊎◌, inl, inr, get_or-set_same, get_or-set_other, length-set}
 use Rattle.std.proofs.lemmas.List.{length-replicate, get_or-replicate, get_or_past, get_or_append_left}
 use Rattle.std.proofs.lemmas.Bool.{cases_eq, cases_lt}
 use Rattle.std.proofs.lemmas.List.Elements.{All-cons}
 use Rattle.clash_sections.specs.declared.meetings.Meeting.{Meeting}
-use Rattle.clash_sections.specs.declared.meetings.Meeting.TheVariants.{Free, Clash}
+use Rattle.clash_sections.specs.declared.meetings.Meeting.TheVariants.{Clash}
 use Rattle.clash_sections.specs.Stands.{meeting, IsOrderly}
 use Rattle.clash_sections.specs.Sections.{StandSection, share, Forbids, SomeForbids}
 use Rattle.clash_sections.specs.Tracks.{is_on, IsTrack, IsOfTracks, IsFit, AreEnough}

@@ -1,9 +1,8 @@
 -- Sound sections that forbid each clash are exact.
-use Rattle.std.proofs.Common.{◌≡◌, ◌≢◌, ℕ, ◌+◌, ◌<◌, ◌≤◌, List, length, All, Option, refl, sym, ap, subst, arith}
+use Rattle.std.proofs.Common.{ℕ, List, length, All, Option, refl, ap, subst, arith}
 use Rattle.clash_sections.specs.declared.meetings.Meeting.{Meeting}
-use Rattle.clash_sections.specs.declared.meetings.Meeting.TheVariants.{Clash}
-use Rattle.clash_sections.specs.Stands.{stand, meeting, Meet, IsApart, IsPossible}
-use Rattle.clash_sections.specs.Sections.{StandSection, share_of, IsWithin, IsExact, Forbids, SomeForbids, IsSized}
+use Rattle.clash_sections.specs.Stands.{Meet}
+use Rattle.clash_sections.specs.Sections.{StandSection, share_of, IsWithin, IsExact, Forbids, IsSized}
 use Rattle.clash_sections.specs.Tracks.{IsFit, AreEnough}
 use Rattle.clash_sections.proofs.Two.{two-le-sum}
 

@@ -1,13 +1,13 @@
 -- Why a section of tracks forbids no state in which no two trains' stands clash.
-use Rattle.std.proofs.Common.{◌≡◌, ◌≢◌, ℕ, ◌+◌, ◌<◌, ◌≤◌, Bool, true, false, cond, List, [], ◌∷◌, length, All, Option, Some, None, count_by, sum_by, refl, sym, ◌∙◌, ap, subst, arith, ⊎_elim}
+use Rattle.std.proofs.Common.{◌≡◌, ◌≢◌, ℕ, ◌<◌, ◌≤◌, Bool, true, List, length, All, Option, Some, None, refl, arith, ⊎_elim}
 use Rattle.std.proofs.lemmas.Bool.{cases_lt}
 use Rattle.std.proofs.lemmas.List.{get_or_past}
 use Rattle.std.proofs.lemmas.List.Sums.{sum_by-le-sum_by, count_by-le-length}
 use Rattle.clash_sections.specs.declared.meetings.Meeting.{Meeting}
 use Rattle.clash_sections.specs.declared.meetings.Meeting.TheVariants.{Free, Clash, Never}
 use Rattle.clash_sections.specs.Stands.{stand, meeting, Meet, IsApart, IsPossible}
-use Rattle.clash_sections.specs.Sections.{StandSection, share, share_of, IsWithin, IsSized}
-use Rattle.clash_sections.specs.Tracks.{is_on, IsTrack, count_on, IsOfTracks, IsSound, IsFit}
+use Rattle.clash_sections.specs.Sections.{StandSection, share, share_of, IsSized}
+use Rattle.clash_sections.specs.Tracks.{is_on, IsTrack, IsOfTracks, IsSound, IsFit}
 use Rattle.clash_sections.proofs.Alone.{train_on, train_count, IsAlone, sum-tracks}
 
 free-else : (m : Meeting) → m ≢ Never → m ≢ Clash → m ≡ Free

@@ -28,6 +28,7 @@ IsApart C p = (a b : ℕ) → Meet p a b → meeting C a b ≢ Clash
 abbrev pub IsPossible : List (List Meeting) → List (Option ℕ) → Type 0
 IsPossible C p = (a b : ℕ) → Meet p a b → meeting C a b ≢ Never
 
--- A stand that clashes with one isn't free of itself: then no limit would let any number of trains onto it, and keep them off the other.
+-- No stand that clashes with one is free of itself. If one were, no section could let any number of trains onto it, and keep them off
+-- the other.
 abbrev pub IsOrderly : List (List Meeting) → Type 0
 IsOrderly C = (a b : ℕ) → meeting C a b ≡ Clash → meeting C a a ≢ Free

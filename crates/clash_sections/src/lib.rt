@@ -4,12 +4,14 @@
 
 mod choosing;
 mod covering;
+mod laws;
 mod making;
 mod meetings;
 mod refused;
 mod section;
 mod tracks;
 
+pub use laws::no_sections_for_what_is_free_of_itself;
 pub use making::sections_of;
 pub use meetings::{Clashes, Meeting};
 pub use refused::Refused;

@@ -1,4 +1,4 @@
-use Rattle.std.proofs.Common.{◌≡◌, All, IfSome, Option, subst, sym}
+use Rattle.std.proofs.Common.{All, IfSome, Option, subst, sym}
 use Rattle.std.proofs.lemmas.List.Elements.{All-push}
 use Rattle.clash_sections.specs.Sections.{StandSection}
 use Rattle.clash_sections.specs.Tracks.{IsFit}

@@ -1,4 +1,4 @@
-use Rattle.std.proofs.Common.{◌≡◌, ◌<◌, ℕ, suc, take, drop, All, length, List, [], ◌∷◌, ◌++◌, remove, subst, sym, slice_index_or, ◌∙◌, ap}
+use Rattle.std.proofs.Common.{◌≡◌, ◌<◌, ℕ, suc, take, drop, All, length, List, [], ◌∷◌, ◌++◌, remove, subst, sym, slice_index_or}
 use Rattle.std.proofs.lemmas.List.Elements.{All-append, All-take, All-drop, All-push}
 use Rattle.clash_sections.specs.Sections.{StandSection}
 use Rattle.clash_sections.specs.Tracks.{IsFit}

@@ -1,4 +1,4 @@
-use Rattle.std.proofs.Common.{◌≡◌, length, List, Bool, [], ◌∷◌}
+use Rattle.std.proofs.Common.{◌≡◌, length, [], ◌∷◌}
 use Rattle.std.proofs.lemmas.Result.{IfOk-weaker}
 use Rattle.clash_sections.specs.Sections.{Forbids}
 use Rattle.clash_sections.specs.Tracks.{IsFit, IsOfTracks}

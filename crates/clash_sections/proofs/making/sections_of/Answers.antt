@@ -1,4 +1,4 @@
-use Rattle.std.proofs.Common.{◌≡◌, length, arith, rules}
+use Rattle.std.proofs.Common.{◌≡◌, length, rules}
 use Rattle.clash_sections.proofs.Exact.{enough-exact}
 use Rattle.clash_sections.proofs.making.sections_of.Goals as goal
 
