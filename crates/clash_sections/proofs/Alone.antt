@@ -18,7 +18,8 @@ count-none K [] none = refl
 count-none K (u ∷ p) none =
     let rest = count-none K p (λ i. none (suc i)) in
     let whole = sum_by-cons (λ v. cond (train_on K v) 1 0) u p in
-    (elim (train_on K u) as (λ b. (b ≡ true → ⊥) → count_by (train_on K) (u ∷ p) ≡ cond b 1 0 + count_by (train_on K) p → count_by (train_on K) (u ∷ p) ≡ 0) [
+    (elim (train_on K u) as (λ b. (b ≡ true → ⊥) → count_by (train_on K) (u ∷ p) ≡ cond b 1 0 + count_by (train_on K) p
+    → count_by (train_on K) (u ∷ p) ≡ 0) [
       | true ↦ λ no e. absurd (no refl)
       | false ↦ λ no e. omega arith
     ]) (none 0) whole
@@ -28,8 +29,11 @@ count-alone K [] alone = omega arith
 count-alone K (u ∷ p) alone =
     let rest = count-alone K p (λ i j d. alone (suc i) (suc j) (λ e. d (omega arith))) in
     let whole = sum_by-cons (λ v. cond (train_on K v) 1 0) u p in
-    let none : train_on K u ≡ true → count_by (train_on K) p ≡ 0 = λ here. count-none K p (λ i there. alone 0 (suc i) (λ e. omega arith) here there) in
-    (elim (train_on K u) as (λ b. (b ≡ true → count_by (train_on K) p ≡ 0) → count_by (train_on K) (u ∷ p) ≡ cond b 1 0 + count_by (train_on K) p → count_by (train_on K) (u ∷ p) ≤ 1) [
+    let none : train_on K u ≡ true → count_by (train_on K) p ≡ 0 =
+    λ here. count-none K p (λ i there. alone 0 (suc i) (λ e. omega arith) here there) in
+    (elim (train_on K u) as (λ b. (b ≡ true → count_by (train_on K) p ≡ 0) →
+    count_by (train_on K) (u ∷ p) ≡ cond b 1 0 + count_by (train_on K) p
+    → count_by (train_on K) (u ∷ p) ≤ 1) [
       | true ↦ λ no e. let z = no refl in omega arith
       | false ↦ λ no e. omega arith
     ]) none whole
@@ -48,7 +52,8 @@ abbrev pub train_count : List (List Bool) → Option ℕ → ℕ
 train_count Ks u = count_by (λ K. train_on K u) Ks
 
 -- all trains together are on at most as many tracks as there are
-pub sum-tracks : (p : List (Option ℕ)) (Ks : List (List Bool)) → ((k : ℕ) (d : List Bool) → k < length Ks → IsAlone p (slice_index_or Ks k d))
+pub sum-tracks : (p : List (Option ℕ)) (Ks : List (List Bool))
+    → ((k : ℕ) (d : List Bool) → k < length Ks → IsAlone p (slice_index_or Ks k d))
     → sum_by (train_count Ks) p ≤ length Ks
 sum-tracks p [] alone = omega (arith, sum-none p)
 sum-tracks p (K ∷ Ks) alone =

@@ -17,7 +17,8 @@ meeting-past C a b l = ap (λ (row : List Meeting). slice_index_or row (min a b)
 -- only stands that are there clash
 pub clash-within : (C : List (List Meeting)) (a b : ℕ) → meeting C a b ≡ Clash → (a < length C) × (b < length C)
 clash-within C a b clash =
-    ⊎_elim (λ (l : max a b < length C). (omega arith, omega arith)) (λ (l : length C ≤ max a b). absurd (let free = meeting-past C a b l in cc)) (cases_lt (max a b) (length C))
+    ⊎_elim (λ (l : max a b < length C). (omega arith, omega arith))
+    (λ (l : length C ≤ max a b). absurd (let free = meeting-past C a b l in cc)) (cases_lt (max a b) (length C))
 
 -- only stands that it knows are on a track
 pub on-within : (K : List Bool) (a : ℕ) → is_on K a ≡ true → a < length K

@@ -40,7 +40,9 @@ two-meet C a b clash x y meet = two meet.one meet.other meet.differ meet.one_sta
   where
     two : (i j : ℕ) → i ≢ j → stand (Some a ∷ Some b ∷ []) i ≡ Some x → stand (Some a ∷ Some b ∷ []) j ≡ Some y → meeting C x y ≡ Clash
     two zero zero d here there = absurd (d refl)
-    two zero (suc zero) d here there = let one : a ≡ x = cc in let other : b ≡ y = cc in subst (λ v. meeting C v y ≡ Clash) one (subst (λ w. meeting C a w ≡ Clash) other clash)
+    two zero (suc zero) d here there =
+        let one : a ≡ x = cc in let other : b ≡ y = cc in
+        subst (λ v. meeting C v y ≡ Clash) one (subst (λ w. meeting C a w ≡ Clash) other clash)
     two zero (suc (suc j)) d here there = cc
     two (suc zero) zero d here there =
         let one : b ≡ x = cc in let other : a ≡ y = cc in
@@ -56,13 +58,16 @@ no-share s a within =
     let sum = sum_by-replicate (share_of s) (suc s.limit) (Some a) in
     grind arith
 
-pub crowded-none : (C : List (List Meeting)) (a b : ℕ) → meeting C a b ≡ Clash → meeting C a a ≡ Free → (S : List StandSection) → IsExact C S → ⊥
+pub crowded-none : (C : List (List Meeting)) (a b : ℕ) → meeting C a b ≡ Clash → meeting C a a ≡ Free
+    → (S : List StandSection) → IsExact C S → ⊥
 crowded-none C a b clash free S exact =
-    (exact (Some a ∷ Some b ∷ []) (λ x y meet never. let e = two-meet C a b clash x y meet in let f : Clash ≡ Never = sym e ∙ never in cc)).0
+    (exact (Some a ∷ Some b ∷ [])
+    (λ x y meet never. let e = two-meet C a b clash x y meet in let f : Clash ≡ Never = sym e ∙ never in cc)).0
     both a b (record { one = 0; other = 1; differ = λ e. omega arith; one_stands = refl; other_stands = refl }) clash
   where
     crowds : (n : ℕ) → All (IsWithin (crowd n a)) S
-    crowds n = (exact (crowd n a) (λ x y meet never. let e = crowd-meet C n a free x y meet in let f : Free ≡ Never = sym e ∙ never in cc)).1
+    crowds n = (exact (crowd n a)
+        (λ x y meet never. let e = crowd-meet C n a free x y meet in let f : Free ≡ Never = sym e ∙ never in cc)).1
         (λ x y meet clashes. let e = crowd-meet C n a free x y meet in let f : Free ≡ Clash = sym e ∙ clashes in cc)
 
     alone : All (IsWithin (Some b ∷ [])) S

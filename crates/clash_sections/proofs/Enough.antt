@@ -18,7 +18,8 @@ two_on n a b = set (set (replicate n false) a true) b true
 none-on : (n x : ℕ) → is_on (replicate n false) x ≡ true → ⊥
 none-on n x on =
     ⊎_elim (λ (l : x < n). let off = get_or-replicate n x false false l in let e : false ≡ true = sym off ∙ on in cc)
-    (λ (l : n ≤ x). let off = get_or_past (replicate n false) x false (omega (arith, length-replicate n false)) in let e : false ≡ true = sym off ∙ on in cc) (cases_lt x n)
+    (λ (l : n ≤ x). let off = get_or_past (replicate n false) x false (omega (arith, length-replicate n false)) in
+    let e : false ≡ true = sym off ∙ on in cc) (cases_lt x n)
 
 on-set : (K : List Bool) (a x : ℕ) → is_on (set K a true) x ≡ true → (x ≡ a) ⊎ (is_on K x ≡ true)
 on-set K a x on = elim (cases_eq x a) [ inl e ↦ inl e | inr differ ↦ inr (sym (get_or-set_other K a x true false differ) ∙ on) ]
@@ -56,7 +57,8 @@ pub two-forbidden : (n a b : ℕ) (s : StandSection) → a < n → b < n → IsO
 two-forbidden n a b s a_in b_in is =
     let first : List Bool = set (replicate n false) a true in
     let a_on : is_on (two_on n a b) a ≡ true = on-kept first b a (set-on (replicate n false) a (omega (arith, length-replicate n false))) in
-    let b_on : is_on (two_on n a b) b ≡ true = set-on first b (omega (arith, length-set (replicate n false) a true, length-replicate n false)) in
+    let b_on : is_on (two_on n a b) b ≡ true =
+    set-on first b (omega (arith, length-set (replicate n false) a true, length-replicate n false)) in
     let one : share s a ≡ 1 = is.shares a a_in ∙ ap (λ (v : Bool). 0 + cond v 1 0) a_on in
     let other : share s b ≡ 1 = is.shares b b_in ∙ ap (λ (v : Bool). 0 + cond v 1 0) b_on in
     omega (arith, one, other, is.limit)

@@ -32,9 +32,11 @@ share-past n Ks s is a l = get_or_past s.shares a 0 (omega (arith, is.stands))
 
 share-le : (n : ℕ) (Ks : List (List Bool)) (s : StandSection) → IsOfTracks n Ks s → (u : Option ℕ) → share_of s u ≤ train_count Ks u
 share-le n Ks s is None = omega arith
-share-le n Ks s is (Some a) = ⊎_elim (λ (l : a < n). omega (arith, is.shares a l)) (λ (l : n ≤ a). omega (arith, share-past n Ks s is a l)) (cases_lt a n)
+share-le n Ks s is (Some a) = ⊎_elim (λ (l : a < n). omega (arith, is.shares a l))
+    (λ (l : n ≤ a). omega (arith, share-past n Ks s is a l)) (cases_lt a n)
 
-pub tracks-sound : (C : List (List Meeting)) (n : ℕ) (Ks : List (List Bool)) (s : StandSection) → All (IsTrack C) Ks → IsOfTracks n Ks s → IsSound C s
+pub tracks-sound : (C : List (List Meeting)) (n : ℕ) (Ks : List (List Bool)) (s : StandSection) → All (IsTrack C) Ks → IsOfTracks n Ks s
+    → IsSound C s
 tracks-sound C n Ks s tracks is p possible apart =
     let shares = sum_by-le-sum_by (share_of s) (train_count Ks) p (share-le n Ks s is) in
     let all = sum-tracks p Ks (λ k d l. track-alone C _ p (tracks k d l) possible apart) in
@@ -45,9 +47,13 @@ tracks-sized n Ks s some few is = record {
   some_limit = omega (arith, is.limit);
   few_limit = omega (arith, is.limit);
   stands = is.stands;
-  shares = λ a. ⊎_elim (λ (l : a < n). omega (arith, is.shares a l, count_by-le-length (λ (K : List Bool). is_on K a) Ks)) (λ (l : n ≤ a). omega (arith, share-past n Ks s is a l)) (cases_lt a n);
+  shares = λ a. ⊎_elim (λ (l : a < n). omega (arith, is.shares a l, count_by-le-length (λ (K : List Bool). is_on K a) Ks))
+      (λ (l : n ≤ a). omega (arith, share-past n Ks s is a l)) (cases_lt a n);
 }
 
 pub tracks-fit : (C : List (List Meeting)) (Ks : List (List Bool)) (s : StandSection) → All (IsTrack C) Ks → 1 ≤ length Ks → length Ks ≤ 4
     → IsOfTracks (length C) Ks s → IsFit C s
-tracks-fit C Ks s tracks some few is = record { sound = tracks-sound C (length C) Ks s tracks is; sized = tracks-sized (length C) Ks s some few is }
+tracks-fit C Ks s tracks some few is = record {
+  sound = tracks-sound C (length C) Ks s tracks is;
+  sized = tracks-sized (length C) Ks s some few is;
+}

@@ -7,5 +7,6 @@ ghost use Rattle.clash_sections.specs.Stands.{meeting};
 
 /// If a stand is free of itself and clashes with one, no sections forbid exactly the clashes, whatever their limits and shares.
 pub fn no_sections_for_what_is_free_of_itself()
-    ensures { (C : List (List Meeting)) (a b : ℕ) → meeting C a b ≡ Clash → meeting C a a ≡ Free → (S : List StandSection) → IsExact C S → ⊥ }
+    ensures { (C : List (List Meeting)) (a b : ℕ) → meeting C a b ≡ Clash → meeting C a a ≡ Free
+        → (S : List StandSection) → IsExact C S → ⊥ }
 {}

@@ -6,6 +6,7 @@ use Rattle.clash_sections.proofs.choosing.found.Goals as goal
 
 pub loop-preserved : goal.loop-preserved
 loop-preserved c =
-    let fit : IsFit c.args.clashes.now c.in-Some.section = subst (λ (found : Option StandSection). IfSome found (IsFit c.args.clashes.now)) c.in-Some.is c.in_ok-section.ensures in
+    let fit : IsFit c.args.clashes.now c.in-Some.section =
+    subst (λ (found : Option StandSection). IfSome found (IsFit c.args.clashes.now)) c.in-Some.is c.in_ok-section.ensures in
     subst (All (IsFit c.args.clashes.now)) (sym c.in_ok-push.ensures.items)
     (All-push (IsFit c.args.clashes.now) c.loop.sections.items c.in-Some.section c.loop.invariant fit)

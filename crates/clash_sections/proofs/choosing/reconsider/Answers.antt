@@ -6,7 +6,8 @@ use Rattle.clash_sections.proofs.choosing.reconsider.Goals as goal
 
 -- what holds of all items holds of those that are left
 removed : (P : StandSection → Type 0) (old new : List StandSection) (i : ℕ) → All P old → new ≡ remove old i → All P new
-removed P old new i all left = subst (All P) (sym left) (All-append P (take i old) (drop (suc i) old) (All-take P i old all) (All-drop P (suc i) old all))
+removed P old new i all left = subst (All P) (sym left)
+    (All-append P (take i old) (drop (suc i) old) (All-take P i old all) (All-drop P (suc i) old all))
 
 -- and of the one that was removed and pushed again
 pushed : (P : StandSection → Type 0) (old new last : List StandSection) (i : ℕ) (s : StandSection) → All P old → new ≡ remove old i
@@ -17,7 +18,8 @@ pushed P old new last i s all left within is push =
 pub returns-in_ok-push : goal.returns-in_ok-push
 returns-in_ok-push c = record {
   fit = pushed (IsFit c.args.clashes.now) c.args.sections.now.items c.remove-section.new.self.items c.push.new.self.items c.args.index
-      c.remove-section.result c.requires.fit c.remove-section.ensures.items c.requires.within c.remove-section.ensures.value c.in_ok-push.ensures.items;
+      c.remove-section.result c.requires.fit c.remove-section.ensures.items c.requires.within
+      c.remove-section.ensures.value c.in_ok-push.ensures.items;
 }
 
 pub returns-else-not-are_enough : goal.returns-else-not-are_enough

@@ -12,4 +12,5 @@ loop-stand-preserved c = record {
 
 pub returns-clause-enough : goal.returns-clause-enough
 returns-clause-enough c =
-    enough-below c.args.clashes.now c.loop-stand.sections.items (λ a l b le clash. c.loop-stand.invariant.covered a (omega arith) b le clash)
+    enough-below c.args.clashes.now c.loop-stand.sections.items
+    (λ a l b le clash. c.loop-stand.invariant.covered a (omega arith) b le clash)

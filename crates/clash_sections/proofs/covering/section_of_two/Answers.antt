@@ -11,7 +11,8 @@ returns-clause-fit c =
     two-put (length c.args.clashes.now) c.len.result c.args.one c.args.other c.in_ok-track.track c.put.new.self c.put-2.new.self
     c.len.ensures c.in_ok-track.ensures c.put.ensures c.put-2.ensures in
     IfOk-weaker c.section_of.result (IsOfTracks c.len-2.result (c.put-2.new.self ∷ [])) (IsFit c.args.clashes.now)
-    (λ s is. two-fit c.args.clashes.now c.args.one c.args.other c.len-2.result c.put-2.new.self s c.requires.orderly c.requires.clash c.len-2.ensures track is)
+    (λ s is. two-fit c.args.clashes.now c.args.one c.args.other c.len-2.result c.put-2.new.self s
+    c.requires.orderly c.requires.clash c.len-2.ensures track is)
     c.section_of.ensures
 
 pub returns-clause-forbids : goal.returns-clause-forbids
@@ -20,5 +21,6 @@ returns-clause-forbids c =
     two-put (length c.args.clashes.now) c.len.result c.args.one c.args.other c.in_ok-track.track c.put.new.self c.put-2.new.self
     c.len.ensures c.in_ok-track.ensures c.put.ensures c.put-2.ensures in
     IfOk-weaker c.section_of.result (IsOfTracks c.len-2.result (c.put-2.new.self ∷ [])) (Forbids c.args.one c.args.other)
-    (λ s is. two-forbids c.args.clashes.now c.args.one c.args.other c.len-2.result c.put-2.new.self s c.requires.within.0 c.requires.within.1 c.len-2.ensures track is)
+    (λ s is. two-forbids c.args.clashes.now c.args.one c.args.other c.len-2.result c.put-2.new.self s
+    c.requires.within.0 c.requires.within.1 c.len-2.ensures track is)
     c.section_of.ensures

@@ -8,5 +8,6 @@ pub returns : goal.returns
 returns c =
     let none : (length c.args.tracks.now == 0) ≡ false = sym c.if-is_empty.ensures in
     let some : 1 ≤ length c.args.tracks.now = grind (arith, nat_tests) in
-    tracks-fit c.args.clashes.now c.args.tracks.now c.in_ok-section_of.field-0 (c.are_tracks.ensures c.if-not-are_tracks.false) some c.if-tracks-gt4.false
+    tracks-fit c.args.clashes.now c.args.tracks.now c.in_ok-section_of.field-0
+    (c.are_tracks.ensures c.if-not-are_tracks.false) some c.if-tracks-gt4.false
     (subst (λ n. IsOfTracks n c.args.tracks.now c.in_ok-section_of.field-0) c.len.ensures c.in_ok-section_of.ensures)
