@@ -4,6 +4,7 @@ use Rattle.std.specs.Prelude.{Result, Ok, Err, OnOk}
 use Rattle.std.proofs.lemmas.List.{append-nil, take_more}
 use Rattle.svg_text.specs.Tree.{Group, Shape}
 use Rattle.rail_model.specs.Table.{trains}
+use Rattle.state_sentences.specs.Knot.{IsKnotOrNone}
 use Rattle.layout_frame.specs.declared.frame.View.{View}
 use Rattle.layout_picture.specs.declared.layers.Layer.{Layer}
 use Rattle.layout_picture.specs.declared.layers.Layer.TheVariants as layer
@@ -69,9 +70,10 @@ begun v l groups rest known first same =
     first.begins ∙ ap (λ (later : List Group). group_with (class_name l) first.title first.shapes ∷ later) same
 
 -- the groups of all layers are what a picture shows
-pub is_drawn : (v : View) (groups : List Group) → length v.frame.now.spots.items ≡ length v.layout.now.points → AreLayers v all groups
+pub is_drawn : (v : View) (groups : List Group) → IsKnotOrNone v.scene.now.table.now v.scene.now.state.now v.knot.now
+    → length v.frame.now.spots.items ≡ length v.layout.now.points → AreLayers v all groups
     → IsDrawn v.layout.now v.scene.now.table.now v.scene.now.state.now v.frame.now.grid.width v.frame.now.height groups
-is_drawn v groups each layers =
+is_drawn v groups knot each layers =
     let T = v.scene.now.table.now in
     let p = v.scene.now.state.now in
     let spots = v.frame.now.spots.items in
@@ -92,11 +94,13 @@ is_drawn v groups each layers =
     (begun _ _ _ _ _ heading none)))))))))) in
     subst (IsDrawn v.layout.now T p v.frame.now.grid.width v.frame.now.height) (sym whole) (record {
       spots = spots;
+      knot = v.knot.now;
+      is_knot = knot;
       spot_for_each = each;
       ground = append-nil ground.shapes ∙ ground.is_layer;
       dots = append-nil points.shapes ∙ points.is_layer;
       lines = subst (AreLinkLines spots v.layout.now.links) (sym (append-nil links.shapes)) links.is_layer;
       areas = ap (map first_attribute) (append-nil sections.shapes) ∙ sections.is_layer;
-      arrows = subst (AreOfTrains (IsArrow T p spots) (trains T)) (sym (append-nil arrows.shapes)) arrows.is_layer;
-      waits = subst (AreOfTrains (IsWait T p spots) (trains T)) (sym (append-nil circle.shapes)) circle.is_layer;
+      arrows = subst (AreOfTrains (IsArrow T p v.knot.now spots) (trains T)) (sym (append-nil arrows.shapes)) arrows.is_layer;
+      waits = subst (AreOfTrains (IsWait T p v.knot.now spots) (trains T)) (sym (append-nil circle.shapes)) circle.is_layer;
     })

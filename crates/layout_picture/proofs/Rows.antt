@@ -69,7 +69,7 @@ arrived_row : outline_of trains (2 ∷ 0 ∷ []) 0 ≡ SQUARE
 arrived_row = refl
 
 -- T1 has left the layout
-left_row : IsArrow trains (0 ∷ 1 ∷ []) spots 1 []
+left_row : IsArrow trains (0 ∷ 1 ∷ []) [] spots 1 []
 left_row = refl
 
 -- its step from B to C, and none from C on

@@ -11,7 +11,8 @@ use Rattle.layout_frame.specs.declared.frame.View.{View}
 use Rattle.layout_picture.specs.declared.layers.Layer.{Layer}
 use Rattle.layout_picture.specs.declared.layers.Layer.TheVariants.{Ground, Sections, Links, Circle, Points, Numbers, Arrows, Names, Trains, Legend, Heading}
 use Rattle.layout_picture.specs.Marks.{dot_at, stroke_of, ends_of, link_ends}
-use Rattle.layout_picture.specs.Red.{IsInCircle}
+use Rattle.state_sentences.specs.Knot.{IsKnotOrNone}
+use Rattle.layout_picture.specs.Red.{IsRed}
 use Rattle.layout_picture.specs.Arrows.{IsArrow}
 use Rattle.layout_picture.specs.Areas.{inside, way_of, first_attribute}
 
@@ -51,10 +52,10 @@ step_between None next = []
 abbrev pub next_step : Table → List ℕ → ℕ → List Link
 next_step T p i = step_between (point T i (place p i)) (point T i (place p i + 1))
 
--- The shapes are a line from train i to its next point, if the train is in a circle; else there are none.
-pub record IsWait (T : Table) (p : List ℕ) (spots : List Spot) (i : ℕ) (shapes : List Shape) : Type 0 where
+-- The shapes are a line from train i to its next point, if the train is red; else there are none.
+pub record IsWait (T : Table) (p knot : List ℕ) (spots : List Spot) (i : ℕ) (shapes : List Shape) : Type 0 where
   pub red : Bool
-  pub is_red : Decides red (IsInCircle T p i)
+  pub is_red : Decides red (IsRed T p knot i)
   pub line : AreLinkLines spots (if red then next_step T p i else []) shapes
 
 -- for each point of the layout, whether it is in section s
@@ -90,18 +91,18 @@ class_name Legend = codes "legend"
 class_name Heading = codes "heading"
 
 -- The shapes are those of a layer: a ground as large as the picture, an area for each section, a line for each link, a
--- broad line from each train of a circle, a dot for each spot, an arrow for each train. Of words nothing is said.
+-- broad line from each red train, a dot for each spot, an arrow for each train. Of words nothing is said.
 abbrev pub IsLayer : View → Layer → List Shape → Type 0
 IsLayer v Ground shapes = shapes ≡ ground_of v.frame.now.grid.width v.frame.now.height ∷ []
 IsLayer v Sections shapes = AreAreas v (below (length v.scene.now.table.now.sections)) shapes
 IsLayer v Links shapes = AreLinkLines v.frame.now.spots.items v.layout.now.links shapes
 IsLayer v Circle shapes =
-    AreOfTrains (IsWait v.scene.now.table.now v.scene.now.state.now v.frame.now.spots.items)
+    AreOfTrains (IsWait v.scene.now.table.now v.scene.now.state.now v.knot.now v.frame.now.spots.items)
     (trains v.scene.now.table.now) shapes
 IsLayer v Points shapes = shapes ≡ map dot_at v.frame.now.spots.items
 IsLayer v Numbers shapes = Unit {0}
 IsLayer v Arrows shapes =
-    AreOfTrains (IsArrow v.scene.now.table.now v.scene.now.state.now v.frame.now.spots.items)
+    AreOfTrains (IsArrow v.scene.now.table.now v.scene.now.state.now v.knot.now v.frame.now.spots.items)
     (trains v.scene.now.table.now) shapes
 IsLayer v Names shapes = Unit {0}
 IsLayer v Trains shapes = Unit {0}
@@ -128,14 +129,16 @@ AreLayers v [] groups = groups ≡ []
 AreLayers v (layer ∷ later) groups = (rest : List Group) × BeginsWith v layer groups rest × AreLayers v later rest
 
 -- The groups have a ground of this size, a dot for each point, a line for each link, an area over the points of each
--- section, an arrow at its point for each train that is in the layout, and a broad line from each train of a circle.
+-- section, an arrow at its point for each train that is in the layout, and a broad line from each red train.
 pub record IsDrawn (L : Layout) (T : Table) (p : List ℕ) (width height : ℕ) (groups : List Group) : Type 0 where
   pub spots : List Spot
+  pub knot : List ℕ
+  pub is_knot : IsKnotOrNone T p knot
   pub spot_for_each : length spots ≡ length L.points
   pub ground : shapes_of (codes "background") groups ≡ ground_of width height ∷ []
   pub dots : shapes_of (codes "points") groups ≡ map dot_at spots
   pub lines : AreLinkLines spots L.links (shapes_of (codes "links") groups)
   pub areas : map first_attribute (shapes_of (codes "sections") groups)
       ≡ map (way_of L spots) (map (inside T (length L.points)) (below (length T.sections)))
-  pub arrows : AreOfTrains (IsArrow T p spots) (trains T) (shapes_of (codes "arrows") groups)
-  pub waits : AreOfTrains (IsWait T p spots) (trains T) (shapes_of (codes "circle") groups)
+  pub arrows : AreOfTrains (IsArrow T p knot spots) (trains T) (shapes_of (codes "arrows") groups)
+  pub waits : AreOfTrains (IsWait T p knot spots) (trains T) (shapes_of (codes "circle") groups)

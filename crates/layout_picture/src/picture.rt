@@ -1,10 +1,12 @@
 // The whole picture.
 ghost use Rattle.std.specs.Prelude.{◌≡◌, ◌++◌, ◌∷◌, [], IfOk, OnOk, codes, decimal, length};
 ghost use Rattle.layout_frame.specs.Spots.{painted};
+ghost use Rattle.state_sentences.specs.Knot.{IsKnotOrNone};
 ghost use Rattle.layout_picture.specs.Drawn.{AddsLayer, AreLayers, IsDrawn, IsLayer, ground_of};
 
-use crate::circles::looks_of;
+use crate::circles::circles_of;
 use crate::layers::{LAYERS, Layer, class_of, title_of};
+use crate::reds::{knot_of, looks_of};
 use crate::sections::{inside_of, push_areas};
 use crate::tracks::{push_dots, push_links};
 use crate::trains::{push_arrows, push_waits};
@@ -83,7 +85,8 @@ fn push_layers(groups: &mut Vec<Group>, view: &View, layers: &[Layer]) -> Result
 
 // A picture in a frame.
 fn drawn(view: &View) -> Result<Picture, AllocError>
-    requires { length view.now.frame.now.spots.items ≡ length view.now.layout.now.points }
+    requires each { length view.now.frame.now.spots.items ≡ length view.now.layout.now.points }
+    requires knot { IsKnotOrNone view.now.scene.now.table.now view.now.scene.now.state.now view.now.knot.now }
     ensures { IfOk result (λ picture. IsDrawn view.now.layout.now view.now.scene.now.table.now view.now.scene.now.state.now
         picture.width picture.height picture.groups) }
 {
@@ -103,13 +106,15 @@ pub(crate) fn drawing(
 ) -> Result<Picture, AllocError>
     ensures { IfOk result (λ picture. IsDrawn layout.now scene.now.table.now scene.now.state.now picture.width picture.height picture.groups) }
 {
-    let looks = looks_of(scene);
+    let knot = knot_of(alloc, scene, circles_of(alloc, scene)?)?;
+    let looks = looks_of(scene, &knot);
     let inside = inside_of(layout, scene.table);
     let frame = frame_of(alloc, layout, scene, &looks)?;
     let view = View {
         alloc,
         layout,
         scene,
+        knot: &knot,
         looks: &looks,
         inside: &inside,
         frame: &frame,
