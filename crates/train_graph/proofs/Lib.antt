@@ -1,4 +1,5 @@
 pub mod Known
+pub mod LevelRows
 pub mod Pushed
 pub mod Rows
 pub mod Ways
