@@ -1,6 +1,8 @@
 // The names of points and of trains.
-ghost use Rattle.std.specs.Prelude.{◌<◌};
+ghost use Rattle.std.specs.Prelude.{◌≡◌, ◌<◌, ◌++◌, ◌∷◌, [], IfOk, OnOk, slice_index_or};
+ghost use Rattle.rail_model.specs.Layout.{point_names};
 ghost use Rattle.rail_model.specs.Table.{trains};
+ghost use Rattle.layout_frame.specs.Spots.{words_of};
 
 use crate::frame::{View, point_name, shifted};
 use crate::looks::look_of;
@@ -44,7 +46,9 @@ const BELOW: Side = Side {
 };
 
 // Turns words round their spot, or has them in its middle.
-fn turn(shape: &mut Shape, alloc: Global, at: Spot, angle: Option<i32>) -> Result<(), AllocError> {
+fn turn(shape: &mut Shape, alloc: Global, at: Spot, angle: Option<i32>) -> Result<(), AllocError>
+    ensures { OnOk result (shape.new.words ≡ shape.old.words) }
+{
     match angle {
         Some(angle) => turn_by(shape, alloc, at, angle),
         None => shape.set(alloc, "text-anchor", "middle"),
@@ -52,14 +56,18 @@ fn turn(shape: &mut Shape, alloc: Global, at: Spot, angle: Option<i32>) -> Resul
 }
 
 // Turns a shape round a spot.
-fn turn_by(shape: &mut Shape, alloc: Global, at: Spot, angle: i32) -> Result<(), AllocError> {
+fn turn_by(shape: &mut Shape, alloc: Global, at: Spot, angle: i32) -> Result<(), AllocError>
+    ensures { OnOk result (shape.new.words ≡ shape.old.words) }
+{
     let Spot { x, y } = at;
     let turn = format!(in alloc; "rotate({angle} {x} {y})")?;
     shape.set(alloc, "transform", turn.as_str())
 }
 
 // Words beside a spot.
-fn caption(alloc: Global, at: Spot, words: &str, side: Side) -> Result<Shape, AllocError> {
+fn caption(alloc: Global, at: Spot, words: &str, side: Side) -> Result<Shape, AllocError>
+    ensures { IfOk result (λ shape. shape.words ≡ words.now) }
+{
     let foot = shifted(at, side.right, side.down);
     let mut shape = label(alloc, foot, words)?;
     turn(&mut shape, alloc, foot, side.angle)?;
@@ -67,7 +75,10 @@ fn caption(alloc: Global, at: Spot, words: &str, side: Side) -> Result<Shape, Al
 }
 
 // Adds the name of a point.
-fn push_point_name(shapes: &mut Vec<Shape>, view: &View, point: u32) -> Result<(), AllocError> {
+fn push_point_name(shapes: &mut Vec<Shape>, view: &View, point: u32) -> Result<(), AllocError>
+    ensures { OnOk result (words_of shapes.new.items
+        ≡ words_of shapes.old.items ++ slice_index_or (point_names view.now.layout.now) point [] ∷ []) }
+{
     let side = if view.frame.grid.rise { RISING } else { ABOVE };
     let name = point_name(view.layout, point);
     push_shape(
@@ -77,7 +88,9 @@ fn push_point_name(shapes: &mut Vec<Shape>, view: &View, point: u32) -> Result<(
 }
 
 /// Adds the name of each point.
-pub fn push_point_names(shapes: &mut Vec<Shape>, view: &View) -> Result<(), AllocError> {
+pub fn push_point_names(shapes: &mut Vec<Shape>, view: &View) -> Result<(), AllocError>
+    ensures { OnOk result (words_of shapes.new.items ≡ words_of shapes.old.items ++ point_names view.now.layout.now) }
+{
     for point in 0..points_of(view.layout) {
         push_point_name(shapes, view, point)?;
     }

@@ -1,5 +1,6 @@
 // Where the cells of the grid are in the picture.
-ghost use Rattle.std.specs.Prelude.{◌≡◌, IfOk, length};
+ghost use Rattle.std.specs.Prelude.{◌≡◌, ◌<◌, [], IfOk, length, slice_index_or};
+ghost use Rattle.rail_model.specs.Layout.{point_names};
 ghost use Rattle.layout_frame.specs.Spots.{shifted as shifted_spot};
 
 use crate::cells::{Cell, Cells, Edges};
@@ -8,6 +9,7 @@ use crate::legend::legend_end;
 use crate::looks::Look;
 use crate::straightening::straighten;
 use rail_model::{Layout, Names, Table, points_of};
+use state_core::Group;
 use state_sentences::Scene;
 use std::alloc::{AllocError, Global};
 use svg_text::Spot;
@@ -42,12 +44,13 @@ pub struct Grid {
     pub foot: u64,
 }
 
-/// What is drawn: a layout and the trains of a scene, which look so, in a frame, under a title.
+/// What is drawn: a layout and the trains of a scene, some of them in a knot, which look so, in a frame, under a title.
 #[derive(Clone, Copy)]
 pub struct View<'a> {
     pub alloc: Global,
     pub layout: &'a Layout,
     pub scene: &'a Scene<'a>,
+    pub knot: &'a Group,
     pub looks: &'a [Look],
     /// For each point the sections that it is in, a bit for each.
     pub inside: &'a [u64],
@@ -56,7 +59,9 @@ pub struct View<'a> {
 }
 
 /// The name of a point, or no letters for a number that no point has.
-pub(crate) fn point_name(layout: &Layout, point: u32) -> &str {
+pub(crate) fn point_name(layout: &Layout, point: u32) -> &str
+    ensures { result.now ≡ slice_index_or (point_names layout.now) point [] }
+{
     match layout.points().get(point as usize) {
         Some(point) => point.name(),
         None => "",
@@ -110,7 +115,10 @@ fn spread(width: u64, gaps: u64) -> u64 {
 }
 
 // A grid for names of this many letters, with this many gaps between columns, and between rows.
-fn grid_of(points: u64, trains: u64, columns: u64, rows: u64) -> Grid {
+fn grid_of(points: u64, trains: u64, columns: u64, rows: u64) -> Grid
+    ensures wide { 0 < result.width }
+    ensures low { 0 < result.foot }
+{
     let rise = spread(WIDTH - 2 * MARGIN, columns) < width_of(points);
     let above = reach_of(points, rise);
     let right = MARGIN.max(above);
@@ -163,7 +171,10 @@ fn spot_of(grid: &Grid, edges: Edges, cell: Cell) -> Spot {
 }
 
 // A grid for these cells, with room for the names of points and of trains.
-fn grid_for(layout: &Layout, names: &Names, edges: Edges) -> Grid {
+fn grid_for(layout: &Layout, names: &Names, edges: Edges) -> Grid
+    ensures wide { 0 < result.width }
+    ensures low { 0 < result.foot }
+{
     grid_of(
         point_letters(layout),
         train_letters(names),
@@ -204,7 +215,9 @@ pub fn frame_of(
     scene: &Scene,
     looks: &[Look],
 ) -> Result<Frame, AllocError>
-    ensures { IfOk result (λ frame. length frame.spots.items ≡ length layout.now.points) }
+    ensures each { IfOk result (λ frame. length frame.spots.items ≡ length layout.now.points) }
+    ensures wide { IfOk result (λ frame. 0 < frame.grid.width) }
+    ensures high { IfOk result (λ frame. 0 < frame.height) }
 {
     let cells = cells_of(layout, scene.table);
     let edges = cells.edges().unwrap_or(Edges::NONE);

@@ -1,11 +1,12 @@
 // The legend below a picture: entries in three columns, each with a mark in a colour, and words.
-ghost use Rattle.std.specs.Prelude.{◌<◌, length};
+ghost use Rattle.std.specs.Prelude.{◌<◌, ◌≤◌, length};
 ghost use Rattle.rail_model.specs.Table.{trains};
 
 use crate::frame::{View, shifted, train_name};
 use crate::looks::{Look, look_of};
 use crate::shapes::{push_label, push_painted};
 use rail_model::{limit_of, point_of, sections_of};
+use state_core::Keeper;
 use state_sentences::Scene;
 use std::alloc::AllocError;
 use svg_text::{Shape, Spot, circle};
@@ -26,7 +27,7 @@ fn has_left(scene: &Scene, train: u32) -> bool
     point_of(scene.table, train, scene.place(train)).is_none()
 }
 
-// How many entries there are of trains: of those in a circle, and of those that have left the layout.
+// How many entries there are of trains: of red ones that wait, and of those that have left the layout.
 fn train_entries(scene: &Scene, looks: &[Look]) -> u64 {
     let mut entries: u64 = 0;
     for train in 0..scene.trains() {
@@ -38,12 +39,16 @@ fn train_entries(scene: &Scene, looks: &[Look]) -> u64 {
 }
 
 // How far down a row of entries is in a legend that begins so far from the top.
-fn row_at(top: u64, row: u64) -> u64 {
+fn row_at(top: u64, row: u64) -> u64
+    ensures { top ≤ result }
+{
     row.saturating_mul(22).saturating_add(top)
 }
 
 /// Where the legend of a scene ends that begins so far from the top.
-pub(crate) fn legend_end(scene: &Scene, looks: &[Look], top: u64) -> u64 {
+pub(crate) fn legend_end(scene: &Scene, looks: &[Look], top: u64) -> u64
+    ensures { top ≤ result }
+{
     let sections = u64::from(sections_of(scene.table));
     let entries = train_entries(scene, looks).saturating_add(sections);
     row_at(top, entries.div_ceil(3))
@@ -71,16 +76,28 @@ fn push_entry(
     push_label(shapes, view.alloc, shifted(at, 13, 4), words)
 }
 
-// Adds the words of a train's entry: which train it waits for in a circle; or, where those are asked for that are gone,
-// that it has left the layout. A train without an entry has no words.
+// Adds what a train waits for.
+fn write_keeper(words: &mut String, view: &View, keeper: Keeper) -> Result<(), AllocError> {
+    match keeper {
+        Keeper::Train { train } => words.push_str(train_name(view.scene.names, train)),
+        Keeper::Section { section } => write!(words, "section {section}"),
+        Keeper::Connection { other, reached } => {
+            let other = train_name(view.scene.names, other);
+            write!(words, "{other} to come to place {reached}")
+        }
+    }
+}
+
+// Adds the words of a train's entry: what it waits for, if it is red; or, where those are asked for that are gone, that it
+// has left the layout. A train without an entry has no words.
 fn write_entry(words: &mut String, view: &View, train: u32, gone: bool) -> Result<(), AllocError>
     requires { train < trains view.now.scene.now.table.now }
 {
     let name = view.scene.train(train);
     match look_of(view.looks, train).waits_for {
-        Some(by) if !gone => {
-            let by = train_name(view.scene.names, by);
-            write!(words, "{name} waits for {by}")
+        Some(keeper) if !gone => {
+            write!(words, "{name} waits for ")?;
+            write_keeper(words, view, keeper)
         }
         _ if gone && has_left(view.scene, train) => write!(words, "{name} has left the layout"),
         _ => Ok(()),
@@ -109,7 +126,7 @@ fn push_train(
     )
 }
 
-// Adds the trains of a circle, or those that are gone.
+// Adds the red trains that wait, or those that are gone.
 fn push_trains(shapes: &mut Vec<Shape>, view: &View, gone: bool) -> Result<(), AllocError> {
     for train in 0..view.scene.trains() {
         push_train(shapes, view, train, gone)?;
@@ -135,7 +152,7 @@ fn push_sections(shapes: &mut Vec<Shape>, view: &View) -> Result<(), AllocError>
     Ok(())
 }
 
-/// Adds the entries of a legend: the trains of a circle, the sections, and the trains that have left the layout.
+/// Adds the entries of a legend: the red trains that wait, the sections, and the trains that have left the layout.
 pub fn push_legend(shapes: &mut Vec<Shape>, view: &View) -> Result<(), AllocError> {
     push_trains(shapes, view, false)?;
     push_sections(shapes, view)?;

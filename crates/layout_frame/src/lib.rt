@@ -1,5 +1,6 @@
 //! The frame of a picture of a layout: where its points lie and how its links bow; and its words, which are the names of
-//! points and trains, the legend and the title, or why there is no picture. It promises only that each point has a spot.
+//! points and trains, the legend and the title, or why there is no picture. It promises that a frame has a size and a spot for
+//! each point, and that the names of the points are written in order.
 #![tactic(auto)]
 
 mod bows;

@@ -1,10 +1,12 @@
 // How trains look.
 
-/// The colour of a train, and the train that it waits for, if both are in a circle of trains that wait for one another.
+use state_core::Keeper;
+
+/// The colour of a train; and if it is red and hasn't arrived, what it waits for.
 #[derive(Clone, Copy)]
 pub struct Look {
     pub colour: &'static str,
-    pub waits_for: Option<u32>,
+    pub waits_for: Option<Keeper>,
 }
 
 /// How a train looks; one that isn't in the list has no colour.

@@ -5,12 +5,12 @@ use Rattle.std.proofs.lemmas.List.{append-nil, map-append, take_more}
 use Rattle.std.proofs.lemmas.List.FromFn.{map-range_with_len_more}
 use Rattle.svg_text.specs.Tree.{Shape}
 use Rattle.svg_text.specs.declared.shapes.Spot.{Spot}
-use Rattle.rail_model.specs.Layout.{Link}
+use Rattle.rail_model.specs.Layout.{Layout, Link}
+use Rattle.rail_model.specs.Table.{Table}
 use Rattle.rail_model.specs.Checks.{below}
-use Rattle.layout_frame.specs.declared.frame.View.{View}
 use Rattle.layout_picture.specs.Marks.{ends_of, link_ends, stroke_of}
-use Rattle.layout_picture.specs.Areas.{first_attribute, way_of}
-use Rattle.layout_picture.specs.Drawn.{AddsShapes, AreAreas, AreLinkLines, AreOfTrains, marks, step_between}
+use Rattle.layout_picture.specs.Areas.{first_attribute, inside, way_of}
+use Rattle.layout_picture.specs.Drawn.{AddsShapes, AreAreas, AreLinkLines, AreOfTrains, step_between}
 
 -- nothing is added
 pub adds_none : (P : List Shape → Type 0) (before : List Shape) → P [] → AddsShapes P before before
@@ -62,11 +62,13 @@ next_line spots links i d here next first now after lt here_is next_is so_far ad
     (subst (λ (ls : List Link). AddsShapes (AreLinkLines spots ls) now after) link adds))
 
 -- the area of one section more
-pub adds_area : (v : View) (n : ℕ) (first now after : List Shape) (area : Shape) → AddsShapes (AreAreas v (below n)) first now → after ≡ now ++ area ∷ []
-    → first_attribute area ≡ way_of v.layout.now v.frame.now.spots.items (marks v n) → AddsShapes (AreAreas v (below (n + 1))) first after
-adds_area v n first now after area so_far pushed is =
-    let way = way_of v.layout.now v.frame.now.spots.items in
-    adds_both (AreAreas v (below n)) (AreAreas v (n ∷ [])) (AreAreas v (below (n + 1))) first now after
-    (λ own more a b. map-append first_attribute own more ∙ ap₂ (λ xs ys. xs ++ ys) a b ∙ sym (map-append way (map (marks v) (below n)) (marks v n ∷ []))
-    ∙ ap (map way) (sym (map-range_with_len_more (marks v) 0 n n (omega arith)))) so_far
-    (adds_one (AreAreas v (n ∷ [])) now after area pushed (ap (λ a. a ∷ []) is))
+pub adds_area : (L : Layout) (T : Table) (spots : List Spot) (n : ℕ) (first now after : List Shape) (area : Shape)
+    → AddsShapes (AreAreas L T spots (below n)) first now → after ≡ now ++ area ∷ []
+    → first_attribute area ≡ way_of L spots (inside T (length L.points) n) → AddsShapes (AreAreas L T spots (below (n + 1))) first after
+adds_area L T spots n first now after area so_far pushed is =
+    let way = way_of L spots in
+    let marks = inside T (length L.points) in
+    adds_both (AreAreas L T spots (below n)) (AreAreas L T spots (n ∷ [])) (AreAreas L T spots (below (n + 1))) first now after
+    (λ own more a b. map-append first_attribute own more ∙ ap₂ (λ xs ys. xs ++ ys) a b ∙ sym (map-append way (map marks (below n)) (marks n ∷ []))
+    ∙ ap (map way) (sym (map-range_with_len_more marks 0 n n (omega arith)))) so_far
+    (adds_one (AreAreas L T spots (n ∷ [])) now after area pushed (ap (λ a. a ∷ []) is))

@@ -1,9 +1,9 @@
 -- Worked rows: areas, arrows, lines and colours in a small layout.
-use Rattle.std.proofs.Common.{◌≡◌, ◌∷◌, [], ℕ, List, true, false, refl}
+use Rattle.std.proofs.Common.{◌≡◌, ◌∷◌, [], ℕ, List, true, false, inr, refl}
 use Rattle.std.specs.Prelude.{pos, codes}
 use Rattle.std.specs.Fmt.{digits}
 use Rattle.svg_text.specs.Tree.{Shape}
-use Rattle.svg_text.specs.Shapes.{circle_of}
+use Rattle.svg_text.specs.Shapes.{circle_of, label_of}
 use Rattle.svg_text.specs.Text.{shape_text}
 use Rattle.svg_text.specs.declared.shapes.Spot.{Spot}
 use Rattle.rail_model.specs.Layout.{Layout, Point, Link}
@@ -11,10 +11,11 @@ use Rattle.rail_model.specs.Table.{Table}
 use Rattle.layout_picture.specs.declared.arrows.Heading.{Heading}
 use Rattle.layout_picture.specs.declared.arrows.TheConstants.{ARROW, SQUARE}
 use Rattle.layout_frame.specs.Spots.{painted}
-use Rattle.layout_picture.specs.Red.{is_red}
+use Rattle.layout_picture.specs.Red.{IsRed, is_red}
 use Rattle.layout_picture.specs.Arrows.{mark_of, outline_of, IsArrow}
 use Rattle.layout_picture.specs.Areas.{inside, way_over, path_along, way_of, first_attribute}
-use Rattle.layout_picture.specs.Drawn.{group_with, shapes_of, next_step, ground_of}
+use Rattle.layout_picture.specs.Drawn.{IsLayer, Shows, Subject, next_step, ground_of}
+use Rattle.layout_picture.specs.declared.layers.Layer.TheVariants.{Ground, Names}
 
 abbrev named : List ℕ → Point
 named name = record { name = name; zone = 0 }
@@ -69,7 +70,7 @@ arrived_row : outline_of trains (2 ∷ 0 ∷ []) 0 ≡ SQUARE
 arrived_row = refl
 
 -- T1 has left the layout
-left_row : IsArrow trains (0 ∷ 1 ∷ []) spots 1 []
+left_row : IsArrow trains (0 ∷ 1 ∷ []) [] spots 1 []
 left_row = refl
 
 -- its step from B to C, and none from C on
@@ -96,6 +97,10 @@ square_row = refl
 red_row : is_red (codes "#d00000") ≡ true
 red_row = refl
 
+-- a train of the knot is red
+knot_row : IsRed trains (1 ∷ 0 ∷ []) (0 ∷ []) 0
+knot_row = inr refl
+
 blue_row : is_red (codes "#0b5fa5") ≡ false
 blue_row = refl
 
@@ -108,9 +113,16 @@ ground_row : shape_text (ground_of 800 400) ≡ codes "<rect width=\"800\" heigh
 unfolding digits
 ground_row = refl
 
-abbrev dots : List Shape
-dots = circle_of (at 10) 5 ∷ []
+abbrev subject : Subject
+subject = record { layout = line; table = trains; places = 0 ∷ 1 ∷ []; knot = []; spots = spots; width = 800; height = 400 }
 
--- only the groups of the class count
-shapes_row : shapes_of (codes "points") (group_with (codes "links") (codes "links") [] ∷ group_with (codes "points") (codes "points") dots ∷ []) ≡ dots
-shapes_row = refl
+-- the group of the ground
+ground_group_row : IsLayer subject Ground (record { class = codes "background"; attributes = []; title = codes "ground"; shapes = ground_of 800 400 ∷ [] })
+ground_group_row = record { class = refl; plain = refl; shows = refl }
+
+abbrev name_at : ℕ → List ℕ → Shape
+name_at x name = label_of (at x) name
+
+-- the names of the points, in order
+names_row : Shows subject Names (name_at 10 (codes "A") ∷ name_at 20 (codes "B") ∷ name_at 30 (codes "C") ∷ name_at 40 (codes "D") ∷ [])
+names_row = refl

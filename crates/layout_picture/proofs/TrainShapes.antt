@@ -29,10 +29,10 @@ step_line spots here next w shape ends line = record {
   lines = ap (λ (s : Shape). s ∷ []) line;
 }
 
-module _ (T : Table) (p : List ℕ) (i : ℕ) where
+module _ (T : Table) (p knot : List ℕ) (i : ℕ) where
   -- a mark in the colour of the train
   pub is_mark : (h : Heading) (at spot : Spot) (size : ℤ) (o : Outline) (colour : List ℕ) (mark shape : Shape) → at ≡ spot → o ≡ outline_of T p i
-      → mark ≡ mark_of h at size o → shape ≡ painted mark (codes "fill") colour → IsColour T p i colour → IsMark T p i spot (shape ∷ [])
+      → mark ≡ mark_of h at size o → shape ≡ painted mark (codes "fill") colour → IsColour T p knot i colour → IsMark T p knot i spot (shape ∷ [])
   is_mark h at spot size o colour mark shape at_is o_is mark_is shape_is colour_is = record {
     heading = h;
     size = size;

@@ -45,18 +45,18 @@ abbrev pub outline_of : Table → List ℕ → ℕ → Outline
 outline_of T p i = if place p i == last T i then SQUARE else ARROW
 
 -- The shapes are one mark round a spot, of a train: an arrow or a square, in the colour of the train.
-pub record IsMark (T : Table) (p : List ℕ) (i : ℕ) (at : Spot) (shapes : List Shape) : Type 0 where
+pub record IsMark (T : Table) (p knot : List ℕ) (i : ℕ) (at : Spot) (shapes : List Shape) : Type 0 where
   pub heading : Heading
   pub size : ℤ
   pub colour : List ℕ
-  pub is_colour : IsColour T p i colour
+  pub is_colour : IsColour T p knot i colour
   pub mark : shapes ≡ painted (mark_of heading at size (outline_of T p i)) (codes "fill") colour ∷ []
 
 -- The shapes are a mark round the spot of a point; or none, where there is no point.
-abbrev pub IsMarkAt : Table → List ℕ → List Spot → ℕ → Option ℕ → List Shape → Type 0
-IsMarkAt T p spots i (Some q) shapes = IsMark T p i (spot_at spots q) shapes
-IsMarkAt T p spots i None shapes = shapes ≡ []
+abbrev pub IsMarkAt : Table → List ℕ → List ℕ → List Spot → ℕ → Option ℕ → List Shape → Type 0
+IsMarkAt T p knot spots i (Some q) shapes = IsMark T p knot i (spot_at spots q) shapes
+IsMarkAt T p knot spots i None shapes = shapes ≡ []
 
 -- The shapes are the arrow of train i at its point; or none, if it has left the layout.
-abbrev pub IsArrow : Table → List ℕ → List Spot → ℕ → List Shape → Type 0
-IsArrow T p spots i shapes = IsMarkAt T p spots i (point T i (place p i)) shapes
+abbrev pub IsArrow : Table → List ℕ → List ℕ → List Spot → ℕ → List Shape → Type 0
+IsArrow T p knot spots i shapes = IsMarkAt T p knot spots i (point T i (place p i)) shapes

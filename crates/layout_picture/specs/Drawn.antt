@@ -1,28 +1,21 @@
 -- What a picture of a layout shows.
-use Rattle.std.specs.Prelude.{◌≡◌, ℕ, zero, suc, ◌+◌, Bool, Decides, List, [], ◌∷◌, ◌++◌, length, map, codes, decimal, nat_eq, Option, Some, None, if◌then◌else◌}
-use Rattle.std.specs.Cmp.Lexicographic.{pointwise}
+use Rattle.std.specs.Prelude.{◌≡◌, ℕ, zero, suc, ◌+◌, ◌<◌, Bool, Decides, List, [], ◌∷◌, ◌++◌, length, map, codes, decimal, Option, Some, None, if◌then◌else◌}
+use Rattle.std.specs.List.{AllZip}
 use Rattle.svg_text.specs.Tree.{Shape, Group}
 use Rattle.svg_text.specs.declared.shapes.Spot.{Spot}
-use Rattle.rail_model.specs.Layout.{Layout, Link}
+use Rattle.rail_model.specs.Layout.{Layout, Link, point_names}
 use Rattle.rail_model.specs.Table.{Table, trains, point, place}
 use Rattle.rail_model.specs.Checks.{below}
 use Rattle.layout_picture.specs.declared.tracks.Way.{Way}
+use Rattle.layout_frame.specs.Spots.{words_of}
 use Rattle.layout_frame.specs.declared.frame.View.{View}
 use Rattle.layout_picture.specs.declared.layers.Layer.{Layer}
 use Rattle.layout_picture.specs.declared.layers.Layer.TheVariants.{Ground, Sections, Links, Circle, Points, Numbers, Arrows, Names, Trains, Legend, Heading}
 use Rattle.layout_picture.specs.Marks.{dot_at, stroke_of, ends_of, link_ends}
-use Rattle.layout_picture.specs.Red.{IsInCircle}
+use Rattle.state_sentences.specs.Knot.{IsKnotOrNone}
+use Rattle.layout_picture.specs.Red.{IsRed}
 use Rattle.layout_picture.specs.Arrows.{IsArrow}
 use Rattle.layout_picture.specs.Areas.{inside, way_of, first_attribute}
-
--- a group of this class with this title and these shapes
-abbrev pub group_with : List ℕ → List ℕ → List Shape → Group
-group_with class title shapes = record { class = class; attributes = []; title = title; shapes = shapes }
-
--- the shapes of all groups of a class
-abbrev pub shapes_of : List ℕ → List Group → List Shape
-shapes_of class [] = []
-shapes_of class (g ∷ later) = if pointwise nat_eq class g.class then g.shapes ++ shapes_of class later else shapes_of class later
 
 -- The shapes are lines, one for each link, between the spots of its points.
 pub record AreLinkLines (spots : List Spot) (links : List Link) (shapes : List Shape) : Type 0 where
@@ -51,10 +44,10 @@ step_between None next = []
 abbrev pub next_step : Table → List ℕ → ℕ → List Link
 next_step T p i = step_between (point T i (place p i)) (point T i (place p i + 1))
 
--- The shapes are a line from train i to its next point, if the train is in a circle; else there are none.
-pub record IsWait (T : Table) (p : List ℕ) (spots : List Spot) (i : ℕ) (shapes : List Shape) : Type 0 where
+-- The shapes are a line from train i to its next point, if the train is red; else there are none.
+pub record IsWait (T : Table) (p knot : List ℕ) (spots : List Spot) (i : ℕ) (shapes : List Shape) : Type 0 where
   pub red : Bool
-  pub is_red : Decides red (IsInCircle T p i)
+  pub is_red : Decides red (IsRed T p knot i)
   pub line : AreLinkLines spots (if red then next_step T p i else []) shapes
 
 -- for each point of the layout, whether it is in section s
@@ -71,9 +64,14 @@ ground_of width height = record {
 }
 
 -- The shapes are areas, one for each of these sections, over the points that are in it.
-abbrev pub AreAreas : View → List ℕ → List Shape → Type 0
-AreAreas v sections shapes =
-    map first_attribute shapes ≡ map (way_of v.layout.now v.frame.now.spots.items) (map (marks v) sections)
+abbrev pub AreAreas : Layout → Table → List Spot → List ℕ → List Shape → Type 0
+AreAreas L T spots sections shapes =
+    map first_attribute shapes ≡ map (way_of L spots) (map (inside T (length L.points)) sections)
+
+-- all layers, from the back to the front
+abbrev pub layers : List Layer
+layers =
+    Ground ∷ Sections ∷ Links ∷ Circle ∷ Points ∷ Numbers ∷ Arrows ∷ Names ∷ Trains ∷ Legend ∷ Heading ∷ []
 
 -- the class of the group of a layer
 abbrev pub class_name : Layer → List ℕ
@@ -89,53 +87,56 @@ class_name Trains = codes "trains"
 class_name Legend = codes "legend"
 class_name Heading = codes "heading"
 
--- The shapes are those of a layer: a ground as large as the picture, an area for each section, a line for each link, a
--- broad line from each train of a circle, a dot for each spot, an arrow for each train. Of words nothing is said.
-abbrev pub IsLayer : View → Layer → List Shape → Type 0
-IsLayer v Ground shapes = shapes ≡ ground_of v.frame.now.grid.width v.frame.now.height ∷ []
-IsLayer v Sections shapes = AreAreas v (below (length v.scene.now.table.now.sections)) shapes
-IsLayer v Links shapes = AreLinkLines v.frame.now.spots.items v.layout.now.links shapes
-IsLayer v Circle shapes =
-    AreOfTrains (IsWait v.scene.now.table.now v.scene.now.state.now v.frame.now.spots.items)
-    (trains v.scene.now.table.now) shapes
-IsLayer v Points shapes = shapes ≡ map dot_at v.frame.now.spots.items
-IsLayer v Numbers shapes = Unit {0}
-IsLayer v Arrows shapes =
-    AreOfTrains (IsArrow v.scene.now.table.now v.scene.now.state.now v.frame.now.spots.items)
-    (trains v.scene.now.table.now) shapes
-IsLayer v Names shapes = Unit {0}
-IsLayer v Trains shapes = Unit {0}
-IsLayer v Legend shapes = Unit {0}
-IsLayer v Heading shapes = Unit {0}
+-- What is drawn: a layout, and a table with trains at their places, some of them in a knot; with spots for the points, in this size.
+pub record Subject : Type 0 where
+  pub layout : Layout
+  pub table : Table
+  pub places : List ℕ
+  pub knot : List ℕ
+  pub spots : List Spot
+  pub width : ℕ
+  pub height : ℕ
 
--- A layer is added to others: a group of its class, with its shapes.
-pub record AddsLayer (v : View) (layer : Layer) (before after : List Group) : Type 0 where
-  pub title : List ℕ
-  pub shapes : List Shape
-  pub added : after ≡ before ++ group_with (class_name layer) title shapes ∷ []
-  pub is_layer : IsLayer v layer shapes
+abbrev pub subject_of : View → Subject
+subject_of v = record {
+  layout = v.layout.now;
+  table = v.scene.now.table.now;
+  places = v.scene.now.state.now;
+  knot = v.knot.now;
+  spots = v.frame.now.spots.items;
+  width = v.frame.now.grid.width;
+  height = v.frame.now.height;
+}
 
--- The groups begin with that of a layer, and the rest follow.
-pub record BeginsWith (v : View) (layer : Layer) (groups rest : List Group) : Type 0 where
-  pub title : List ℕ
-  pub shapes : List Shape
-  pub begins : groups ≡ group_with (class_name layer) title shapes ∷ rest
-  pub is_layer : IsLayer v layer shapes
+-- Ground: as large as the picture. Sections: an area for each. Links: a line for each. Circle: a broad line from each red train.
+-- Points: a dot for each spot. Arrows: one for each train. Names: the name of each point, in order. Of other words nothing is said.
+abbrev pub Shows : Subject → Layer → List Shape → Type 0
+Shows S Ground shapes = shapes ≡ ground_of S.width S.height ∷ []
+Shows S Sections shapes = AreAreas S.layout S.table S.spots (below (length S.table.sections)) shapes
+Shows S Links shapes = AreLinkLines S.spots S.layout.links shapes
+Shows S Circle shapes = AreOfTrains (IsWait S.table S.places S.knot S.spots) (trains S.table) shapes
+Shows S Points shapes = shapes ≡ map dot_at S.spots
+Shows S Numbers shapes = Unit {0}
+Shows S Arrows shapes = AreOfTrains (IsArrow S.table S.places S.knot S.spots) (trains S.table) shapes
+Shows S Names shapes = words_of shapes ≡ point_names S.layout
+Shows S Trains shapes = Unit {0}
+Shows S Legend shapes = Unit {0}
+Shows S Heading shapes = Unit {0}
 
--- The groups are those of these layers, in order.
-abbrev pub AreLayers : View → List Layer → List Group → Type 0
-AreLayers v [] groups = groups ≡ []
-AreLayers v (layer ∷ later) groups = (rest : List Group) × BeginsWith v layer groups rest × AreLayers v later rest
+-- The group is that of the layer: it has its class and no other attribute, so that nothing hides or moves it, and shows what it should.
+pub record IsLayer (S : Subject) (layer : Layer) (g : Group) : Type 0 where
+  pub class : g.class ≡ class_name layer
+  pub plain : g.attributes ≡ []
+  pub shows : Shows S layer g.shapes
 
--- The groups have a ground of this size, a dot for each point, a line for each link, an area over the points of each
--- section, an arrow at its point for each train that is in the layout, and a broad line from each train of a circle.
+-- The picture has a size, a spot for each point, a knot exactly if the state has one, and exactly one group for each layer, in order.
 pub record IsDrawn (L : Layout) (T : Table) (p : List ℕ) (width height : ℕ) (groups : List Group) : Type 0 where
   pub spots : List Spot
+  pub knot : List ℕ
+  pub wide : 0 < width
+  pub high : 0 < height
   pub spot_for_each : length spots ≡ length L.points
-  pub ground : shapes_of (codes "background") groups ≡ ground_of width height ∷ []
-  pub dots : shapes_of (codes "points") groups ≡ map dot_at spots
-  pub lines : AreLinkLines spots L.links (shapes_of (codes "links") groups)
-  pub areas : map first_attribute (shapes_of (codes "sections") groups)
-      ≡ map (way_of L spots) (map (inside T (length L.points)) (below (length T.sections)))
-  pub arrows : AreOfTrains (IsArrow T p spots) (trains T) (shapes_of (codes "arrows") groups)
-  pub waits : AreOfTrains (IsWait T p spots) (trains T) (shapes_of (codes "circle") groups)
+  pub is_knot : IsKnotOrNone T p knot
+  pub layered : AllZip
+      (IsLayer (record { layout = L; table = T; places = p; knot = knot; spots = spots; width = width; height = height }))
+      layers groups

@@ -5,11 +5,14 @@ mod answers;
 mod arrows;
 mod circles;
 mod insides;
+mod laws;
 mod layers;
 mod picture;
+mod reds;
 mod sections;
 mod shapes;
 mod tracks;
 mod trains;
 
 pub use answers::{Drawn, layout_picture};
+pub use laws::stuck_states_have_red;

@@ -1,10 +1,13 @@
 // The whole picture.
-ghost use Rattle.std.specs.Prelude.{◌≡◌, ◌++◌, ◌∷◌, [], IfOk, OnOk, codes, decimal, length};
+ghost use Rattle.std.specs.Prelude.{◌≡◌, ◌<◌, ◌++◌, ◌∷◌, [], IfOk, OnOk, codes, decimal, length};
+ghost use Rattle.std.specs.List.{AllZip};
 ghost use Rattle.layout_frame.specs.Spots.{painted};
-ghost use Rattle.layout_picture.specs.Drawn.{AddsLayer, AreLayers, IsDrawn, IsLayer, ground_of};
+ghost use Rattle.state_sentences.specs.Knot.{IsKnotOrNone};
+ghost use Rattle.layout_picture.specs.Drawn.{IsDrawn, IsLayer, Shows, ground_of, layers, subject_of};
 
-use crate::circles::looks_of;
+use crate::circles::circles_of;
 use crate::layers::{LAYERS, Layer, class_of, title_of};
+use crate::reds::{knot_of, looks_of};
 use crate::sections::{inside_of, push_areas};
 use crate::tracks::{push_dots, push_links};
 use crate::trains::{push_arrows, push_waits};
@@ -43,7 +46,7 @@ fn push_ground(shapes: &mut Vec<Shape>, view: &View) -> Result<(), AllocError>
 // Draws a layer.
 fn draw(shapes: &mut Vec<Shape>, view: &View, layer: Layer) -> Result<(), AllocError>
     requires { shapes.old.items ≡ [] }
-    ensures { OnOk result (IsLayer view.now layer shapes.new.items) }
+    ensures { OnOk result (Shows (subject_of view.now) layer shapes.new.items) }
 {
     match layer {
         Layer::Ground => push_ground(shapes, view),
@@ -60,35 +63,36 @@ fn draw(shapes: &mut Vec<Shape>, view: &View, layer: Layer) -> Result<(), AllocE
     }
 }
 
-// Adds a layer over the others.
-fn push_layer(groups: &mut Vec<Group>, view: &View, layer: Layer) -> Result<(), AllocError>
-    ensures { OnOk result (AddsLayer view.now layer groups.old.items groups.new.items) }
+// The group of a layer.
+fn group_of(view: &View, layer: Layer) -> Result<Group, AllocError>
+    ensures { IfOk result (IsLayer (subject_of view.now) layer) }
 {
     let mut shapes = Vec::new(view.alloc);
     draw(&mut shapes, view, layer)?;
-    let group = Group::with(view.alloc, class_of(layer), title_of(layer), shapes)?;
-    Ok(groups.push(group)?)
+    Group::with(view.alloc, class_of(layer), title_of(layer), shapes)
 }
 
-// Adds layers, each over those before it.
-fn push_layers(groups: &mut Vec<Group>, view: &View, layers: &[Layer]) -> Result<(), AllocError>
-    requires { groups.old.items ≡ [] }
-    ensures { OnOk result (AreLayers view.now layers.now groups.new.items) }
+// The groups of all layers, from the back to the front.
+fn groups_of(view: &View) -> Result<Vec<Group>, AllocError>
+    ensures { IfOk result (λ groups. AllZip (IsLayer (subject_of view.now)) layers groups.items) }
 {
-    for layer in layers {
-        push_layer(groups, view, *layer)?;
+    let mut groups = Vec::new(view.alloc);
+    for layer in &LAYERS {
+        groups.push(group_of(view, *layer)?)?;
     }
-    Ok(())
+    Ok(groups)
 }
 
 // A picture in a frame.
 fn drawn(view: &View) -> Result<Picture, AllocError>
-    requires { length view.now.frame.now.spots.items ≡ length view.now.layout.now.points }
+    requires wide { 0 < view.now.frame.now.grid.width }
+    requires high { 0 < view.now.frame.now.height }
+    requires each { length view.now.frame.now.spots.items ≡ length view.now.layout.now.points }
+    requires knot { IsKnotOrNone view.now.scene.now.table.now view.now.scene.now.state.now view.now.knot.now }
     ensures { IfOk result (λ picture. IsDrawn view.now.layout.now view.now.scene.now.table.now view.now.scene.now.state.now
         picture.width picture.height picture.groups) }
 {
-    let mut groups = Vec::new(view.alloc);
-    push_layers(&mut groups, view, &LAYERS)?;
+    let groups = groups_of(view)?;
     let width = view.frame.grid.width;
     let height = view.frame.height;
     Picture::new(view.alloc, width, height, view.title, STYLE, groups)
@@ -103,13 +107,15 @@ pub(crate) fn drawing(
 ) -> Result<Picture, AllocError>
     ensures { IfOk result (λ picture. IsDrawn layout.now scene.now.table.now scene.now.state.now picture.width picture.height picture.groups) }
 {
-    let looks = looks_of(scene);
+    let knot = knot_of(alloc, scene, circles_of(alloc, scene)?)?;
+    let looks = looks_of(scene, &knot);
     let inside = inside_of(layout, scene.table);
     let frame = frame_of(alloc, layout, scene, &looks)?;
     let view = View {
         alloc,
         layout,
         scene,
+        knot: &knot,
         looks: &looks,
         inside: &inside,
         frame: &frame,

@@ -121,7 +121,8 @@ fn area(view: &View, section: u32) -> Result<Shape, AllocError>
 
 /// Adds an area for each section.
 pub(crate) fn push_areas(shapes: &mut Vec<Shape>, view: &View) -> Result<(), AllocError>
-    ensures { OnOk result (AddsShapes (AreAreas view.now (below (length view.now.scene.now.table.now.sections)))
+    ensures { OnOk result (AddsShapes (AreAreas view.now.layout.now view.now.scene.now.table.now view.now.frame.now.spots.items
+        (below (length view.now.scene.now.table.now.sections)))
         shapes.old.items shapes.new.items) }
 {
     for section in 0..sections_of(view.scene.table) {

@@ -6,7 +6,7 @@ ghost use Rattle.layout_picture.specs.Arrows.{IsMark, IsArrow, outline_of as tra
 ghost use Rattle.layout_picture.specs.Drawn.{AddsShapes, AreLinkLines, AreOfTrains, IsWait, step_between};
 
 use crate::arrows::{ARROW, Heading, Outline, SQUARE};
-use crate::circles::{colour_of, is_in_circle};
+use crate::reds::{colour_of, is_red};
 use crate::tracks::push_line;
 use layout_frame::{View, direction_of, push_painted};
 use rail_model::{last_of, point_of};
@@ -49,7 +49,7 @@ fn outline_of(view: &View, train: u32) -> Outline
 fn push_mark(shapes: &mut Vec<Shape>, view: &View, train: u32, point: u32) -> Result<(), AllocError>
     requires { train < trains view.now.scene.now.table.now }
     ensures { OnOk result (AddsShapes
-        (IsMark view.now.scene.now.table.now view.now.scene.now.state.now train
+        (IsMark view.now.scene.now.table.now view.now.scene.now.state.now view.now.knot.now train
         (spot_of view.now.frame.now.spots.items point))
         shapes.old.items shapes.new.items) }
 {
@@ -62,7 +62,7 @@ fn push_mark(shapes: &mut Vec<Shape>, view: &View, train: u32, point: u32) -> Re
         view.alloc,
         mark,
         "fill",
-        colour_of(view.scene, train),
+        colour_of(view.scene, view.knot, train),
     )
 }
 
@@ -70,7 +70,7 @@ fn push_mark(shapes: &mut Vec<Shape>, view: &View, train: u32, point: u32) -> Re
 fn push_arrow(shapes: &mut Vec<Shape>, view: &View, train: u32) -> Result<(), AllocError>
     requires { train < trains view.now.scene.now.table.now }
     ensures { OnOk result (AddsShapes
-        (IsArrow view.now.scene.now.table.now view.now.scene.now.state.now view.now.frame.now.spots.items train)
+        (IsArrow view.now.scene.now.table.now view.now.scene.now.state.now view.now.knot.now view.now.frame.now.spots.items train)
         shapes.old.items shapes.new.items) }
 {
     match point_of(view.scene.table, train, view.scene.place(train)) {
@@ -82,7 +82,7 @@ fn push_arrow(shapes: &mut Vec<Shape>, view: &View, train: u32) -> Result<(), Al
 /// Adds an arrow for each train that is in the layout.
 pub(crate) fn push_arrows(shapes: &mut Vec<Shape>, view: &View) -> Result<(), AllocError>
     ensures { OnOk result (AddsShapes (AreOfTrains
-        (IsArrow view.now.scene.now.table.now view.now.scene.now.state.now view.now.frame.now.spots.items)
+        (IsArrow view.now.scene.now.table.now view.now.scene.now.state.now view.now.knot.now view.now.frame.now.spots.items)
         (trains view.now.scene.now.table.now)) shapes.old.items shapes.new.items) }
 {
     for train in 0..view.scene.trains() {
@@ -110,24 +110,24 @@ fn push_step(
     }
 }
 
-// Adds a line from a train to its next point, if the train is in a circle.
+// Adds a line from a train to its next point, if the train is red.
 fn push_wait(shapes: &mut Vec<Shape>, view: &View, train: u32) -> Result<(), AllocError>
     requires { train < trains view.now.scene.now.table.now }
     ensures { OnOk result (AddsShapes
-        (IsWait view.now.scene.now.table.now view.now.scene.now.state.now view.now.frame.now.spots.items train)
+        (IsWait view.now.scene.now.table.now view.now.scene.now.state.now view.now.knot.now view.now.frame.now.spots.items train)
         shapes.old.items shapes.new.items) }
 {
-    if !is_in_circle(view.scene, train) {
+    if !is_red(view.scene, view.knot, train) {
         return Ok(());
     }
     let here = point_of(view.scene.table, train, view.scene.place(train));
     push_step(shapes, view, here, next_point(view, train))
 }
 
-/// Adds a line from each train of a circle to the one that it waits for.
+/// Adds a line from each red train to its next point.
 pub(crate) fn push_waits(shapes: &mut Vec<Shape>, view: &View) -> Result<(), AllocError>
     ensures { OnOk result (AddsShapes (AreOfTrains
-        (IsWait view.now.scene.now.table.now view.now.scene.now.state.now view.now.frame.now.spots.items)
+        (IsWait view.now.scene.now.table.now view.now.scene.now.state.now view.now.knot.now view.now.frame.now.spots.items)
         (trains view.now.scene.now.table.now)) shapes.old.items shapes.new.items) }
 {
     for train in 0..view.scene.trains() {

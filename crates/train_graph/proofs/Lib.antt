@@ -1,4 +1,6 @@
 pub mod Known
+pub mod LevelRows
 pub mod Pushed
 pub mod Rows
+pub mod Threefold
 pub mod Ways

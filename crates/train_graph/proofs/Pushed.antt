@@ -1,7 +1,9 @@
 -- Lists that grow in each pass of a loop.
-use Rattle.std.proofs.Common.{◌≡◌, ◌∙◌, ℕ, ◌+◌, ◌<◌, List, [], ◌∷◌, ◌++◌, length, flat_map, take, get_or, sym, ap, subst}
+use Rattle.std.proofs.Common.{◌≡◌, ◌∙◌, ℕ, ◌+◌, ◌<◌, List, [], ◌∷◌, ◌++◌, length, flat_map, take, get_or, sym, ap, subst, arith}
 use Rattle.std.specs.List.{AllZip}
-use Rattle.std.proofs.lemmas.List.{flat_map_more, take_more}
+use Rattle.std.proofs.lemmas.List.{flat_map_more, map-id, take_more}
+use Rattle.std.proofs.lemmas.List.FromFn.{map-range_with_len_more}
+use Rattle.rail_model.specs.Checks.{below}
 
 -- a list that has grown by the piece of the next item
 pub piece_more : {X Y : Type 0} (f : X → List Y) (start : List Y) (xs : List X) (k : ℕ) (x : X) (old new : List Y) → k < length xs → x ≡ get_or xs k x
@@ -12,6 +14,18 @@ piece_more f start xs k x old new lt at was pushed =
     ∙ flat_map_more f start (take k xs) x
     ∙ ap (λ last. start ++ flat_map f (take k xs ++ last ∷ [])) at
     ∙ ap (λ items. start ++ flat_map f items) (sym (take_more xs k x lt))
+
+below_next : (n : ℕ) → below (n + 1) ≡ below n ++ n ∷ []
+below_next n = sym (map-id (below (n + 1))) ∙ map-range_with_len_more (λ k. k) 0 n n (omega arith) ∙ ap (λ ks. ks ++ n ∷ []) (map-id (below n))
+
+-- a list that has grown by the piece of the next number
+pub number_more : {Y : Type 0} (f : ℕ → List Y) (start : List Y) (n : ℕ) (old new : List Y) → old ≡ start ++ flat_map f (below n) → new ≡ old ++ f n
+    → new ≡ start ++ flat_map f (below (n + 1))
+number_more f start n old new was pushed =
+    pushed
+    ∙ ap (λ before. before ++ f n) was
+    ∙ flat_map_more f start (below n) n
+    ∙ ap (λ numbers. start ++ flat_map f numbers) (sym (below_next n))
 
 -- one item more on both sides
 both_more : {A B : Type 0} (R : A → B → Type 0) (xs : List A) (ys : List B) (x : A) (y : B) → AllZip R xs ys → R x y → AllZip R (xs ++ x ∷ []) (ys ++ y ∷ [])

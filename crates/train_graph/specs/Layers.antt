@@ -1,5 +1,5 @@
 -- The layers of a train graph, each a group of its picture.
-use Rattle.std.specs.Prelude.{◌≡◌, ℕ, ◌+◌, ◌-◌, List, [], ◌∷◌, codes, flat_map, map}
+use Rattle.std.specs.Prelude.{◌≡◌, ℕ, true, false, ◌+◌, ◌-◌, List, [], ◌∷◌, codes, flat_map, map}
 use Rattle.rail_model.specs.Layout.{Layout}
 use Rattle.run_timetable.specs.Timetable.{name_of}
 use Rattle.run_timetable.specs.declared.run.Run.{Run}
@@ -8,7 +8,7 @@ use Rattle.svg_text.specs.Shapes.{label_of, line_of}
 use Rattle.train_graph.specs.declared.layers.Layer.{Layer}
 use Rattle.train_graph.specs.declared.layers.Layer.TheVariants.{Paper, Ticks, Points, Tables, Stays, Waits, Moves, Starts, Ends, Legend}
 use Rattle.train_graph.specs.declared.scale.Axes.{Axes}
-use Rattle.train_graph.specs.Marks.{mark_of}
+use Rattle.train_graph.specs.Marks.{all_levels, mark_of}
 use Rattle.train_graph.specs.Places.{y_at}
 
 -- all layers, from the back to the front
@@ -35,15 +35,16 @@ row_shapes axes L before p =
     ∷ label_of (record { x = axes.left - before; y = y_at axes p + 4 }) (name_of L p)
     ∷ []
 
--- Points: exactly a row for each point that has one. Moves: exactly a mark for each step. Of the others nothing is said.
+-- Points: exactly a row for each point that has one. Moves: exactly a mark for each step. Stays: exactly a level line for each train where it
+-- stays at the end; waits: for each train where it waits for its next step. Of the others nothing is said.
 abbrev pub Shows : Axes → Layout → Run → Layer → List Shape → Type 0
 Shows axes L run Points shapes = (before : ℕ) × (shapes ≡ flat_map (row_shapes axes L before) axes.rows.items)
 Shows axes L run Moves shapes = shapes ≡ map (mark_of axes) run.steps.items
 Shows axes L run Paper shapes = Unit {0}
 Shows axes L run Ticks shapes = Unit {0}
 Shows axes L run Tables shapes = Unit {0}
-Shows axes L run Stays shapes = Unit {0}
-Shows axes L run Waits shapes = Unit {0}
+Shows axes L run Stays shapes = shapes ≡ all_levels axes run true
+Shows axes L run Waits shapes = shapes ≡ all_levels axes run false
 Shows axes L run Starts shapes = Unit {0}
 Shows axes L run Ends shapes = Unit {0}
 Shows axes L run Legend shapes = Unit {0}

@@ -1,9 +1,14 @@
 -- The marks of a train graph.
-use Rattle.std.specs.Prelude.{ℕ, List, [], ◌∷◌, ◌++◌, codes, decimal, max, min, ◌^◌}
+use Rattle.std.specs.Prelude.{ℕ, Bool, nat_lt, is_none, List, [], ◌∷◌, ◌++◌, codes, decimal, flat_map, max, min, ◌^◌, Option, Some, None, if◌then◌else◌, unwrap_or}
+use Rattle.std.specs.Bool.{beq}
+use Rattle.rail_model.specs.Checks.{below}
+use Rattle.run_timetable.specs.declared.rows.Row.{Row}
+use Rattle.run_timetable.specs.declared.run.Run.{Run}
 use Rattle.run_timetable.specs.declared.run.Step.{Step}
-use Rattle.run_timetable.specs.Timetable.{arrival, end_of}
+use Rattle.run_timetable.specs.Timetable.{arrival, end_of, rows_in, trains_of}
 use Rattle.svg_text.specs.Tree.{Attribute, Shape}
 use Rattle.svg_text.specs.Shapes.{line_of}
+use Rattle.svg_text.specs.declared.shapes.Spot.{Spot}
 use Rattle.train_graph.specs.declared.scale.Axes.{Axes}
 use Rattle.train_graph.specs.Places.{x_at, y_at, target_y}
 
@@ -26,3 +31,29 @@ mark_of axes s =
 -- the ticks that a picture shows: up to the end of the last step, and not above 2 ^ 40
 abbrev pub span_of : List Step → ℕ
 span_of steps = min (max (end_of steps) 1) (2 ^ 40)
+
+-- the spot of a tick at a point
+abbrev pub spot_of : Axes → ℕ → ℕ → Spot
+spot_of axes tick p = record { x = x_at axes tick; y = y_at axes p }
+
+-- a level line of train i between two ticks at a point, if it stands there at all
+abbrev pub level_between : Axes → ℕ → ℕ → ℕ → ℕ → List Shape
+level_between axes i from until p =
+    if nat_lt from until then of_train i (line_of (spot_of axes from p) (spot_of axes until p)) ∷ [] else []
+
+-- the level line at the point of a row: from the arrival, or tick 0, to when the train leaves, or the last tick
+abbrev pub level_at : Axes → Row → Option ℕ → List Shape
+level_at axes row (Some p) = level_between axes row.train (unwrap_or row.arrives 0) (unwrap_or row.leaves axes.span) p
+level_at axes row None = []
+
+-- the level line of a row where the train stays, or of one that it leaves, as is asked for
+abbrev pub level_of : Axes → Bool → Row → List Shape
+level_of axes stay row = if beq (is_none row.leaves) stay then level_at axes row row.point else []
+
+-- the level lines of train i in its timetable
+abbrev pub levels_of : Axes → Run → Bool → ℕ → List Shape
+levels_of axes run stay i = flat_map (level_of axes stay) (rows_in run i)
+
+-- the level lines of all trains, one train after another
+abbrev pub all_levels : Axes → Run → Bool → List Shape
+all_levels axes run stay = flat_map (levels_of axes run stay) (below (trains_of run.starts.items))

@@ -43,7 +43,9 @@ pub fn train_graph(
 
 // The picture of a sheet, with a title and with the colours of its trains.
 fn drawn(alloc: Global, sheet: &Sheet) -> Result<Picture, AllocError>
-    ensures { IfOk result (λ picture. AllZip (IsLayer sheet.now.axes.now sheet.now.layout.now sheet.now.run.now) layers picture.groups) }
+    ensures groups { IfOk result (λ picture. AllZip (IsLayer sheet.now.axes.now sheet.now.layout.now sheet.now.run.now) layers picture.groups) }
+    ensures broad { IfOk result (λ picture. 0 < picture.width) }
+    ensures high { IfOk result (λ picture. 0 < picture.height) }
 {
     let trains = sheet.run.trains();
     let end = sheet.run.end();
@@ -54,7 +56,9 @@ fn drawn(alloc: Global, sheet: &Sheet) -> Result<Picture, AllocError>
 
 // The picture of a sheet, with this title and this style.
 fn framed(alloc: Global, sheet: &Sheet, title: &str, style: &str) -> Result<Picture, AllocError>
-    ensures { IfOk result (λ picture. AllZip (IsLayer sheet.now.axes.now sheet.now.layout.now sheet.now.run.now) layers picture.groups) }
+    ensures groups { IfOk result (λ picture. AllZip (IsLayer sheet.now.axes.now sheet.now.layout.now sheet.now.run.now) layers picture.groups) }
+    ensures broad { IfOk result (λ picture. 0 < picture.width) }
+    ensures high { IfOk result (λ picture. 0 < picture.height) }
 {
     let groups = groups_of(alloc, sheet)?;
     let width = u64::from(WIDTH);
@@ -62,7 +66,9 @@ fn framed(alloc: Global, sheet: &Sheet, title: &str, style: &str) -> Result<Pict
 }
 
 // How high a picture is.
-fn height_of(axes: &Axes) -> u64 {
+fn height_of(axes: &Axes) -> u64
+    ensures { 0 < result }
+{
     axes.floor().saturating_add(36)
 }
 

@@ -1,4 +1,7 @@
 // Trains that stand, and their names.
+ghost use Rattle.std.specs.Prelude.{◌≡◌, ◌++◌, ◌<◌, OnOk, flat_map};
+ghost use Rattle.train_graph.specs.Marks.{all_levels, level_at, level_of, levels_of};
+
 use crate::Axes;
 use crate::labels::{Labels, text_width};
 use crate::marks::set_train;
@@ -15,7 +18,9 @@ pub(crate) fn push_levels(
     axes: &Axes,
     run: &Run,
     stay: bool,
-) -> Result<(), AllocError> {
+) -> Result<(), AllocError>
+    ensures { OnOk result (shapes.new.items ≡ shapes.old.items ++ all_levels axes.now run.now stay) }
+{
     for train in 0..run.trains() {
         push_train_levels(alloc, shapes, axes, run, train, stay)?;
     }
@@ -30,7 +35,9 @@ fn push_train_levels(
     run: &Run,
     train: u32,
     stay: bool,
-) -> Result<(), AllocError> {
+) -> Result<(), AllocError>
+    ensures { OnOk result (shapes.new.items ≡ shapes.old.items ++ levels_of axes.now run.now stay train) }
+{
     let rows = rows_of(alloc, &run.steps, train, run.start(train))?;
     push_rows(alloc, shapes, axes, &rows, stay)
 }
@@ -42,13 +49,30 @@ fn push_rows(
     axes: &Axes,
     rows: &[Row],
     stay: bool,
-) -> Result<(), AllocError> {
+) -> Result<(), AllocError>
+    ensures { OnOk result (shapes.new.items ≡ shapes.old.items ++ flat_map (level_of axes.now stay) rows.now) }
+{
     for row in rows {
-        if row.leaves.is_none() == stay {
-            push_level(alloc, shapes, axes, row)?;
-        }
+        push_row(alloc, shapes, axes, row, stay)?;
     }
     Ok(())
+}
+
+// Adds the level line of a row that a train leaves, or of one where it stays.
+fn push_row(
+    alloc: Global,
+    shapes: &mut Vec<Shape>,
+    axes: &Axes,
+    row: &Row,
+    stay: bool,
+) -> Result<(), AllocError>
+    ensures { OnOk result (shapes.new.items ≡ shapes.old.items ++ level_of axes.now stay row.now) }
+{
+    if row.leaves.is_none() == stay {
+        push_level(alloc, shapes, axes, row)
+    } else {
+        Ok(())
+    }
 }
 
 // Adds the line of a train at a point, if it stands there.
@@ -57,17 +81,20 @@ fn push_level(
     shapes: &mut Vec<Shape>,
     axes: &Axes,
     row: &Row,
-) -> Result<(), AllocError> {
+) -> Result<(), AllocError>
+    ensures { OnOk result (shapes.new.items ≡ shapes.old.items ++ level_at axes.now row.now row.now.point) }
+{
+    let Some(point) = row.point else {
+        return Ok(());
+    };
     let from = row.arrives.unwrap_or(0);
     let until = row.leaves.unwrap_or(axes.span);
-    match row.point {
-        Some(point) if from < until => {
-            let from = axes.spot(from, point);
-            let to = axes.spot(until, point);
-            push_train_line(alloc, shapes, row.train, from, to)
-        }
-        _ => Ok(()),
+    if from < until {
+        let start = axes.spot(from, point);
+        let end = axes.spot(until, point);
+        return push_train_line(alloc, shapes, row.train, start, end);
     }
+    Ok(())
 }
 
 /// Adds the names of the trains where they begin: left of the picture, each in its own row.

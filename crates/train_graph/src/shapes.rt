@@ -1,6 +1,7 @@
 // Shapes that are added to others.
 ghost use Rattle.std.specs.Prelude.{◌≡◌, ◌++◌, ◌∷◌, [], OnOk};
 ghost use Rattle.svg_text.specs.Shapes.{label_of, line_of};
+ghost use Rattle.train_graph.specs.Marks.{of_train};
 
 use crate::marks::train_line;
 use std::alloc::{AllocError, Global};
@@ -26,7 +27,9 @@ pub(crate) fn push_train_line(
     train: u32,
     from: Spot,
     to: Spot,
-) -> Result<(), AllocError> {
+) -> Result<(), AllocError>
+    ensures { OnOk result (shapes.new.items ≡ shapes.old.items ++ of_train train (line_of from to) ∷ []) }
+{
     shapes.push(train_line(alloc, train, from, to)?)?;
     Ok(())
 }

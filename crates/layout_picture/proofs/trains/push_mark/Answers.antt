@@ -14,7 +14,7 @@ returns c =
     let mark = c.in_ok-mark.mark in
     let arrow = painted mark (codes "fill") c.colour_of.result.now in
     on_ok_weaker c.push_painted.result
-    (λ pushed. adds_one (IsMark scene.table.now scene.state.now c.args.train (spot_at view.frame.now.spots.items c.args.point)) _ _ arrow pushed
-    (is_mark scene.table.now scene.state.now c.args.train c.heading_of-heading.result c.spot-at.result _ _ c.outline_of.result c.colour_of.result.now mark arrow
+    (λ pushed. adds_one (IsMark scene.table.now scene.state.now view.knot.now c.args.train (spot_at view.frame.now.spots.items c.args.point)) _ _ arrow pushed
+    (is_mark scene.table.now scene.state.now view.knot.now c.args.train c.heading_of-heading.result c.spot-at.result _ _ c.outline_of.result c.colour_of.result.now mark arrow
     c.spot-at.ensures c.outline_of.ensures c.in_ok-mark.ensures refl c.colour_of.ensures))
     c.push_painted.ensures

@@ -3,5 +3,5 @@ use Rattle.layout_picture.proofs.trains.push_waits.Given as goal
 
 abbrev pub invariant-loop-train : goal.invariant-loop-train
 invariant-loop-train l =
-    AddsShapes (AreOfTrains (IsWait l.view.scene.now.table.now l.view.scene.now.state.now l.view.frame.now.spots.items) l.train)
+    AddsShapes (AreOfTrains (IsWait l.view.scene.now.table.now l.view.scene.now.state.now l.view.knot.now l.view.frame.now.spots.items) l.train)
     l.initial.shapes.items l.shapes.items
