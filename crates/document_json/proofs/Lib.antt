@@ -18,3 +18,4 @@ pub mod MigratedLemmas
 pub mod MoreSections
 pub mod FormedDoc
 pub mod Offered
+pub mod KeptLemmas

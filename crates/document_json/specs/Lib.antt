@@ -8,3 +8,4 @@ pub mod Trees
 pub mod Written
 pub mod Replaced
 pub mod Migrated
+pub mod Kept

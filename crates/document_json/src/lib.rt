@@ -4,6 +4,7 @@
 mod checks;
 mod doc;
 mod frame;
+mod kept;
 mod laws;
 mod members;
 mod reading;
@@ -19,6 +20,7 @@ pub use doc::{
     times_of, version,
 };
 pub use frame::Frame;
+pub use kept::{Kept, document_kept};
 pub use laws::{light_sections_are_taken, read_documents_are_formed};
 pub use reading::{document, document_from};
 pub use refused::DocRefused;

@@ -4,7 +4,7 @@ ghost use Rattle.document_lint.specs.Told.{AreDocument, IsTold, KeepsFormer, Kee
 
 use crate::afters::add_afters;
 use crate::former::add_former;
-use crate::members::{add_members, add_of_document, value_of};
+use crate::members::add_of_document;
 use crate::place::Object;
 use crate::remark::{Remark, Remarks};
 use crate::sections::add_sections;
@@ -12,8 +12,8 @@ use crate::shares::{add_suspects, most_share};
 use crate::subject::subject_of;
 use crate::trains::{add_connections, add_trains};
 use crate::unused::add_layout;
-use document_json::{Doc, DocRefused, document, start_of, tables_of, version};
-use json::Scratch;
+use document_json::{Doc, DocRefused, Kept, document, document_kept, start_of, tables_of, version};
+use json::{Scratch, Value};
 use refusal_lines::push_document;
 use std::alloc::{AllocError, Global};
 
@@ -43,39 +43,44 @@ fn add_refused(remarks: &mut Remarks, document: &str, refused: &DocRefused)
     remarks.add(Object::Document.member(document), written);
 }
 
-// Which members and changes of a document that is refused may be the cause. What was read of it is gone, and all of this
-// is found in one value of its text.
-fn causes_of(alloc: Global, bytes: &[u8], refused: &DocRefused) -> Remarks {
+// Which members and changes of a document that is refused may be the cause. What was made of it is gone, but its value is
+// there.
+fn causes_of(alloc: Global, value: &Value, refused: &DocRefused) -> Remarks {
     let mut causes = Remarks::new(alloc);
-    let mut scratch = Scratch::new(alloc);
-    if let Some(value) = value_of(&mut causes, bytes, &mut scratch) {
-        add_of_document(&mut causes, &value);
-        if let DocRefused::Marks { .. } = refused {
-            add_suspects(&mut causes, &value);
-        }
+    add_of_document(&mut causes, value);
+    if let DocRefused::Marks { .. } = refused {
+        add_suspects(&mut causes, value);
     }
     causes
 }
 
 // Adds that a document is refused, why, and which of its members and changes may be the cause.
-fn add_refusal(remarks: &mut Remarks, bytes: &[u8], refused: &DocRefused)
+fn add_refusal(remarks: &mut Remarks, value: &Option<Value>, refused: &DocRefused)
     ensures { IsTold remarks.new }
 {
     add_refused(remarks, "document", refused);
-    remarks.append(causes_of(remarks.alloc(), bytes, refused));
+    if let Some(value) = value {
+        remarks.append(causes_of(remarks.alloc(), value, refused));
+    }
+}
+
+// Adds what is said of the members of a value, if there is one.
+fn add_ignored(remarks: &mut Remarks, value: &Option<Value>) {
+    if let Some(value) = value {
+        add_of_document(remarks, value);
+    }
 }
 
 // Adds all remarks on a document, which was read or refused so.
-fn add_all(remarks: &mut Remarks, bytes: &[u8], read: &Result<Doc, DocRefused>)
-    ensures { IfErr read.now (λ refused. IsTold remarks.new) }
+fn add_all(remarks: &mut Remarks, read: &Kept)
+    ensures { IfErr read.now.document (λ refused. IsTold remarks.new) }
 {
-    match read {
+    match &read.document {
         Ok(doc) => {
-            // A document that was read doesn't tell which members were ignored: its text is read for them as a value.
-            add_members(remarks, bytes);
+            add_ignored(remarks, &read.value);
             add_taken(remarks, doc);
         }
-        Err(refused) => add_refusal(remarks, bytes, refused),
+        Err(refused) => add_refusal(remarks, &read.value, refused),
     }
 }
 
@@ -101,8 +106,9 @@ fn add_changes(
 fn add_document(remarks: &mut Remarks, bytes: &[u8])
     ensures { IsTold remarks.new ⊎ AreDocument bytes.now }
 {
-    let read = document(remarks.alloc(), bytes);
-    add_all(remarks, bytes, &read);
+    let mut scratch = Scratch::new(remarks.alloc());
+    let read = document_kept(remarks.alloc(), bytes, &mut scratch);
+    add_all(remarks, &read);
 }
 
 // Adds what a document that was read or refused so has lost since a former one.
@@ -121,9 +127,10 @@ fn add_both(remarks: &mut Remarks, bytes: &[u8], former: &[u8])
     ensures former { IsTold remarks.new ⊎ AreDocument former.now }
     ensures kept { IsTold remarks.new ⊎ LosesNoSection bytes.now former.now }
 {
-    let read = document(remarks.alloc(), bytes);
-    add_all(remarks, bytes, &read);
-    add_comparison(remarks, &read, former);
+    let mut scratch = Scratch::new(remarks.alloc());
+    let read = document_kept(remarks.alloc(), bytes, &mut scratch);
+    add_all(remarks, &read);
+    add_comparison(remarks, &read.document, former);
 }
 
 /// What a document says that has no effect or is likely a mistake; and if `ats` refuses it, why.

@@ -4,7 +4,7 @@ ghost use Rattle.document_lint.specs.Told.{SaysOnlyWhere};
 
 use crate::place::Object;
 use crate::remark::Remarks;
-use json::{Error, Scratch, Value};
+use json::Value;
 use rail_model::is_name;
 use std::alloc::{AllocError, Global};
 use strsim::osa_distance;
@@ -224,29 +224,5 @@ pub(crate) fn add_of_document(remarks: &mut Remarks, document: &Value) {
     add_of_object(remarks, Object::Document, document, &DOCUMENT_MEMBERS);
     if let Some(tables) = document.get("tables") {
         add_of_tables(remarks, tables, version_of(document));
-    }
-}
-
-/// The value that the bytes are; none, if they are no JSON.
-pub(crate) fn value_of<'a>(
-    remarks: &mut Remarks,
-    bytes: &'a [u8],
-    scratch: &'a mut Scratch,
-) -> Option<Value<'a>> {
-    match Value::from_slice(remarks.alloc(), bytes, scratch) {
-        Ok(value) => Some(value),
-        Err(Error::OutOfMemory) => {
-            remarks.note_no_memory();
-            None
-        }
-        Err(_) => None,
-    }
-}
-
-/// Adds which members of a document are ignored; nothing, if the bytes are no JSON.
-pub(crate) fn add_members(remarks: &mut Remarks, bytes: &[u8]) {
-    let mut scratch = Scratch::new(remarks.alloc());
-    if let Some(value) = value_of(remarks, bytes, &mut scratch) {
-        add_of_document(remarks, &value);
     }
 }

@@ -22,3 +22,5 @@ pub mod NumberLemmas
 pub mod TokenLemmas
 pub mod FoundLemmas
 pub mod FoundParts
+pub mod KeptLemmas
+mod RowsKept

@@ -2,10 +2,13 @@
 use Rattle.std.proofs.Common.{◌≡◌, ℕ, ◌<◌, ◌≤◌, List, Option, Some, None, false, Result, Ok, Err, inl, inr, subst, arith}
 use Rattle.std.proofs.lemmas.Bool.Decides.{nat_tests, leb_tells}
 use Rattle.std.specs.Prelude.{nat_le, ok_or}
+use Rattle.json.specs.Json.{Json}
 use Rattle.serde_json.specs.Data.{Data}
+use Rattle.serde_json.specs.Read.{of_json}
 use Rattle.rail_model.specs.Turns.{in_turn}
 use Rattle.rail_model.proofs.Firsts.{unless-ok}
 use Rattle.document_shapes.specs.Each.{each_from}
+use Rattle.document_shapes.specs.Kept.{members_in}
 use Rattle.document_shapes.specs.Members.{need, may, since}
 use Rattle.document_shapes.specs.Parts.{node, section, connection}
 use Rattle.document_shapes.specs.Raw.{TableMembers, DocMembers, IsOfVersion, IsRead, table_members, doc_members, members_of, known_version}
@@ -82,4 +85,10 @@ doc-version d m h =
 pub read-version : (bytes : List ℕ) (m : DocMembers) → members_of bytes ≡ Ok m → IsRead m
 read-version bytes m h =
     let given = in_turn-ok (ok_or (reading bytes) refused.NotJson) doc_members m h in
+    doc-version given.value m given.behind
+
+-- and so does a value
+pub value-version : (j : Json) (m : DocMembers) → members_in j ≡ Ok m → IsRead m
+value-version j m h =
+    let given = in_turn-ok (ok_or (of_json j) refused.NotJson) doc_members m h in
     doc-version given.value m given.behind

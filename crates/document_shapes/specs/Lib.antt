@@ -1,5 +1,6 @@
 pub mod Readings
 pub mod Reading
+pub mod Kept
 pub mod Shape
 pub mod Parts
 pub mod Each

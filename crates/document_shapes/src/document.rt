@@ -125,8 +125,8 @@ fn table_objects(value: &Value) -> Result<&[Value], ShapeRefused>
     }
 }
 
-// The members of a document, in their order.
-fn read_members(alloc: Global, value: &Value) -> Result<DocMembers, ShapeRefused>
+/// The members of a document, in their order.
+pub(crate) fn read_members(alloc: Global, value: &Value) -> Result<DocMembers, ShapeRefused>
     ensures { AnswersAs ShapeRefused.Memory seen_document result (doc_members (view value.now)) }
 {
     if !value.is_object() {

@@ -2,9 +2,11 @@
 #![tactic(auto)]
 
 mod document;
+mod from_kept;
 mod from_members;
 mod from_tokens;
 mod from_value;
+mod kept;
 mod laws;
 mod member;
 mod members;
@@ -20,6 +22,7 @@ mod token_text;
 mod writing;
 
 pub use document::{DocMembers, read_document};
+pub use kept::{members_of, read_kept};
 pub use laws::written_members_read_back;
 pub use member::Member;
 pub use refused::ShapeRefused;

@@ -58,3 +58,13 @@ impl<T: Drop> From<AllocFailed<T>> for ShapeRefused {
         ShapeRefused::Memory
     }
 }
+
+impl From<AllocError> for ShapeRefused {
+    ghost use Rattle.document_shapes.specs.declared.refused.ShapeRefused.TheVariants.{Memory};
+
+    ghost from_gives = { λ _ e. e ≡ Memory };
+
+    fn from(_error: AllocError) -> ShapeRefused {
+        ShapeRefused::Memory
+    }
+}

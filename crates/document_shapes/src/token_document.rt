@@ -14,8 +14,8 @@ use crate::{DocMembers, TableMembers};
 use json::{Reader, Scratch};
 use std::alloc::Global;
 
-// How deep a text may nest that `serde_json` reads.
-const MAX_DEPTH: usize = 127;
+/// How deep a text may nest that `serde_json` reads.
+pub(crate) const MAX_DEPTH: usize = 127;
 
 // What is found of a document's members.
 #[derive(Default, Drop)]

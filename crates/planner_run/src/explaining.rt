@@ -4,7 +4,8 @@ ghost use Rattle.planner_run.specs.Answered.{IfText, ExplainsAs, ExplainsPlaces,
 
 use crate::Answer;
 use decimal_number::number_of;
-use document_json::{Doc, DocRefused, document};
+use document_json::{Doc, DocRefused, document_kept};
+use json::Scratch;
 use rail_model::State;
 use refusal_meanings::no_document_text;
 use refusal_sentences::{Explained, explain_line, explain_places, places_of};
@@ -42,10 +43,12 @@ pub(crate) fn state(
     let Some(places) = places_of(alloc, at)? else {
         return wrong(alloc, NO_PLACES);
     };
-    match document(alloc, input) {
-        Ok(doc) => state_in(alloc, &doc, table, places, run),
+    let mut scratch = Scratch::new(alloc);
+    let read = document_kept(alloc, input, &mut scratch);
+    match &read.document {
+        Ok(doc) => state_in(alloc, doc, table, places, run),
         Err(DocRefused::Memory) => Err(AllocError),
-        Err(refused) => Ok(Answer::Wrong(no_document_text(alloc, input, &refused)?)),
+        Err(refused) => Ok(Answer::Wrong(no_document_text(alloc, &read.value, refused)?)),
     }
 }
 

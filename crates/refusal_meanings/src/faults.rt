@@ -2,39 +2,40 @@
 
 use crate::causes::cause_of;
 use crate::meanings::write_meaning;
-use crate::names::{members_of, names_of};
+use crate::names::{members_in, names_of};
 use crate::text::Text;
 use document_json::DocRefused;
 use document_shapes::DocMembers;
+use json::Value;
 use refusal_lines::push_document;
 use std::alloc::{AllocError, Global};
 
-// The members of a document that is refused. One that is refused for its shape has none, and isn't read for them.
+// The members of a document that is refused. One that is refused for its shape has none.
 fn members_of_refused(
     alloc: Global,
-    document: &[u8],
+    value: &Option<Value>,
     refused: &DocRefused,
 ) -> Result<Option<DocMembers>, AllocError> {
-    match refused {
-        DocRefused::Shape(_) => Ok(None),
-        _ => members_of(alloc, document),
+    match (value, refused) {
+        (None, _) | (_, DocRefused::Shape(_)) => Ok(None),
+        (Some(value), _) => members_in(alloc, value),
     }
 }
 
-/// Why `ats` refuses a document: its line, and what that means.
+/// Why `ats` refuses a document: its line, and what that means, with the names that are in the value of its text.
 ///
 /// # Errors
 ///
 /// Out of memory.
 pub fn no_document_text(
     alloc: Global,
-    document: &[u8],
+    value: &Option<Value>,
     refused: &DocRefused,
 ) -> Result<String, AllocError> {
     let mut line = String::new(alloc);
     push_document(&mut line, refused)?;
     let cause = cause_of(alloc, refused)?;
-    let members = members_of_refused(alloc, document, refused)?;
+    let members = members_of_refused(alloc, value, refused)?;
     let mut text = Text::new(alloc);
     text.say("ats refuses the document: ");
     text.say(line.as_str());

@@ -2,16 +2,27 @@
 
 use crate::section_points::Ways;
 use document_shapes::{DocMembers, ShapeRefused, TableMembers, read_document};
+use json::Value;
 use rail_model::{Connection, Node, Section};
 use std::alloc::{AllocError, Global};
 
-/// The members of a document, if it has all of them in their shapes.
-pub(crate) fn members_of(alloc: Global, document: &[u8]) -> Result<Option<DocMembers>, AllocError> {
-    match read_document(alloc, document) {
+// The members that were read, or none of a document that hasn't all of them in their shapes.
+fn if_read(read: Result<DocMembers, ShapeRefused>) -> Result<Option<DocMembers>, AllocError> {
+    match read {
         Ok(members) => Ok(Some(members)),
         Err(ShapeRefused::Memory) => Err(AllocError),
         Err(_) => Ok(None),
     }
+}
+
+/// The members of a document, if it has all of them in their shapes.
+pub(crate) fn members_of(alloc: Global, document: &[u8]) -> Result<Option<DocMembers>, AllocError> {
+    if_read(read_document(alloc, document))
+}
+
+/// The members of a document whose text was read as this value, if it has all of them in their shapes.
+pub(crate) fn members_in(alloc: Global, value: &Value) -> Result<Option<DocMembers>, AllocError> {
+    if_read(document_shapes::members_of(alloc, value))
 }
 
 /// The names of a document, and its tables.

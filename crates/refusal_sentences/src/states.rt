@@ -8,7 +8,8 @@ ghost use Rattle.state_sentences.specs.Tells.{Tells};
 ghost use Rattle.refusal_sentences.specs.Explains.{ExplainsState, ExplainsIn};
 
 use crate::Explained;
-use document_json::{Doc, DocRefused, document, names_of, table_of, tables_of};
+use document_json::{Doc, DocRefused, document_kept, names_of, table_of, tables_of};
+use json::Scratch;
 use legal_state::judge;
 use rail_model::State;
 use refusal_meanings::{Placed, no_document_text, no_table_text, not_legal_text};
@@ -87,12 +88,17 @@ pub fn explain_state(
 ) -> Result<Explained, AllocError>
     ensures { IfOk result (ExplainsState bytes.now table places.now) }
 {
-    match document(alloc, bytes) {
-        Ok(doc) => explain_places(alloc, &doc, table, places),
+    let mut scratch = Scratch::new(alloc);
+    let read = document_kept(alloc, bytes, &mut scratch);
+    match &read.document {
+        Ok(doc) => explain_places(alloc, doc, table, places),
         Err(DocRefused::Memory) => Err(AllocError),
         Err(refused) => {
-            let text = no_document_text(alloc, bytes, &refused)?;
-            Ok(Explained::NoDocument { refused, text })
+            let text = no_document_text(alloc, &read.value, refused)?;
+            Ok(Explained::NoDocument {
+                refused: *refused,
+                text,
+            })
         }
     }
 }
