@@ -139,4 +139,40 @@ layout|--at|1,1
 {"version":1,"points":[["A",0],["M",0],["N",0],["B",0],["C",0],["D",0]],"links":[["A","M"],["M","N"],["N","B"],["C","N"],["M","D"]],"zones":1,"trains":["T0","T1"],"start":[0,0],"tables":[{"missions":[["A","M","N","B"],["C","N","M","D"]],"sections":[{"limit":1,"changes":[[0,1,0,-1],[0,1,0,-1]]}],"certificate":[[0,0,0],[0,1,0],[4,0],[0,1,2],[4,1],[4,0],[0,0,2],[0,1,0],[4,0],[0,1,2],[2,0],[4,0],[0,1,2],[4,1],[3]]}]}
 ----
 section 0 has 2, above its limit 1
+====
+explain|--at|1,0
+# a plan in place of a document
+[[train]]
+name = "T0"
+route = ["A", "M", "N", "B"]
+
+[[train]]
+name = "T1"
+route = ["C", "N", "M", "D"]
+
+[[section]]
+name = "corridor"
+limit = 1
+points = ["M", "N"]
+----
+T0 is at M, place 1 of 3, and wants N: it may
+T1 is at C, place 0 of 3, and wants N: section 0 has no room for 1 more, 1 of 1 are taken; T0 has 1
+The state isn't stuck: a train may move.
+====
+lint
+[[train]]
+name = "T0"
+route = ["A", "M", "B", "M", "C"]
+
+[[train]]
+name = "T1"
+route = ["D", "M", "E"]
+
+[[connection]]
+train = "T1"
+leaves = "D"
+after = "T0"
+reached = "M"
+----
+line 13: connection 0: "M" comes more than once on the route of train "T0": write #1, #2 .. behind it
 "##;

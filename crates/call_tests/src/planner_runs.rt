@@ -1,6 +1,33 @@
 // Timed runs: a document, a line `journal`, and what `ats sim` writes of it.
 // Words, a timed run and an answer each.
 pub(crate) const RUNS: &str = r##"timetable
+[[train]]
+name = "T0"
+route = ["W", "L1", "E"]
+
+[[train]]
+name = "T1"
+route = ["E", "L2", "W"]
+
+journal
+0 move T0 W L1
+0 move T1 E L2
+1 move T0 L1 E
+1 move T1 L2 W
+end moves=4 tables=0 last=1
+----
+train  point  arrives  leaves  waits
+T0     W            -       0      0
+T0     L1           1       1      0
+T0     E            2       -      -
+T1     E            -       0      0
+T1     L2           1       1      0
+T1     W            2       -      -
+T0 ends at 2, and waits 0 in all
+T1 ends at 2, and waits 0 in all
+end of the last step: 2
+====
+timetable
 {"version":1,"points":[["W",0],["L1",0],["E",0],["L2",0]],"links":[["W","L1"],["L1","E"],["E","L2"],["L2","W"]],"zones":1,"trains":["T0","T1"],"start":[0,0],"tables":[{"missions":[["W","L1","E"],["E","L2","W"]],"certificate":[[0,0,0],[4,0],[0,1,0],[0,0,1],[4,1],[1,0,1],[0,0,1],[4,0],[0,1,1],[4,1],[3]]}]}
 
 journal

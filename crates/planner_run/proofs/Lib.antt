@@ -1,4 +1,5 @@
 mod Certified
 mod Protected
+mod Standing
 mod Suits
 mod Weaker

@@ -1,17 +1,19 @@
 -- What the answers to orders are.
-use Rattle.std.specs.Prelude.{◌≡◌, ℕ, ◌++◌, Bool, true, false, List, [], Ok, Option, Some, None, IfSome, IsTrue, string_bytes}
+use Rattle.std.specs.Prelude.{◌≡◌, ◌⊎◌, ℕ, ◌++◌, Bool, true, false, List, [], Ok, Option, Some, None, String, Vec, IfSome, IsTrue, string_bytes}
+use Rattle.std.specs.declared.alloc.Global.{Global}
 use Rattle.ats_io.specs.Bytes.{AddsPrefix}
 use Rattle.decimal_number.specs.Decimal.{number_of}
-use Rattle.document_shapes.specs.Written.{text_of}
 use Rattle.run_orders.specs.RunOrdered.{IsInputByRun}
 use Rattle.rail_model.specs.State.{Legal}
 use Rattle.refusal_lines.specs.Makers.{places_words}
 use Rattle.document_json.specs.Reading.{doc_of}
 use Rattle.document_json.specs.Doc.{Doc, names_of, table_at}
-use Rattle.plan_document.specs.Written.{document_of}
 use Rattle.plan_document.specs.declared.plan.Plan.{Plan}
 use Rattle.plan_reading.specs.Said.{IsPlanRead}
 use Rattle.plan_reading.specs.declared.reading.PlanRead.TheVariants.{Plan as AsPlan}
+use Rattle.plan_input.specs.Standing.{IsPlanned, ReadsAsDocument, StandsFor, begins_as_document}
+use Rattle.plan_input.specs.declared.standing.Standing.{Standing}
+use Rattle.plan_input.specs.declared.standing.Standing.TheVariants.{Itself, Plan as AsDocument, Wrong as Mistaken}
 use Rattle.plan_suspects.specs.Suspects.{has_suspects}
 use Rattle.refusal_sentences.specs.Explains.{ExplainsIn}
 use Rattle.refusal_sentences.specs.ExplainedLines.{ExplainsLine}
@@ -39,17 +41,6 @@ use Rattle.planner_run.specs.declared.answer.Answer.TheVariants.{Text, Remarks, 
 use Rattle.planner_run.specs.declared.top.Status.{Status}
 use Rattle.planner_run.specs.declared.top.Status.TheVariants.{Done, Faulty, Failed}
 use denote.Ref.{Bor}
-
--- The text reads as a document.
-abbrev pub ReadsAsDocument : List ℕ → Type 0
-ReadsAsDocument text = (document : Doc) × (doc_of text ≡ Ok document)
-
--- The input is a plan, whose document the text is, and it reads as one.
-pub record IsPlanned (input text : List ℕ) : Type 0 where
-  pub plan : Plan
-  pub is_plan : IsPlanRead input (AsPlan plan)
-  pub is_text : text ≡ text_of (document_of plan)
-  pub is_document : ReadsAsDocument text
 
 -- the text of what explains something
 abbrev pub ExplainsAs : Explained → List ℕ → Type 0
@@ -167,7 +158,28 @@ NeedsNoRemark former input = ReadsAsDocument input × LosesNone former input
 abbrev pub HasNoRemarks : Option (Bor (List ℕ)) → List ℕ → List ℕ → Type 0
 HasNoRemarks former input text = (text ≡ []) × NeedsNoRemark former input
 
--- The text is what an order comes to on an input, with a former one for remarks.
+-- The order works on this text, with these names of sections, if its input is that: `plan` on the input itself, any other on the document that
+-- stands for it.
+abbrev pub WorksOn : Order → List ℕ → List ℕ → List (Vec (String Global) Global) → Type 0
+WorksOn OfPlan input text names = (text ≡ input) × (names ≡ [])
+WorksOn (ExplainState table at run) input text names = StandsFor input text names
+WorksOn (ExplainLine line) input text names = StandsFor input text names
+WorksOn (Lint before) input text names = StandsFor input text names
+WorksOn (Certify budget effort) input text names = StandsFor input text names
+WorksOn (Protect budget effort rounds) input text names = StandsFor input text names
+WorksOn AddOrders input text names = StandsFor input text names
+WorksOn (OrderByRun seed journal) input text names = StandsFor input text names
+WorksOn (Timetable csv journal) input text names = StandsFor input text names
+WorksOn (Graph train journal) input text names = StandsFor input text names
+WorksOn (Layout table at) input text names = StandsFor input text names
+
+-- The order works on this; or its input is a plan, and these lines say what is wrong with it.
+abbrev pub IsWorkedOn : Order → List ℕ → Standing → Type 0
+IsWorkedOn order input Itself = WorksOn order input input []
+IsWorkedOn order input (AsDocument text names) = WorksOn order input text.items names.items
+IsWorkedOn order input (Mistaken lines) = begins_as_document input ≡ false
+
+-- The text is what an order comes to on a document, with a former one for remarks.
 abbrev pub IsTextFor : Order → Option (Bor (List ℕ)) → List ℕ → List ℕ → Type 0
 IsTextFor OfPlan former input text = IsPlanned input text
 IsTextFor (ExplainState table at run) former input text = ExplainsPlaces input table.now at.now run text
@@ -181,7 +193,14 @@ IsTextFor (Timetable csv journal) former input text = IsTimetableText input csv 
 IsTextFor (Graph train journal) former input text = IsGraphText input text
 IsTextFor (Layout table at) former input text = IsLayoutText input table.now at text
 
--- The lines are what is wrong with an input for an order. Only of those of `certify` and `protect` anything is said.
+-- The text is what an order comes to on an input: on what it works on.
+pub record IsTextOn (order : Order) (former : Option (Bor (List ℕ))) (input text : List ℕ) : Type 0 where
+  pub document : List ℕ
+  pub names : List (Vec (String Global) Global)
+  pub works : WorksOn order input document names
+  pub is_text : IsTextFor order former document text
+
+-- The lines are what is wrong with a document for an order. Only of those of `certify` and `protect` anything is said.
 abbrev pub AreWrongFor : Order → List ℕ → List ℕ → Type 0
 AreWrongFor (Certify budget effort) input lines = IsCertifyingFault input budget lines
 AreWrongFor (Protect budget effort rounds) input lines = IsProtectingFault input lines
@@ -195,10 +214,22 @@ AreWrongFor (Timetable csv journal) input lines = Unit {0}
 AreWrongFor (Graph train journal) input lines = Unit {0}
 AreWrongFor (Layout table at) input lines = Unit {0}
 
+-- The lines are what is wrong with what an order works on.
+pub record AreWrongThere (order : Order) (input lines : List ℕ) : Type 0 where
+  pub document : List ℕ
+  pub names : List (Vec (String Global) Global)
+  pub works : WorksOn order input document names
+  pub are_wrong : AreWrongFor order document lines
+
+-- The lines are what is wrong with an input for an order: with what it works on; or the input is no document, and the lines are the mistakes
+-- of a plan.
+abbrev pub AreWrongOn : Order → List ℕ → List ℕ → Type 0
+AreWrongOn order input lines = (begins_as_document input ≡ false) ⊎ AreWrongThere order input lines
+
 -- What a sink took is the beginning of lines that say what is wrong with an input for an order.
 pub record Tells (order : Order) (input : List ℕ) (old new : Option (List ℕ)) : Type 0 where
   pub lines : List ℕ
-  pub are_wrong : AreWrongFor order input lines
+  pub are_wrong : AreWrongOn order input lines
   pub are_told : AddsPrefix old new lines
 
 -- The order asks for remarks.
@@ -257,13 +288,20 @@ SaysWrong Holds (Remarks lines) = ⊥
 SaysWrong Holds (Noted text lines) = ⊥
 SaysWrong Holds (Wrong lines) = Holds (string_bytes lines)
 
--- The answer is what an order comes to on an input, with remarks only where it asks for them and notes only where it has them, or what is
--- wrong with the input.
+-- The answer is what an order comes to on a document, with remarks only where it asks for them and notes only where it has them, or what is
+-- wrong with the document.
+abbrev pub IsAnswerFor : Order → Option (Bor (List ℕ)) → List ℕ → Answer → Type 0
+IsAnswerFor order former document (Text text) = IsTextFor order former document text.items
+IsAnswerFor order former document (Remarks lines) = AsksForRemarks order
+IsAnswerFor order former document (Noted text lines) = HasNotes order (Some document) × IsTextFor order former document text.items
+IsAnswerFor order former document (Wrong lines) = AreWrongFor order document (string_bytes lines)
+
+-- The same of an input, which is a document or a plan.
 abbrev pub IsAnswerTo : Order → Option (Bor (List ℕ)) → List ℕ → Answer → Type 0
-IsAnswerTo order former input (Text text) = IsTextFor order former input text.items
+IsAnswerTo order former input (Text text) = IsTextOn order former input text.items
 IsAnswerTo order former input (Remarks lines) = AsksForRemarks order
-IsAnswerTo order former input (Noted text lines) = HasNotes order (Some input) × IsTextFor order former input text.items
-IsAnswerTo order former input (Wrong lines) = AreWrongFor order input (string_bytes lines)
+IsAnswerTo order former input (Noted text lines) = HasNotes order (Some input) × IsTextOn order former input text.items
+IsAnswerTo order former input (Wrong lines) = AreWrongOn order input (string_bytes lines)
 
 -- The answer is the document of a plan, with notes only if a point of the plan is probably mistyped, or what is wrong.
 abbrev pub IsPlanning : List ℕ → Answer → Type 0

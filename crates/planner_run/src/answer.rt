@@ -1,6 +1,6 @@
 // What an order comes to.
-ghost use Rattle.std.specs.Prelude.{◌≡◌, IfOk};
-ghost use Rattle.planner_run.specs.Answered.{IsAnswerTo};
+ghost use Rattle.std.specs.Prelude.{IfOk};
+ghost use Rattle.planner_run.specs.Answered.{IsAnswerFor, IsAnswerTo, IsWorkedOn};
 
 use crate::certifying::certify;
 use crate::drawing::layout;
@@ -11,6 +11,7 @@ use crate::planning::plan;
 use crate::protecting::protect;
 use crate::timing::{graph, timetable};
 use cert_search::Watcher;
+use plan_input::{Standing, document_in};
 use planner_words::Order;
 use std::alloc::{AllocError, Global};
 
@@ -27,9 +28,18 @@ pub enum Answer {
     Wrong(String),
 }
 
-/// What an order comes to on this input. `former` is the former document, where the order names one. The watcher sees
-/// how far searches for certificates are.
-#[tactic(auto, using(crate::proofs::Suits::if_text_answers, crate::proofs::Suits::planning_answers, crate::proofs::Suits::lint_answers, crate::proofs::Suits::certifying_answers, crate::proofs::Suits::ordering_answers, crate::proofs::Suits::run_ordering_answers, crate::proofs::Suits::protecting_answers))]
+// What an order works on: `plan` on the input itself, and the others on the document that stands for it.
+fn standing_for(alloc: Global, order: &Order<'_>, input: &[u8]) -> Result<Standing, AllocError>
+    ensures { IfOk result (IsWorkedOn order.now input.now) }
+{
+    match order {
+        Order::Plan => Ok(Standing::Itself),
+        _ => document_in(alloc, input),
+    }
+}
+
+/// What an order comes to on this input, which is a document, or a plan in place of it. `former` is the former document, where the order
+/// names one. The watcher sees how far searches for certificates are.
 pub fn answer_to<W: Watcher>(
     alloc: Global,
     order: &Order<'_>,
@@ -39,21 +49,39 @@ pub fn answer_to<W: Watcher>(
 ) -> Result<Answer, AllocError>
     ensures { IfOk result (IsAnswerTo order.now former.entry input.now) }
 {
+    match standing_for(alloc, order, input)? {
+        Standing::Itself => answer_for(alloc, order, input, former, watcher),
+        Standing::Plan { text, .. } => answer_for(alloc, order, &text, former, watcher),
+        Standing::Wrong(lines) => Ok(Answer::Wrong(lines)),
+    }
+}
+
+// What an order comes to on a document, with what stands behind it; for `plan`, on a plan.
+#[tactic(auto, using(crate::proofs::Suits::if_text_answers, crate::proofs::Suits::planning_answers, crate::proofs::Suits::lint_answers, crate::proofs::Suits::certifying_answers, crate::proofs::Suits::ordering_answers, crate::proofs::Suits::run_ordering_answers, crate::proofs::Suits::protecting_answers))]
+fn answer_for<W: Watcher>(
+    alloc: Global,
+    order: &Order<'_>,
+    document: &[u8],
+    former: Option<&[u8]>,
+    watcher: &W,
+) -> Result<Answer, AllocError>
+    ensures { IfOk result (IsAnswerFor order.now former.entry document.now) }
+{
     match order {
-        Order::Plan => plan(alloc, input),
-        Order::ExplainState { table, at, run } => explain_state(alloc, input, table, at, *run),
-        Order::ExplainLine { line } => explain_line(alloc, input, line),
-        Order::Lint { .. } => remarks(alloc, input, former),
-        Order::Certify { budget, effort } => certify(alloc, input, *budget, *effort, watcher),
+        Order::Plan => plan(alloc, document),
+        Order::ExplainState { table, at, run } => explain_state(alloc, document, table, at, *run),
+        Order::ExplainLine { line } => explain_line(alloc, document, line),
+        Order::Lint { .. } => remarks(alloc, document, former),
+        Order::Certify { budget, effort } => certify(alloc, document, *budget, *effort, watcher),
         Order::Protect {
             budget,
             effort,
             rounds,
-        } => protect(alloc, input, *budget, *effort, *rounds, watcher),
-        Order::AddOrders => add_orders(alloc, input),
-        Order::OrderByRun { seed, .. } => order_by_run(alloc, input, *seed),
-        Order::Timetable { csv, .. } => timetable(alloc, input, *csv),
-        Order::Graph { train, .. } => graph(alloc, input, *train),
-        Order::Layout { table, at } => layout(alloc, input, table, *at),
+        } => protect(alloc, document, *budget, *effort, *rounds, watcher),
+        Order::AddOrders => add_orders(alloc, document),
+        Order::OrderByRun { seed, .. } => order_by_run(alloc, document, *seed),
+        Order::Timetable { csv, .. } => timetable(alloc, document, *csv),
+        Order::Graph { train, .. } => graph(alloc, document, *train),
+        Order::Layout { table, at } => layout(alloc, document, table, *at),
     }
 }

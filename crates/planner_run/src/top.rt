@@ -2,7 +2,7 @@
 ghost use Rattle.std.specs.Prelude.{◌≡◌, ◌≢◌, ◌⊎◌, ℕ, List, Some, None, IfSome};
 ghost use Rattle.ats_io.specs.Bytes.{Adds, AddsPrefix};
 ghost use Rattle.ats_io.specs.Faults.{Rose};
-ghost use Rattle.planner_run.specs.Answered.{AsksForRemarks, HasNotes, IsTextFor, Tells, code_of, shown_text};
+ghost use Rattle.planner_run.specs.Answered.{AsksForRemarks, HasNotes, IsTextOn, Tells, code_of, shown_text};
 
 use crate::Answer;
 use crate::answer::answer_to;
@@ -106,7 +106,7 @@ pub fn serve<S: Source, K: Sink, E: Sink, W: Watcher>(
 ) -> Status
     // What is written is what the order comes to on all that the source had left.
     ensures done { result ≡ Status.Done → IfSome (S.left source.old) (λ all.
-        (text : List ℕ) × IsTextFor order.now former.entry all text × Adds (K.taken out.old) (K.taken out.new) text) }
+        (text : List ℕ) × IsTextOn order.now former.entry all text × Adds (K.taken out.old) (K.taken out.new) text) }
     // Notes are written to `err`, and nothing else.
     ensures quiet { result ≡ Status.Done → HasNotes order.now (S.left source.old) ⊎ (E.taken err.new ≡ E.taken err.old) }
     // Where the input has faults, nothing is written to `out`, except remarks that were asked for.
@@ -136,7 +136,7 @@ fn respond<K: Sink, E: Sink, W: Watcher>(
     err: &mut E,
     watcher: &W,
 ) -> Status
-    ensures done { result ≡ Status.Done → (text : List ℕ) × IsTextFor order.now former.entry input.now text × Adds (K.taken out.old) (K.taken out.new) text }
+    ensures done { result ≡ Status.Done → (text : List ℕ) × IsTextOn order.now former.entry input.now text × Adds (K.taken out.old) (K.taken out.new) text }
     ensures quiet { result ≡ Status.Done → HasNotes order.now (Some input.now) ⊎ (E.taken err.new ≡ E.taken err.old) }
     ensures faulty { result ≡ Status.Faulty → AsksForRemarks order.now ⊎ (K.taken out.new ≡ K.taken out.old) }
     ensures told { result ≡ Status.Faulty → AsksForRemarks order.now ⊎ Tells order.now input.now (E.taken err.old) (E.taken err.new) }

@@ -1,7 +1,8 @@
 use Rattle.std.proofs.Common.{◌≡◌, [], sym, subst}
 use Rattle.std.specs.Prelude.{IfOk}
 use Rattle.document_lint.specs.Told.{LosesNoSection}
-use Rattle.planner_run.specs.Answered.{NeedsNoRemark, ReadsAsDocument}
+use Rattle.plan_input.specs.Standing.{ReadsAsDocument}
+use Rattle.planner_run.specs.Answered.{NeedsNoRemark}
 use Rattle.planner_run.proofs.Suits.{together}
 use Rattle.planner_run.proofs.linting.found_in.Goals as goal
 

@@ -1,0 +1,54 @@
+-- Worked rows: what begins as a document, what stands for it, and the names of sections.
+use Rattle.std.proofs.Common.{◌≡◌, List, ℕ, [], ◌∷◌, true, false, refl, subst, String, Vec, Global}
+use Rattle.std.specs.Prelude.{Some, codes, MatchBool}
+use Rattle.toml.specs.Data.{Data, Items, no_items, item, Members, no_members, member, array, string, table}
+use Rattle.plan_input.specs.Named.{names_in, section_names}
+use Rattle.plan_input.specs.Standing.{IsOfPlan, StandsFor, begins_as_document, first_sign}
+
+-- spaces and newlines before a document are none of its signs
+document_begins : begins_as_document (codes "\n {\"version\":3}") ≡ true
+document_begins = refl
+
+plan_begins : begins_as_document (codes "[[train]]\nname = \"{\"\n") ≡ false
+plan_begins = refl
+
+comment_begins : first_sign (codes "\n# a plan") ≡ Some 35
+comment_begins = refl
+
+-- an input without a sign is no document
+nothing_begins : begins_as_document (codes " \n") ≡ false
+nothing_begins = refl
+
+-- only itself stands for a document
+pub document_stands : (input text : List ℕ) (names : List (Vec (String Global) Global)) → begins_as_document input ≡ true → StandsFor input text names →
+    text ≡ input
+document_stands input text names begins stands =
+    (subst (λ b. MatchBool b ((text ≡ input) × (names ≡ [])) (IsOfPlan input text names)) begins stands).0
+
+-- only the document of a plan stands for a plan
+pub plan_stands : (input text : List ℕ) (names : List (Vec (String Global) Global)) → begins_as_document input ≡ false → StandsFor input text names →
+    IsOfPlan input text names
+plan_stands input text names begins stands =
+    subst (λ b. MatchBool b ((text ≡ input) × (names ≡ [])) (IsOfPlan input text names)) begins stands
+
+itself_stands : StandsFor (codes "{}") (codes "{}") []
+itself_stands = (refl, refl)
+
+abbrev named : List ℕ → Data
+named name = table (member (codes "name") (string name) no_members)
+
+-- the first section has a name, the second none
+abbrev two : Items
+two = item (named (codes "corridor")) (item (table no_members) no_items)
+
+two_names : names_in two ≡ codes "corridor" ∷ [] ∷ []
+two_names = refl
+
+-- two further tables: the first has a section of its own, the other those of the text
+abbrev in_tables : Members
+in_tables = member (codes "section") (array two) (member (codes "table")
+    (array (item (table (member (codes "section") (array (item (named (codes "loop")) no_items)) no_members)) (item (table no_members) no_items))) no_members)
+
+names_by_tables : section_names in_tables
+    ≡ (codes "corridor" ∷ [] ∷ []) ∷ (codes "loop" ∷ []) ∷ (codes "corridor" ∷ [] ∷ []) ∷ []
+names_by_tables = refl

@@ -1,0 +1,12 @@
+use Rattle.std.proofs.Common.{◌∙◌, not, sym, rules, tests}
+use Rattle.std.proofs.lemmas.Iterator.{YieldsList-from_slice}
+use Rattle.std.proofs.lemmas.Iterator.Adapters.{option_map_id}
+use Rattle.std.proofs.lemmas.Iterator.Consumers.{YieldsList-from_copied}
+use Rattle.std.proofs.lemmas.Iterator.Search.{find_from_yields_List}
+use Rattle.plan_input.specs.Standing.{is_space}
+use Rattle.plan_input.proofs.standing.first_sign.Goals as goal
+
+pub returns : goal.returns
+returns c =
+    sym (option_map_id c.find.result)
+    ∙ find_from_yields_List (λ b. not (is_space b)) _ _ c.find.result c.find.ensures.ran (YieldsList-from_copied (YieldsList-from_slice c.args.input.now cc)) (λ x b q k. search (rules, tests))

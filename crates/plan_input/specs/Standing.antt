@@ -1,0 +1,85 @@
+-- What stands for a document in an input: a document, or a plan.
+use Rattle.std.specs.Prelude.{◌≡◌, ◌⊎◌, ℕ, ◌++◌, ◌==◌, ◌||◌, not, Bool, false, List, [], MatchBool, Ok, Option, Some, None, String, Vec, find}
+use Rattle.std.specs.declared.alloc.Global.{Global}
+use Rattle.document_json.specs.Doc.{Doc}
+use Rattle.document_json.specs.Reading.{doc_of}
+use Rattle.document_shapes.specs.Written.{text_of}
+use Rattle.plan_document.specs.Written.{document_of}
+use Rattle.plan_document.specs.declared.plan.Plan.{Plan}
+use Rattle.plan_reading.specs.Said.{IsPlanRead}
+use Rattle.plan_reading.specs.declared.reading.PlanRead.TheVariants.{Plan as AsPlan}
+use Rattle.timed_reading.specs.Reads.{mark}
+use Rattle.plan_input.specs.Named.{AreNames}
+use Rattle.plan_input.specs.declared.compiling.Compiled.{Compiled}
+use Rattle.plan_input.specs.declared.compiling.Compiled.TheVariants.{Document, Refused}
+use Rattle.plan_input.specs.declared.standing.Standing.{Standing}
+use Rattle.plan_input.specs.declared.standing.Standing.TheVariants.{Itself, Plan as OfPlan, Wrong}
+
+-- The text reads as a document.
+abbrev pub ReadsAsDocument : List ℕ → Type 0
+ReadsAsDocument text = (document : Doc) × (doc_of text ≡ Ok document)
+
+-- The input is a plan, whose document the text is, and it reads as one.
+pub record IsPlanned (input text : List ℕ) : Type 0 where
+  pub plan : Plan
+  pub is_plan : IsPlanRead input (AsPlan plan)
+  pub is_text : text ≡ text_of (document_of plan)
+  pub is_document : ReadsAsDocument text
+
+-- A plan comes to this: a text is its document.
+abbrev pub IsCompiled : List ℕ → Compiled → Type 0
+IsCompiled input (Document text) = IsPlanned input text.items
+IsCompiled input (Refused line) = Unit {0}
+
+-- whether a byte is a space of JSON
+abbrev pub is_space : ℕ → Bool
+is_space b = (b == 32) || (b == 9) || (b == 10) || (b == 13)
+
+-- whether there is a byte, and it is a brace
+abbrev pub is_brace : Option ℕ → Bool
+is_brace None = false
+is_brace (Some b) = b == 123
+
+-- the first byte of an input that is no space
+abbrev pub first_sign : List ℕ → Option ℕ
+first_sign input = find (λ b. not (is_space b)) input
+
+-- whether an input begins as a document does: its first byte that is no space is a brace
+abbrev pub begins_as_document : List ℕ → Bool
+begins_as_document input = is_brace (first_sign input)
+
+-- Nothing stands behind a plan, or the line `journal` and the lines of a run.
+abbrev pub IsBehind : List ℕ → Type 0
+IsBehind behind = (behind ≡ []) ⊎ ((journal : List ℕ) × (behind ≡ mark ++ journal))
+
+-- The text is the document of a plan with what stands behind the plan, and these are the names of the plan's sections.
+pub record IsDocumentOf (plan behind text : List ℕ) (names : List (Vec (String Global) Global)) : Type 0 where
+  pub document : List ℕ
+  pub is_planned : IsPlanned plan document
+  pub is_text : text ≡ document ++ behind
+  pub are_names : AreNames plan names
+
+-- The input is a plan, with lines of a run behind it or not, and the text is the plan's document, with the same behind it.
+pub record IsOfPlan (input text : List ℕ) (names : List (Vec (String Global) Global)) : Type 0 where
+  pub plan : List ℕ
+  pub behind : List ℕ
+  pub is_input : input ≡ plan ++ behind
+  pub is_behind : IsBehind behind
+  pub is_document : IsDocumentOf plan behind text names
+
+-- The text stands for an input, with names of sections: an input that begins as a document stands for itself, and names no sections; any
+-- other is a plan, and its document stands for it.
+abbrev pub StandsFor : List ℕ → List ℕ → List (Vec (String Global) Global) → Type 0
+StandsFor input text names = MatchBool (begins_as_document input) ((text ≡ input) × (names ≡ [])) (IsOfPlan input text names)
+
+-- This stands for an input; or the input is a plan, and these lines say what is wrong with it.
+abbrev pub IsStanding : List ℕ → Standing → Type 0
+IsStanding input Itself = StandsFor input input []
+IsStanding input (OfPlan text names) = StandsFor input text.items names.items
+IsStanding input (Wrong lines) = begins_as_document input ≡ false
+
+-- This stands for a plan with something behind it; or these lines say what is wrong with the plan.
+abbrev pub IsPlanBefore : List ℕ → List ℕ → Standing → Type 0
+IsPlanBefore plan behind Itself = ⊥
+IsPlanBefore plan behind (OfPlan text names) = IsDocumentOf plan behind text.items names.items
+IsPlanBefore plan behind (Wrong lines) = Unit {0}
