@@ -1,5 +1,5 @@
 // The sections of a table.
-use crate::lists::{push, push_all, push_names};
+use crate::lists::{owned, push, push_all, push_names};
 use crate::names::{check_count, check_names, find, is_known, tell_of, text_of};
 use crate::ranges::Range;
 use crate::routes::{
@@ -286,23 +286,42 @@ fn taken_at(section: &SectionPlan, scope: &Scope, starts: &[Option<usize>]) -> u
     taken
 }
 
-// Adds what each train takes of a section at its start, in words.
-fn push_taken(
+// Adds the name and the share of each train that takes something of a section at its start: places for them to a form, and the parts.
+fn push_taken<'x>(
     faults: &mut Faults,
-    words: &mut String,
+    form: &mut String,
+    parts: &mut Vec<Part<'x>>,
     section: &SectionPlan,
-    scope: &Scope,
+    scope: &Scope<'x>,
     starts: &[Option<usize>],
 ) {
     for train in 0..scope.trains.len() {
         let share = share_of(section, scope, train, starts);
         if 0 < share {
-            let name = scope.train(train);
-            if write!(words, ", {name} {share}").is_err() {
+            if form.push_str(", {} {}").is_err() {
                 faults.lose();
             }
+            push(faults, parts, Part::Name(scope.train(train)));
+            push(faults, parts, Part::Number(share as i64));
         }
     }
+}
+
+// Tells that a section is over its limit where the trains start, and what each of them takes there.
+fn tell_taken(
+    faults: &mut Faults,
+    entry: &Entry,
+    section: &SectionPlan,
+    scope: &Scope,
+    starts: &[Option<usize>],
+    taken: u32,
+) {
+    let mut form = owned(faults, "at the start {} of {} are taken");
+    let mut parts = Vec::new(faults.alloc());
+    push(faults, &mut parts, Part::Number(taken as i64));
+    push(faults, &mut parts, Part::Number(section.limit as i64));
+    push_taken(faults, &mut form, &mut parts, section, scope, starts);
+    faults.tell(&entry.at("limit"), form.as_str(), &parts);
 }
 
 // Tells that a section is over its limit where the trains start, if it is.
@@ -315,15 +334,7 @@ fn check_limit(
 ) {
     let taken = taken_at(section, scope, starts);
     if section.limit < taken {
-        let mut shares = String::new(faults.alloc());
-        push_taken(faults, &mut shares, section, scope, starts);
-        let parts = [
-            Part::Number(taken as i64),
-            Part::Number(section.limit as i64),
-            Part::Words(shares.as_str()),
-        ];
-        let form = "at the start {} of {} are taken{}";
-        faults.tell(&entry.at("limit"), form, &parts);
+        tell_taken(faults, entry, section, scope, starts, taken);
     }
 }
 
