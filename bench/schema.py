@@ -37,7 +37,7 @@ SHAPE = re.compile(
 )
 MEANING = re.compile(
     r': no (point|train) "|" is no step of the route$|" is not on the route of train "|" comes more than once on the route of train "|'
-    r'" comes twice in a row$|" is the name of an earlier train too$|: starts at "|: without an exit it ends at "|" is never left: |'
+    r'" comes twice in a row$|" is the name of an earlier train too$|: starts at "|: ends at "|: its route begins at "|: without an exit it ends at "|" is never left: |'
     r'" is changed twice by this table$|: a train doesn\'t wait for itself$|: no train of this section comes to "| alone takes \d+ of \d+$|'
     r": at the start \d+ of \d+ are taken, |: no line goes from \"|\" is in a zone already$|: zone \d+ has no point, and zone \d+ has$|"
     r"table \d+, train .*: the route has \d+ places|: there are more faults than these$"

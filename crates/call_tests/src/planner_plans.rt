@@ -205,6 +205,12 @@ const CHANGES: &str =
 1: lines = [["A", "M", "N", "B"], ["C", "N", "M", "D"]] / [[train]]; 7: route = ["C", "Nn", "M", "D"] => line 8: train "T1": no point "Nn"; did you mean "N"?
 1: lines = [["A", "M", "N", "B"], ["C", "N", "M", "D"]] / [[train]]; 7: route = ["C", "M", "N", "D"] => line 8: train "T1": no line goes from "C" to "M", but to N / line 8: train "T1": no line goes from "N" to "D", but to M, B, C
 1: lines = [["A", "M", "N", "B"], ["C", "N", "M", "D"]] / switches = ["M"] / [[train]]; 7: route = ["D", "M", "A"] => line 9: train "T1": no line goes from "D" over "M", a switch, to "A"
+1: lines = [["A", "M", "N", "B"], ["C", "N", "M", "D"]] / switches = ["B", "C"] / [[train]] => line 5: train "T0": ends at "B", a switch / line 9: train "T1": starts at "C", a switch
+1: lines = [["A", "M", "N", "B"], ["C", "N", "M", "D"]] / switches = ["B"] / [[train]]; 3: exit = true / route = ["A", "M", "N", "B"] => line 6: train "T0": ends at "B", a switch
+1: lines = [["A", "M", "N", "B"], ["C", "N", "M", "D"]] / switches = ["C", "N"] / [[train]]; 7: start = "M" / route = ["C", "N", "M", "D"] => line 10: train "T1": its route begins at "C", a switch
+1: lines = [["A", "M", "N", "B"], ["C", "N", "M", "D"]] / switches = ["N"] / [[train]]; 7: start = "N" / route = ["C", "N", "M", "D"] => line 9: train "T1": starts at "N", a switch
+1: lines = [["A", "M", "N", "B"], ["C", "N", "M", "D"]] / switches = ["N"] / [[train]]; 7: route = ["D", "M", "N", "M", "A"] => line 9: train "T1": no line goes from "M" over "N", a switch, to "M"
+1: lines = [["A", "M", "N", "B"], ["C", "N", "M", "D"]] / switches = ["N"] / [[train]]; 13: / [[table]] / after = 4 / [[table.train]] / name = "T1" / route = ["N", "M", "D"] => line 20: table 1, train "T1": its route begins at "N", a switch
 1: lines = [["A", "M", "N", "B"], ["C", "N", "M", "D"]] / switches = ["N"] / [[train]]; 7: route = ["C", "N", "Mm", "D"] => line 9: train "T1": no point "Mm"; did you mean "M"?
 1: lines = [["A", "M", "N", "B"], ["C", "N", "M", "D"]] / switches = ["m"] / [[train]] => line 2: no point "m"; did you mean "M"?
 1: lines = "A" / [[train]] => line 1: "lines" takes a list of lists of points, and this is of type string
