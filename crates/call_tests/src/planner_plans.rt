@@ -192,6 +192,9 @@ const CHANGES: &str =
 13: / [[connection]] / train = "X1" / leaves = "C" / after = "T0" / reached = "N" => line 15: connection 0: no train "X1"; did you mean "T1"?
 13: only = ["T0", "express"] => line 13: section "corridor": no train "express"; the trains are T0, T1
 13: / [[table]] / after = 4 / [[table.train]] / name = "t1" / exit = true => line 17: table 1, train "t1": no train "t1"; did you mean "T1"?
+11: limit = 4; 12: points = ["N"]; 13: weight = { default = 2, T1 = 1 } => {"links":[["A","M"],["M","N"],["N","B"],["C","N"],["M","D"]],"points":[["A",0],["M",0],["N",0],["B",0],["C",0],["D",0]],"start":[0,0],"tables":[{"after":0,"certificate":[],"connections":[],"exits":[false,false],"missions":[["A","M","N","B"],["C","N","M","D"]],"sections":[{"changes":[[0,0,2,-2],[0,1,-1,0]],"limit":4}],"times":[[1,1,1],[1,1,1]]}],"trains":["T0","T1"],"version":3,"zones":1}
+13: weight = { default = 1, "" = 1 } => line 13: section "corridor": the weight for all others is said twice, as "default" and as ""
+6: name = "default"; 13: weight = { default = 1 } => line 13: section "corridor": "default" is for all others, and is the name of a train too: write "" for all others
 13: weight = { T9 = 1 } => line 13: section "corridor": no train "T9"; did you mean "T0"?
 11: limit = "one" => line 11: section "corridor": "limit" takes a whole number, and this is of type string
 7: route = "C N M D" => line 7: train "T1": "route" takes a list of names, and this is of type string

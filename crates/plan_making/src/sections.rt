@@ -23,6 +23,9 @@ const WEIGHTS: Range = Range {
     form: "a weight is 0 to 4, and this is {}",
 };
 
+// The name in a table of weights that is for all other trains, as an empty one is.
+const OTHERS: &str = "default";
+
 // What a train holds of a section that doesn't concern it.
 const NOTHING: Holding = Holding {
     weight: 0,
@@ -41,17 +44,35 @@ fn add_points(faults: &mut Faults, entry: &Entry, scope: &Scope, plan: &mut Sect
     }
 }
 
-// Tells what is wrong with the weights of trains. A weight without a name is for all.
+// Tells a weight for all other trains that is said twice, or whose name is that of a train.
+fn check_others(faults: &mut Faults, entry: &Entry, weights: &Table, trains: &[&str]) {
+    if !weights.contains_key(OTHERS) {
+        return;
+    }
+    if weights.contains_key("") {
+        let form = "the weight for all others is said twice, as {} and as {}";
+        let parts = [Part::Name(OTHERS), Part::Name("")];
+        faults.tell(&entry.at("weight"), form, &parts);
+    }
+    if is_known(trains, OTHERS) {
+        let form =
+            "{} is for all others, and is the name of a train too: write \"\" for all others";
+        tell_of(faults, entry, "weight", OTHERS, form);
+    }
+}
+
+// Tells what is wrong with the weights of trains. A weight at `default` or without a name is for all others.
 fn check_weights<'x>(faults: &mut Faults, entry: &Entry<'x>, weights: &'x Table, trains: &[&str]) {
     for (name, value) in weights {
         if let Some(number) = value.as_integer() {
             let name = name.as_str();
-            if !name.is_empty() {
+            if !name.is_empty() && name != OTHERS {
                 find(faults, entry, "weight", name, "train", trains);
             }
             WEIGHTS.check(faults, entry, "weight", name, number);
         }
     }
+    check_others(faults, entry, weights, trains);
 }
 
 // Tells what is wrong with the weight of a section.
@@ -76,11 +97,19 @@ fn is_concerned(entry: &Entry, train: &str) -> bool {
     false
 }
 
-// The weight for all trains: 1, if none is given.
+// The weight for all other trains in a table of weights: 1, if none is given.
+fn other_weight(entry: &Entry) -> i64 {
+    match entry.number_for("weight", OTHERS) {
+        Some(number) => number,
+        None => entry.number_for("weight", "").unwrap_or(1),
+    }
+}
+
+// The weight for all trains that have none of their own.
 fn usual_weight(entry: &Entry) -> i64 {
     match entry.number("weight") {
         Some(number) => number,
-        None => entry.number_for("weight", "").unwrap_or(1),
+        None => other_weight(entry),
     }
 }
 
