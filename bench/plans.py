@@ -18,7 +18,7 @@ open = false
 [[train]]
 name = "T0"
 route = ["W", "S", "L1", "E", "X", "E", "L1", "S", "W"]
-start = "S#1"
+start = "W#1"
 exit = true
 times = { default = 2, "W S" = 5 }
 [[train]]

@@ -152,7 +152,8 @@ points = ["M", "N"]
 const CHANGES: &str =
     r##"13: / [[connection]] / train = "T1" / leaves = "C" / after = "T0" / reached = "N" /  / [[table]] / after = 4 / [[table.train]] / name = "T1" / route = ["C", "N", "M", "A"] => {"links":[["A","M"],["M","N"],["N","B"],["C","N"],["M","D"]],"points":[["A",0],["M",0],["N",0],["B",0],["C",0],["D",0]],"start":[0,0],"tables":[{"after":0,"certificate":[],"connections":[[1,0,0,2]],"exits":[false,false],"missions":[["A","M","N","B"],["C","N","M","D"]],"sections":[{"changes":[[0,1,0,-1],[0,1,0,-1]],"limit":1}],"times":[[1,1,1],[1,1,1]]},{"after":4,"certificate":[],"connections":[[1,0,0,2]],"exits":[false,false],"missions":[["A","M","N","B"],["C","N","M","A"]],"sections":[{"changes":[[0,1,0,-1],[0,1,0,-1]],"limit":1}],"times":[[1,1,1],[1,1,1]]}],"trains":["T0","T1"],"version":3,"zones":1}
 7: exits = true / route = ["C", "N", "M", "D"] => line 7: train "T1": no key "exits"; the keys are name, route, start, exit, times
-3: start = "M" / route = ["A", "M", "N", "B"]; 7: start = "N" / route = ["C", "N", "M", "D"] => line 13: section "corridor": at the start 2 of 1 are taken, T0 1, T1 1
+3: start = "M" / route = ["A", "M", "N", "B"]; 7: start = "N" / route = ["C", "N", "M", "D"] => line 13: section "corridor": at the start 2 of 1 are taken, "T0" 1, "T1" 1
+3: start = "M" / route = ["A", "M", "N", "B"]; 6: name = "T\n{}"; 7: start = "N" / route = ["C", "N", "M", "D"] => line 7: train "T?{}": "T?{}" is no name: 1 to 16 of A-Z, a-z, 0-9 and _ / line 13: section "corridor": at the start 2 of 1 are taken, "T0" 1, "T?{}" 1
 7: start = "Q7" / route = ["C", "N", "M", "D"] => line 7: train "T1": no point "Q7"; the points are A, M, N, B, C, D
 7: times = { default = 2, "C Nn" = 3 } / route = ["C", "N", "M", "D"] => line 7: train "T1": no point "Nn"; did you mean "N"?
 6: name = "T-1"; 12: points = ["Mm", "N"] / only = ["T7"] / width = 3 => line 6: train "T-1": "T-1" is no name: 1 to 16 of A-Z, a-z, 0-9 and _ / line 12: section "corridor": no point "Mm"; did you mean "M"? / line 13: section "corridor": no train "T7"; did you mean "T0"? / line 14: section "corridor": no key "width"; the keys are name, limit, points, weight, only, from, to
@@ -191,6 +192,9 @@ const CHANGES: &str =
 13: / [[connection]] / train = "X1" / leaves = "C" / after = "T0" / reached = "N" => line 15: connection 0: no train "X1"; did you mean "T1"?
 13: only = ["T0", "express"] => line 13: section "corridor": no train "express"; the trains are T0, T1
 13: / [[table]] / after = 4 / [[table.train]] / name = "t1" / exit = true => line 17: table 1, train "t1": no train "t1"; did you mean "T1"?
+11: limit = 4; 12: points = ["N"]; 13: weight = { default = 2, T1 = 1 } => {"links":[["A","M"],["M","N"],["N","B"],["C","N"],["M","D"]],"points":[["A",0],["M",0],["N",0],["B",0],["C",0],["D",0]],"start":[0,0],"tables":[{"after":0,"certificate":[],"connections":[],"exits":[false,false],"missions":[["A","M","N","B"],["C","N","M","D"]],"sections":[{"changes":[[0,0,2,-2],[0,1,-1,0]],"limit":4}],"times":[[1,1,1],[1,1,1]]}],"trains":["T0","T1"],"version":3,"zones":1}
+13: weight = { default = 1, "" = 1 } => line 13: section "corridor": the weight for all others is said twice, as "default" and as ""
+6: name = "default"; 13: weight = { default = 1 } => line 13: section "corridor": "default" is for all others, and is the name of a train too: write "" for all others
 13: weight = { T9 = 1 } => line 13: section "corridor": no train "T9"; did you mean "T0"?
 11: limit = "one" => line 11: section "corridor": "limit" takes a whole number, and this is of type string
 7: route = "C N M D" => line 7: train "T1": "route" takes a list of names, and this is of type string
@@ -204,6 +208,12 @@ const CHANGES: &str =
 1: lines = [["A", "M", "N", "B"], ["C", "N", "M", "D"]] / [[train]]; 7: route = ["C", "Nn", "M", "D"] => line 8: train "T1": no point "Nn"; did you mean "N"?
 1: lines = [["A", "M", "N", "B"], ["C", "N", "M", "D"]] / [[train]]; 7: route = ["C", "M", "N", "D"] => line 8: train "T1": no line goes from "C" to "M", but to N / line 8: train "T1": no line goes from "N" to "D", but to M, B, C
 1: lines = [["A", "M", "N", "B"], ["C", "N", "M", "D"]] / switches = ["M"] / [[train]]; 7: route = ["D", "M", "A"] => line 9: train "T1": no line goes from "D" over "M", a switch, to "A"
+1: lines = [["A", "M", "N", "B"], ["C", "N", "M", "D"]] / switches = ["B", "C"] / [[train]] => line 5: train "T0": ends at "B", a switch / line 9: train "T1": starts at "C", a switch
+1: lines = [["A", "M", "N", "B"], ["C", "N", "M", "D"]] / switches = ["B"] / [[train]]; 3: exit = true / route = ["A", "M", "N", "B"] => line 6: train "T0": ends at "B", a switch
+1: lines = [["A", "M", "N", "B"], ["C", "N", "M", "D"]] / switches = ["C", "N"] / [[train]]; 7: start = "M" / route = ["C", "N", "M", "D"] => line 10: train "T1": its route begins at "C", a switch
+1: lines = [["A", "M", "N", "B"], ["C", "N", "M", "D"]] / switches = ["N"] / [[train]]; 7: start = "N" / route = ["C", "N", "M", "D"] => line 9: train "T1": starts at "N", a switch
+1: lines = [["A", "M", "N", "B"], ["C", "N", "M", "D"]] / switches = ["N"] / [[train]]; 7: route = ["D", "M", "N", "M", "A"] => line 9: train "T1": no line goes from "M" over "N", a switch, to "M"
+1: lines = [["A", "M", "N", "B"], ["C", "N", "M", "D"]] / switches = ["N"] / [[train]]; 13: / [[table]] / after = 4 / [[table.train]] / name = "T1" / route = ["N", "M", "D"] => line 20: table 1, train "T1": its route begins at "N", a switch
 1: lines = [["A", "M", "N", "B"], ["C", "N", "M", "D"]] / switches = ["N"] / [[train]]; 7: route = ["C", "N", "Mm", "D"] => line 9: train "T1": no point "Mm"; did you mean "M"?
 1: lines = [["A", "M", "N", "B"], ["C", "N", "M", "D"]] / switches = ["m"] / [[train]] => line 2: no point "m"; did you mean "M"?
 1: lines = "A" / [[train]] => line 1: "lines" takes a list of lists of points, and this is of type string

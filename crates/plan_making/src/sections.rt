@@ -1,5 +1,5 @@
 // The sections of a table.
-use crate::lists::{push, push_all, push_names};
+use crate::lists::{owned, push, push_all, push_names};
 use crate::names::{check_count, check_names, find, is_known, tell_of, text_of};
 use crate::ranges::Range;
 use crate::routes::{
@@ -23,6 +23,9 @@ const WEIGHTS: Range = Range {
     form: "a weight is 0 to 4, and this is {}",
 };
 
+// The name in a table of weights that is for all other trains, as an empty one is.
+const OTHERS: &str = "default";
+
 // What a train holds of a section that doesn't concern it.
 const NOTHING: Holding = Holding {
     weight: 0,
@@ -41,17 +44,35 @@ fn add_points(faults: &mut Faults, entry: &Entry, scope: &Scope, plan: &mut Sect
     }
 }
 
-// Tells what is wrong with the weights of trains. A weight without a name is for all.
+// Tells a weight for all other trains that is said twice, or whose name is that of a train.
+fn check_others(faults: &mut Faults, entry: &Entry, weights: &Table, trains: &[&str]) {
+    if !weights.contains_key(OTHERS) {
+        return;
+    }
+    if weights.contains_key("") {
+        let form = "the weight for all others is said twice, as {} and as {}";
+        let parts = [Part::Name(OTHERS), Part::Name("")];
+        faults.tell(&entry.at("weight"), form, &parts);
+    }
+    if is_known(trains, OTHERS) {
+        let form =
+            "{} is for all others, and is the name of a train too: write \"\" for all others";
+        tell_of(faults, entry, "weight", OTHERS, form);
+    }
+}
+
+// Tells what is wrong with the weights of trains. A weight at `default` or without a name is for all others.
 fn check_weights<'x>(faults: &mut Faults, entry: &Entry<'x>, weights: &'x Table, trains: &[&str]) {
     for (name, value) in weights {
         if let Some(number) = value.as_integer() {
             let name = name.as_str();
-            if !name.is_empty() {
+            if !name.is_empty() && name != OTHERS {
                 find(faults, entry, "weight", name, "train", trains);
             }
             WEIGHTS.check(faults, entry, "weight", name, number);
         }
     }
+    check_others(faults, entry, weights, trains);
 }
 
 // Tells what is wrong with the weight of a section.
@@ -76,11 +97,19 @@ fn is_concerned(entry: &Entry, train: &str) -> bool {
     false
 }
 
-// The weight for all trains: 1, if none is given.
+// The weight for all other trains in a table of weights: 1, if none is given.
+fn other_weight(entry: &Entry) -> i64 {
+    match entry.number_for("weight", OTHERS) {
+        Some(number) => number,
+        None => entry.number_for("weight", "").unwrap_or(1),
+    }
+}
+
+// The weight for all trains that have none of their own.
 fn usual_weight(entry: &Entry) -> i64 {
     match entry.number("weight") {
         Some(number) => number,
-        None => entry.number_for("weight", "").unwrap_or(1),
+        None => other_weight(entry),
     }
 }
 
@@ -286,23 +315,42 @@ fn taken_at(section: &SectionPlan, scope: &Scope, starts: &[Option<usize>]) -> u
     taken
 }
 
-// Adds what each train takes of a section at its start, in words.
-fn push_taken(
+// Adds the name and the share of each train that takes something of a section at its start: places for them to a form, and the parts.
+fn push_taken<'x>(
     faults: &mut Faults,
-    words: &mut String,
+    form: &mut String,
+    parts: &mut Vec<Part<'x>>,
     section: &SectionPlan,
-    scope: &Scope,
+    scope: &Scope<'x>,
     starts: &[Option<usize>],
 ) {
     for train in 0..scope.trains.len() {
         let share = share_of(section, scope, train, starts);
         if 0 < share {
-            let name = scope.train(train);
-            if write!(words, ", {name} {share}").is_err() {
+            if form.push_str(", {} {}").is_err() {
                 faults.lose();
             }
+            push(faults, parts, Part::Name(scope.train(train)));
+            push(faults, parts, Part::Number(share as i64));
         }
     }
+}
+
+// Tells that a section is over its limit where the trains start, and what each of them takes there.
+fn tell_taken(
+    faults: &mut Faults,
+    entry: &Entry,
+    section: &SectionPlan,
+    scope: &Scope,
+    starts: &[Option<usize>],
+    taken: u32,
+) {
+    let mut form = owned(faults, "at the start {} of {} are taken");
+    let mut parts = Vec::new(faults.alloc());
+    push(faults, &mut parts, Part::Number(taken as i64));
+    push(faults, &mut parts, Part::Number(section.limit as i64));
+    push_taken(faults, &mut form, &mut parts, section, scope, starts);
+    faults.tell(&entry.at("limit"), form.as_str(), &parts);
 }
 
 // Tells that a section is over its limit where the trains start, if it is.
@@ -315,15 +363,7 @@ fn check_limit(
 ) {
     let taken = taken_at(section, scope, starts);
     if section.limit < taken {
-        let mut shares = String::new(faults.alloc());
-        push_taken(faults, &mut shares, section, scope, starts);
-        let parts = [
-            Part::Number(taken as i64),
-            Part::Number(section.limit as i64),
-            Part::Words(shares.as_str()),
-        ];
-        let form = "at the start {} of {} are taken{}";
-        faults.tell(&entry.at("limit"), form, &parts);
+        tell_taken(faults, entry, section, scope, starts, taken);
     }
 }
 

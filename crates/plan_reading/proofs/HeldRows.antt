@@ -33,6 +33,16 @@ one_number = refl
 pub no_weight : weight_for (table no_members) (codes "IC") ≡ pos 1
 no_weight = refl
 
+-- the same, where `default` is for all others
+abbrev with_default : Data
+with_default = table (member (codes "weight") (table (member (codes "RE") (integer (pos 3)) (member (codes "default") (integer (pos 2)) no_members))) no_members)
+
+pub own_beside_default : weight_for with_default (codes "RE") ≡ pos 3
+own_beside_default = refl
+
+pub by_default : weight_for with_default (codes "IC") ≡ pos 2
+by_default = refl
+
 abbrev holds_all : ℕ → ℕ → Holding
 holds_all weight places = record { weight = weight; from = 0; until = places }
 

@@ -21,9 +21,13 @@ place_for key entry train = option_and_then (place_in train) (get key entry)
 abbrev pub weight_at : Data → List ℕ → Option ℤ
 weight_at entry name = option_and_then (number_in name) (get (codes "weight") entry)
 
--- the weight for all trains: a number, or the one without a name; 1, if there is none
+-- the weight for all other trains in a table of weights: that at `default`, or that without a name; 1, if there is none
+abbrev pub other_weight : Data → ℤ
+other_weight entry = unwrap_or (weight_at entry (codes "default")) (unwrap_or (weight_at entry []) (pos 1))
+
+-- the weight for all trains that have none of their own: one number, or that for all others
 abbrev pub usual_weight : Data → ℤ
-usual_weight entry = unwrap_or (number_at (codes "weight") entry) (unwrap_or (weight_at entry []) (pos 1))
+usual_weight entry = unwrap_or (number_at (codes "weight") entry) (other_weight entry)
 
 -- the weight of a train: its own, or that for all
 abbrev pub weight_for : Data → List ℕ → ℤ

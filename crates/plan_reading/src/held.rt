@@ -53,13 +53,23 @@ fn says_places(entry: &Value, key: &str) -> bool
     entry_of(entry).has_places(key)
 }
 
-// The weight for all trains: 1, if none is given.
+// The weight for all other trains in a table of weights: 1, if none is given.
+fn other_weight(entry: &Value) -> i64
+    ensures { result ≡ spec.other_weight (view entry.now) }
+{
+    match weight_at(entry, "default") {
+        Some(weight) => weight,
+        None => weight_at(entry, "").unwrap_or(1),
+    }
+}
+
+// The weight for all trains that have none of their own.
 fn usual_weight(entry: &Value) -> i64
     ensures { result ≡ spec.usual_weight (view entry.now) }
 {
     match number_at(entry, "weight") {
         Some(weight) => weight,
-        None => weight_at(entry, "").unwrap_or(1),
+        None => other_weight(entry),
     }
 }
 

@@ -139,18 +139,19 @@ fn read_table(alloc: Global, text: &str, table: &Table) -> Result<PlanRead, Allo
 /// The keys at the top are `lines` (lists of points, each linked to the next), `switches` (points), `open`, `zones` (a
 /// table: the number of a zone, and its points; those in none are in zone 0), and the lists of tables `train`, `section`,
 /// `connection` and `table`. Points and links are those of `lines`, and routes keep to them: they pass a switch as a line
-/// does, or from the end of a line to the end of another. If there are no lines, or `open` is true, those of the routes
-/// follow, in the order in which they are first named. The second time that a point comes on a route is called `"M#2"`
-/// where a place is meant.
+/// does, or from the end of a line to the end of another, and neither begin nor end at one. If there are no lines, or `open`
+/// is true, those of the routes follow, in the order in which they are first named. The second time that a point comes on a
+/// route is called `"M#2"` where a place is meant.
 ///
 /// - A train has a `name`, a `route`, and may have a `start` (else its first place), `exit` (else false) and `times`: a number
 ///   for each step, or a table of them by steps, as `"A B" = 3`, with a `default` for the others (else 1).
 /// - A section has a `limit` and `points`; a train takes its weight of it while it is at one of them. `weight` is a number for
-///   all trains, or a table of them by trains (else 1); `only` names the trains that the section concerns (else all). `name`
-///   serves messages. A train with `from` takes its weight from its place at that point, and with `to` until before its place
-///   at that point: one that doesn't come to `from` takes nothing, and one that doesn't come to `to`, or comes to it before,
-///   takes it to the end of its route, or nothing. Each is a point for all trains, or a table of points by trains. With either
-///   of them, `points` may be left out, and means all. From leaving P to reaching Q: `from` is the point after P, and `to` is Q.
+///   all trains, or a table of them by trains, with a `default` for the others (else 1); `only` names the trains that the section
+///   concerns (else all). `name` serves messages. A train with `from` takes its weight from its place at that point, and with
+///   `to` until before its place at that point: one that doesn't come to `from` takes nothing, and one that doesn't come to
+///   `to`, or comes to it before, takes it to the end of its route, or nothing. Each is a point for all trains, or a table of
+///   points by trains. With either of them, `points` may be left out, and means all. From leaving P to reaching Q: `from` is
+///   the point after P, and `to` is Q.
 /// - A connection has `train`, `leaves`, `after` and `reached`: the train may not leave the first point before the train
 ///   `after` has reached the other.
 /// - A table is a further one, in force after `after` moves at the earliest. Its `train` lists trains with what differs from
