@@ -1,0 +1,7 @@
+pub mod Along
+pub mod Bases
+pub mod Members
+pub mod Plain
+mod Rows
+pub mod Steps
+pub mod Texts

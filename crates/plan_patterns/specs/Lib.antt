@@ -1,0 +1,4 @@
+pub mod Expanded
+pub mod Numbered
+pub mod Parts
+pub mod Ways
