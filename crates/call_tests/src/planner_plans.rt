@@ -151,7 +151,7 @@ points = ["M", "N"]
 // are told. ` / ` ends a line, `;` is between two changes, and line 13 is after the last.
 const CHANGES: &str =
     r##"13: / [[connection]] / train = "T1" / leaves = "C" / after = "T0" / reached = "N" /  / [[table]] / after = 4 / [[table.train]] / name = "T1" / route = ["C", "N", "M", "A"] => {"links":[["A","M"],["M","N"],["N","B"],["C","N"],["M","D"]],"points":[["A",0],["M",0],["N",0],["B",0],["C",0],["D",0]],"start":[0,0],"tables":[{"after":0,"certificate":[],"connections":[[1,0,0,2]],"exits":[false,false],"missions":[["A","M","N","B"],["C","N","M","D"]],"sections":[{"changes":[[0,1,0,-1],[0,1,0,-1]],"limit":1}],"times":[[1,1,1],[1,1,1]]},{"after":4,"certificate":[],"connections":[[1,0,0,2]],"exits":[false,false],"missions":[["A","M","N","B"],["C","N","M","A"]],"sections":[{"changes":[[0,1,0,-1],[0,1,0,-1]],"limit":1}],"times":[[1,1,1],[1,1,1]]}],"trains":["T0","T1"],"version":3,"zones":1}
-7: exits = true / route = ["C", "N", "M", "D"] => line 7: train "T1": no key "exits"; the keys are name, route, start, exit, times
+7: exits = true / route = ["C", "N", "M", "D"] => line 7: train "T1": no key "exits"; the keys are name, pattern, count, route, start, exit, times
 3: start = "M" / route = ["A", "M", "N", "B"]; 7: start = "N" / route = ["C", "N", "M", "D"] => line 13: section "corridor": at the start 2 of 1 are taken, "T0" 1, "T1" 1
 3: start = "M" / route = ["A", "M", "N", "B"]; 6: name = "T\n{}"; 7: start = "N" / route = ["C", "N", "M", "D"] => line 7: train "T?{}": "T?{}" is no name: 1 to 16 of A-Z, a-z, 0-9 and _ / line 13: section "corridor": at the start 2 of 1 are taken, "T0" 1, "T?{}" 1
 7: start = "Q7" / route = ["C", "N", "M", "D"] => line 7: train "T1": no point "Q7"; the points are A, M, N, B, C, D
@@ -172,8 +172,8 @@ const CHANGES: &str =
 13: / [[connection]] / train = "T1" / leave = "C" / leaves = "C" / after = "T0" / reached = "N" => line 16: connection 0: no key "leave"; the keys are train, leaves, after, reached
 13: weights = 2 => line 13: section "corridor": no key "weights"; the keys are name, limit, points, weight, only, from, to
 13: / [[table]] / after = 4 / zones = 2 => line 16: table 1: no key "zones"; the keys are after, train, section, connection
-13: / [[table]] / after = 4 / [[table.train]] / name = "T1" / start = "C" => line 18: table 1, train "T1": no key "start"; the keys are name, route, exit, times
-9: [[sections]] => line 9: no key "sections"; the keys are lines, open, switches, zones, train, section, connection, table
+13: / [[table]] / after = 4 / [[table.train]] / name = "T1" / start = "C" => line 18: table 1, train "T1": no key "start"; the keys are name, pattern, count, route, exit, times
+9: [[sections]] => line 9: no key "sections"; the keys are lines, open, switches, zones, ways, pattern, train, section, connection, table
 11: limit = 129 => line 11: section "corridor": a limit is 0 to 128, and this is 129
 13: / [[table]] / [[table.train]] / name = "T1" / exit = true => line 14: table 1: "after" is missing
 13: / [[table]] / after = 4 / [[table.section]] / limit = 1 / points = ["M"] / from = { T0 = "M#02", T1 = "M#2" } => line 19: table 1, section 0: "M#02" is not on the route of train "T0" in table 1

@@ -7,11 +7,13 @@ ghost use Rattle.plan_entries.specs.Found.{value_at};
 
 use toml::{Table, Value};
 
-/// A part of a plan: the keys at its top, the table of its zones, or a list of entries.
+/// A part of a plan: the keys at its top, the table of its zones or of its ways, or a list of entries.
 #[derive(Clone, Copy)]
 pub enum Kind {
     Top,
     Zones,
+    Ways,
+    Pattern,
     Train,
     Section,
     Connection,
@@ -47,6 +49,8 @@ impl Kind {
         match self {
             Kind::Top => "",
             Kind::Zones => "zones",
+            Kind::Ways => "ways",
+            Kind::Pattern => "pattern",
             Kind::Train => "train",
             Kind::Section => "section",
             Kind::Connection => "connection",

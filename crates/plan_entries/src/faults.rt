@@ -6,7 +6,7 @@ ghost use Rattle.plan_entries.specs.Told.{has_fault};
 
 use crate::source::Source;
 use crate::words::Words;
-use crate::{Entry, Part};
+use crate::{Entry, Origins, Part};
 use std::alloc::{AllocError, Global};
 
 // How many faults are reported.
@@ -58,10 +58,27 @@ fn push_more(alloc: Global, list: &mut Vec<Fault>) -> Result<(), AllocError>
     Ok(())
 }
 
+// Whether two texts are the same but for their digits.
+fn are_alike(one: &str, other: &str) -> bool {
+    let mut ones = one.chars().filter(|letter| !letter.is_ascii_digit());
+    let mut others = other.chars().filter(|letter| !letter.is_ascii_digit());
+    for _ in 0..one.len() {
+        let next = ones.next();
+        if next != others.next() {
+            return false;
+        }
+        if next.is_none() {
+            return true;
+        }
+    }
+    others.next().is_none()
+}
+
 impl Fault {
-    // Whether it is in this line and has these words.
-    fn is(&self, line: u32, words: &str) -> bool {
-        self.line == line && self.words.as_str() == words
+    // Whether it is in this line and has these words; but for digits, if it is of a further train of its entry.
+    fn is(&self, line: u32, words: &str, of_copy: bool) -> bool {
+        let own = self.words.as_str();
+        self.line == line && (own == words || of_copy && are_alike(own, words))
     }
 }
 
@@ -98,12 +115,19 @@ impl<'a> Faults<'a> {
         self.lost = true;
     }
 
+    /// From now on, the trains of the plan stand for these entries of its text.
+    pub fn set_origins(&mut self, origins: Origins)
+        ensures { has_fault self.new ≡ has_fault self.old }
+    {
+        self.source.set_origins(origins);
+    }
+
     // Whether a fault is in the list already.
-    fn has(&self, line: u32, words: &str) -> bool
+    fn has(&self, line: u32, words: &str, of_copy: bool) -> bool
         ensures { result ≡ true → 0 < length self.now.list.items }
     {
         for fault in &self.list {
-            if fault.is(line, words) {
+            if fault.is(line, words, of_copy) {
                 return true;
             }
         }
@@ -124,13 +148,14 @@ impl<'a> Faults<'a> {
     {
         let line = self.source.line_of(at);
         let words = self.words(at, form, parts)?;
-        if !self.has(line, words.as_str()) {
+        if !self.has(line, words.as_str(), self.source.is_copy(at)) {
             self.list.push(Fault { line, words })?;
         }
         Ok(())
     }
 
-    /// Adds a fault of an entry, or of its key and name: a text with a part in place of each `{}`. A fault is in the list once.
+    /// Adds a fault of an entry, or of its key and name: a text with a part in place of each `{}`. A fault is in the list once,
+    /// and those of the trains of one entry are, if they differ in digits alone.
     pub fn tell(&mut self, at: &Entry, form: &str, parts: &[Part])
         ensures { has_fault self.new ≡ true }
     {

@@ -3,9 +3,11 @@
 
 mod entries;
 mod faults;
+mod origins;
 mod source;
 mod words;
 
 pub use entries::{Entries, Entry, Kind, first_other, names_of};
 pub use faults::{Fault, Faults};
+pub use origins::Origins;
 pub use words::Part;

@@ -1,11 +1,12 @@
 // Where in the text of a plan an entry is.
-use crate::Entry;
+use crate::{Entry, Origins};
 use std::alloc::{AllocError, Global};
 
 /// The lines of a text.
 #[derive(Drop)]
 pub(crate) struct Source<'a> {
     lines: Vec<&'a str>,
+    origins: Origins,
 }
 
 // Whether a key or a name may have this character.
@@ -112,7 +113,20 @@ impl<'a> Source<'a> {
         for line in text.lines() {
             lines.push(line)?;
         }
-        Ok(Source { lines })
+        Ok(Source {
+            lines,
+            origins: Origins::new(alloc),
+        })
+    }
+
+    /// From now on, its trains stand for these entries.
+    pub fn set_origins(&mut self, origins: Origins) {
+        self.origins = origins;
+    }
+
+    /// Whether an entry is a further train of the entry of the train before it.
+    pub fn is_copy(&self, at: &Entry) -> bool {
+        self.origins.is_copy(at)
     }
 
     // A line, counted from 0; empty after the last.
@@ -143,7 +157,7 @@ impl<'a> Source<'a> {
             Some(table) => self.header_line(0, "table", table)?,
             None => 0,
         };
-        self.header_line(from, header, at.index)
+        self.header_line(from, header, self.origins.of(at))
     }
 
     // The first of these lines in which something is.

@@ -123,7 +123,7 @@ impl Words {
         }
         let kind = Part::Words(entry.kind.word());
         let called = match entry.kind {
-            Kind::Top | Kind::Zones => return,
+            Kind::Top | Kind::Zones | Kind::Ways => return,
             Kind::Table => Part::Count(entry.index.saturating_add(1)),
             _ => match entry.text("name") {
                 Some(name) => Part::Name(name),

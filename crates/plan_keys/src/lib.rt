@@ -3,4 +3,4 @@
 
 mod types;
 
-pub use types::check_types;
+pub use types::{check_counts, check_patterns, check_types};

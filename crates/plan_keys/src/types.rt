@@ -129,18 +129,22 @@ fn check_value(faults: &mut Faults, at: &Entry, takes: Takes, value: &Value) {
 // The keys of an entry, in the order in which they are looked at.
 fn known_keys(kind: Kind, is_further: bool) -> &'static [&'static str] {
     match kind {
-        Kind::Top | Kind::Zones => &[
+        Kind::Top | Kind::Zones | Kind::Ways => &[
             "lines",
             "open",
             "switches",
             "zones",
+            "ways",
+            "pattern",
             "train",
             "section",
             "connection",
             "table",
         ],
-        Kind::Train if is_further => &["name", "route", "exit", "times"],
-        Kind::Train => &["name", "route", "start", "exit", "times"],
+        Kind::Train if is_further => &["name", "pattern", "count", "route", "exit", "times"],
+        Kind::Train | Kind::Pattern => &[
+            "name", "pattern", "count", "route", "start", "exit", "times",
+        ],
         Kind::Section => &["name", "limit", "points", "weight", "only", "from", "to"],
         Kind::Connection => &["train", "leaves", "after", "reached"],
         Kind::Table => &["after", "train", "section", "connection"],
@@ -152,8 +156,8 @@ fn taken_by(kind: Kind, key: &str) -> Takes {
     match kind {
         Kind::Connection => Takes::Name,
         _ => match key {
-            "name" | "start" => Takes::Name,
-            "limit" | "after" => Takes::Number,
+            "name" | "pattern" | "start" => Takes::Name,
+            "count" | "limit" | "after" => Takes::Number,
             "exit" | "open" => Takes::Flag,
             "times" | "weight" => Takes::Numbers,
             "from" | "to" => Takes::Places,
@@ -166,10 +170,10 @@ fn taken_by(kind: Kind, key: &str) -> Takes {
 fn is_needed(kind: Kind, key: &str) -> bool {
     match kind {
         Kind::Connection => true,
-        Kind::Train => key == "name",
+        Kind::Train | Kind::Pattern => key == "name",
         Kind::Section => key == "limit",
         Kind::Table => key == "after",
-        Kind::Top | Kind::Zones => false,
+        Kind::Top | Kind::Zones | Kind::Ways => false,
     }
 }
 
@@ -293,6 +297,42 @@ fn check_zones(faults: &mut Faults, top: &Entry) {
         }
         None => {}
     }
+}
+
+// Tells each way that isn't a list of names.
+fn check_each_way(faults: &mut Faults, ways: &Table) {
+    for (way, points) in ways {
+        let at = Entry::part(Kind::Ways, None);
+        check_names(faults, &at.at(way.as_str()), points);
+    }
+}
+
+// Tells what is wrong with the shapes of the ways.
+fn check_ways(faults: &mut Faults, top: &Entry) {
+    match top.value("ways") {
+        Some(Value::Table(ways)) => check_each_way(faults, ways),
+        Some(_) => {
+            let at = Entry::part(Kind::Ways, None);
+            faults.tell(
+                &at.at("ways"),
+                "\"ways\" takes a table of lists of points",
+                &[],
+            );
+        }
+        None => {}
+    }
+}
+
+/// Tells what is wrong with the shapes of a plan's patterns and ways.
+pub fn check_patterns(faults: &mut Faults, top: &Entry) {
+    check_entries(faults, top, Kind::Pattern);
+    check_ways(faults, top);
+}
+
+/// Tells what is wrong with a train's pattern and its count, if it has them.
+pub fn check_counts(faults: &mut Faults, train: &Entry) {
+    check_key(faults, train, "pattern");
+    check_key(faults, train, "count");
 }
 
 /// Tells what is wrong with the shapes of a plan's entries.

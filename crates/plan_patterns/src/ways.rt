@@ -33,6 +33,15 @@ fn said_by(value: &Value) -> Option<&str>
     }
 }
 
+/// The name of the way that an item of a route stands for, if it is one.
+pub(crate) fn name_in(value: &Value) -> Option<&str> {
+    let said = said_by(value)?;
+    match behind_minus(said) {
+        Some(name) => Some(name),
+        None => Some(said),
+    }
+}
+
 // The list of the way of a name.
 fn way_at<'t>(ways: &'t Table, name: &str) -> Option<&'t [Value]>
     ensures { option_map (λ items. map view items.now) result ≡ spec.way_at (table_view ways.now) name.now }

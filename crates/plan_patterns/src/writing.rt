@@ -53,8 +53,8 @@ fn pattern_of<'p>(patterns: &'p [Value], name: &str) -> Option<&'p Table>
     }
 }
 
-// The pattern that an entry rests on.
-fn base_of<'p>(patterns: &'p [Value], entry: &Table) -> Option<&'p Table>
+/// The pattern that an entry rests on.
+pub(crate) fn base_of<'p>(patterns: &'p [Value], entry: &Table) -> Option<&'p Table>
     ensures { option_map (λ keys. table_view keys.now) result ≡ spec.base_of (map view patterns.now) (table_view entry.now) }
 {
     match text_at(entry, "pattern") {
@@ -304,7 +304,7 @@ fn table_of(alloc: Global, value: Option<&Value>) -> Result<Table, AllocError>
 }
 
 /// A plan without its patterns and ways, and with all its trains written out.
-pub fn written_out(alloc: Global, text: Table) -> Result<Table, AllocError>
+pub(crate) fn written_out(alloc: Global, text: Table) -> Result<Table, AllocError>
     ensures { IfOk result (λ plan. table_view plan ≡ spec.expanded (table_view text)) }
 {
     let mut plan = text;

@@ -10,6 +10,7 @@ use Rattle.plan_document.specs.Tracks.{has_free_ends, is_no_switch, keeps}
 use Rattle.plan_document.specs.declared.plan.Plan.{Plan}
 use Rattle.plan_document.specs.declared.plan.TablePlan.{TablePlan}
 use Rattle.plan_document.specs.declared.plan.Wait.{Wait}
+use Rattle.plan_patterns.specs.Expanded.{expanded}
 use Rattle.plan_reading.specs.Agreeing.{agree_all, is_name, value_at, text_at, list_at, is_named, is_route, says_yes, is_exit, names_place, names_train, starts_at, is_due}
 use Rattle.plan_reading.specs.Held.{is_section}
 use Rattle.plan_reading.specs.Timed.{are_times}
@@ -179,7 +180,8 @@ abbrev pub IsReading : Members → PlanRead → Type 0
 IsReading text (PlanRead.Plan plan) = IsPlanOf text plan
 IsReading text (PlanRead.Faults faults) = 0 < vec_len faults
 
--- a text is read right: as a plan only if it is UTF-8 and TOML, and the plan agrees with it; with one fault at least otherwise
+-- a text is read right: as a plan only if it is UTF-8 and TOML, and the plan agrees with it, with its patterns, counts and ways
+-- written out; with one fault at least otherwise
 abbrev pub IsPlanRead : List ℕ → PlanRead → Type 0
-IsPlanRead text (PlanRead.Plan plan) = IsUtf8 text × IsSomeAnd (parse_document text) (λ document. IsPlanOf document plan)
+IsPlanRead text (PlanRead.Plan plan) = IsUtf8 text × IsSomeAnd (parse_document text) (λ document. IsPlanOf (expanded document) plan)
 IsPlanRead text (PlanRead.Faults faults) = 0 < vec_len faults

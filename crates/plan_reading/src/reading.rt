@@ -2,6 +2,7 @@
 ghost use Rattle.std.specs.Prelude.{◌<◌, IfOk, IsTrue, vec_len};
 ghost use Rattle.toml.specs.Data.{Members};
 ghost use Rattle.toml.specs.View.{table_view};
+ghost use Rattle.plan_patterns.specs.Expanded.{expanded};
 ghost use Rattle.plan_reading.specs.Said.{IsPlanOf, IsPlanRead, IsReading};
 
 use crate::agreement::agrees;
@@ -9,6 +10,7 @@ use plan_document::Plan;
 use plan_entries::{Entry, Fault, Faults, Kind};
 use plan_keys::check_types;
 use plan_making::plan_of;
+use plan_patterns::expand;
 use std::alloc::{AllocError, Global};
 use toml::Table;
 use toml::de::Error;
@@ -123,25 +125,36 @@ fn read_made(
     read_faults(alloc, faults)
 }
 
-// What a table of keys is as a plan.
-fn read_table(alloc: Global, text: &str, table: &Table) -> Result<PlanRead, AllocError>
+// What a table of keys without patterns, counts and ways is as a plan.
+fn read_plain(alloc: Global, faults: Faults, table: &Table) -> Result<PlanRead, AllocError>
     ensures { IfOk result (IsReading (table_view table.now)) }
 {
-    let mut faults = Faults::new(alloc, text)?;
+    let mut faults = faults;
     let top = Entry::part(Kind::Top, Some(table));
     check_types(&mut faults, &top);
     let plan = plan_of(&mut faults, &top);
     read_made(alloc, faults, table, plan)
 }
 
+// What a table of keys is as a plan.
+fn read_table(alloc: Global, text: &str, table: Table) -> Result<PlanRead, AllocError>
+    ensures { IfOk result (IsReading (expanded (table_view table))) }
+{
+    let mut faults = Faults::new(alloc, text)?;
+    match expand(&mut faults, table)? {
+        Some(plain) => read_plain(alloc, faults, &plain),
+        None => read_faults(alloc, faults),
+    }
+}
+
 /// Reads a plan in TOML. All that is wrong with it is reported, with lines and names.
 ///
 /// The keys at the top are `lines` (lists of points, each linked to the next), `switches` (points), `open`, `zones` (a
-/// table: the number of a zone, and its points; those in none are in zone 0), and the lists of tables `train`, `section`,
-/// `connection` and `table`. Points and links are those of `lines`, and routes keep to them: they pass a switch as a line
-/// does, or from the end of a line to the end of another, and neither begin nor end at one. If there are no lines, or `open`
-/// is true, those of the routes follow, in the order in which they are first named. The second time that a point comes on a
-/// route is called `"M#2"` where a place is meant.
+/// table: the number of a zone, and its points; those in none are in zone 0), `ways`, and the lists of tables `pattern`, `train`,
+/// `section`, `connection` and `table`. Points and links are those of `lines`, and routes keep to them: they pass a switch as a
+/// line does, or from the end of a line to the end of another, and neither begin nor end at one. If there are no lines, or
+/// `open` is true, those of the routes follow, in the order in which they are first named. The second time that a point comes
+/// on a route is called `"M#2"` where a place is meant.
 ///
 /// - A train has a `name`, a `route`, and may have a `start` (else its first place), `exit` (else false) and `times`: a number
 ///   for each step, or a table of them by steps, as `"A B" = 3`, with a `default` for the others (else 1).
@@ -157,6 +170,9 @@ fn read_table(alloc: Global, text: &str, table: &Table) -> Result<PlanRead, Allo
 /// - A table is a further one, in force after `after` moves at the earliest. Its `train` lists trains with what differs from
 ///   the first table: `route`, `exit`, `times`. Its `section` and `connection`, if there are any, replace those of the first
 ///   table, which else hold by the names of their points.
+/// - A pattern has a `name` and any other keys of a train; a train, or another pattern, with `pattern` takes those that it lacks
+///   itself. A train with a `count` stands for as many, with the numbers from 1 on in place of each `{}` in its texts. `ways` is
+///   a table of lists of points: in a route, `"@out"` stands for those of the way `out`, and `"@-out"` for them from its end on.
 ///
 /// A plan that is given has been compared with the text once more, and is what it says in all of this but the links, and
 /// which points there are and in which order.
@@ -170,7 +186,7 @@ pub fn read_plan(alloc: Global, text: &[u8]) -> Result<PlanRead, AllocError>
         }
     };
     match toml::table_from_str(alloc, words) {
-        Ok(table) => read_table(alloc, words, &table),
+        Ok(table) => read_table(alloc, words, table),
         Err(error) => not_toml(alloc, text, &error),
     }
 }

@@ -5,6 +5,7 @@ ghost use Rattle.plan_suspects.specs.Suspects.{has_suspects};
 use crate::{Suspect, suspects};
 use plan_document::Plan;
 use plan_entries::{Entry, Fault, Faults, Kind, Part};
+use plan_patterns::expand;
 use std::alloc::{AllocError, Global};
 use toml::Table;
 
@@ -57,14 +58,16 @@ fn tell(remarks: &mut Faults, top: &Entry, plan: &Plan, suspect: &Suspect) {
 fn told_of(
     alloc: Global,
     text: &str,
-    keys: &Table,
+    keys: Table,
     plan: &Plan,
     found: &[Suspect],
 ) -> Result<Vec<Fault>, AllocError> {
     let mut remarks = Faults::new(alloc, text)?;
-    let top = Entry::part(Kind::Top, Some(keys));
-    for suspect in found {
-        tell(&mut remarks, &top, plan, suspect);
+    if let Some(keys) = expand(&mut remarks, keys)? {
+        let top = Entry::part(Kind::Top, Some(&keys));
+        for suspect in found {
+            tell(&mut remarks, &top, plan, suspect);
+        }
     }
     remarks.into_list()
 }
@@ -80,7 +83,7 @@ fn told(
         return Ok(Vec::new(alloc));
     };
     match toml::table_from_str(alloc, words) {
-        Ok(keys) => told_of(alloc, words, &keys, plan, found),
+        Ok(keys) => told_of(alloc, words, keys, plan, found),
         Err(_) => Err(AllocError),
     }
 }

@@ -1,0 +1,114 @@
+// How many points there are along each way.
+use crate::names::check_name;
+use crate::ways::name_in;
+use plan_entries::{Entry, Faults, Kind, Part};
+use std::alloc::{AllocError, Global};
+use toml::{Table, Value};
+
+// How many points a way, and a route with ways, may have.
+const MOST_POINTS: usize = 128;
+
+/// The ways of a plan, with how many points there are along each, as far as that is known.
+#[derive(Drop)]
+pub(crate) struct Ways<'t> {
+    names: Vec<&'t str>,
+    lists: Vec<&'t [Value]>,
+    lengths: Vec<Option<usize>>,
+}
+
+impl<'t> Ways<'t> {
+    /// The ways of a table, if there is one.
+    pub fn new(alloc: Global, table: Option<&'t Table>) -> Result<Ways<'t>, AllocError> {
+        let mut ways = Ways {
+            names: Vec::new(alloc),
+            lists: Vec::new(alloc),
+            lengths: Vec::new(alloc),
+        };
+        if let Some(table) = table {
+            ways.add_all(table)?;
+            for _ in 0..ways.lists.len() {
+                ways.measure();
+            }
+        }
+        Ok(ways)
+    }
+
+    // Adds the ways of a table.
+    fn add_all(&mut self, table: &'t Table) -> Result<(), AllocError> {
+        for (name, value) in table.iter() {
+            if let Some(list) = value.as_array() {
+                self.names.push(name.as_str())?;
+                self.lists.push(list.as_slice())?;
+                self.lengths.push(None)?;
+            }
+        }
+        Ok(())
+    }
+
+    // How many points an item stands for, if that is known.
+    fn points_of(&self, item: &Value) -> Option<usize> {
+        let Some(name) = name_in(item) else {
+            return Some(1);
+        };
+        for (index, known) in self.names.iter().enumerate() {
+            if *known == name {
+                return self.lengths.get(index).copied().unwrap_or(None);
+            }
+        }
+        Some(1)
+    }
+
+    // How many points items stand for, if that is known.
+    fn points_along(&self, items: &[Value]) -> Option<usize> {
+        let mut all = 0usize;
+        for item in items {
+            all = all.saturating_add(self.points_of(item)?);
+        }
+        Some(all)
+    }
+
+    // Measures each way whose own ways are measured.
+    fn measure(&mut self) {
+        for index in 0..self.lists.len() {
+            let list = self.lists.get(index).copied().unwrap_or(&[]);
+            let length = self.points_along(list);
+            if let Some(slot) = self.lengths.get_mut(index) {
+                *slot = length;
+            }
+        }
+    }
+
+    /// Tells each way among items that isn't known, and that they are too many points.
+    pub fn check_items<'x>(&'x self, faults: &mut Faults, at: &Entry<'x>, items: &'x [Value]) {
+        for item in items {
+            if let Some(name) = name_in(item) {
+                check_name(faults, &at.of(name), "way", name, &self.names);
+            }
+        }
+        if let Some(points) = self.points_along(items)
+            && MOST_POINTS < points
+        {
+            let parts = [Part::Count(points), Part::Count(MOST_POINTS)];
+            faults.tell(at, "these are {} points; {} are the most", &parts);
+        }
+    }
+
+    /// Tells what is wrong with each way: ways in it that aren't known, and that it comes to itself.
+    pub fn check(&self, faults: &mut Faults) {
+        for index in 0..self.lists.len() {
+            let name = self.names.get(index).copied().unwrap_or("");
+            let at = Entry::part(Kind::Ways, None);
+            let at = at.at(name);
+            let list = self.lists.get(index).copied().unwrap_or(&[]);
+            self.check_items(faults, &at, list);
+            if self.points_along(list).is_none() {
+                faults.tell(&at, "way {} has itself within it", &[Part::Name(name)]);
+            }
+        }
+    }
+
+    /// How many there are.
+    pub fn count(&self) -> usize {
+        self.lists.len()
+    }
+}
