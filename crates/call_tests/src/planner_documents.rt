@@ -156,7 +156,7 @@ limit = 1
 points = ["M", "N"]
 ----
 T0 is at M, place 1 of 3, and wants N: it may
-T1 is at C, place 0 of 3, and wants N: section 0 has no room for 1 more, 1 of 1 are taken; T0 has 1
+T1 is at C, place 0 of 3, and wants N: section "corridor" has no room for 1 more, 1 of 1 are taken; T0 has 1
 The state isn't stuck: a train may move.
 ====
 lint

@@ -47,7 +47,7 @@ notes_there (Layout table at) input document names works notes = absurd notes
 
 module _ (order : Order) (former : Option (Bor (List ℕ))) (input document : List ℕ) (names : List (Vec (String Global) Global)) (works : WorksOn order input document names) where
   -- the answer for what an order works on is its answer to the input
-  pub answer_there : (a : Answer) → IsAnswerFor order former document a → IsAnswerTo order former input a
+  pub answer_there : (a : Answer) → IsAnswerFor order former document names a → IsAnswerTo order former input a
   answer_there (Text text) is = record { document = document; names = names; works = works; is_text = is }
   answer_there (Remarks lines) is = is
   answer_there (Noted text lines) is =

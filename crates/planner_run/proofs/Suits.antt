@@ -1,5 +1,5 @@
 -- What an order comes to, told by what its answer is.
-use Rattle.std.proofs.Common.{◌≡◌, ◌⊎◌, inl, inr, ℕ, List, Option, Some, None, subst}
+use Rattle.std.proofs.Common.{◌≡◌, ◌⊎◌, inl, inr, ℕ, List, Option, Some, None, String, Vec, Global, subst}
 use Rattle.std.specs.Prelude.{Result, Ok, Err, IfOk, IfSome, string_bytes}
 use Rattle.planner_words.specs.declared.orders.Effort.{Effort}
 use Rattle.planner_words.specs.declared.orders.Order.{Order}
@@ -10,49 +10,49 @@ use Rattle.planner_run.specs.declared.answer.Answer.TheVariants.{Text, Remarks, 
 use denote.Ref.{Bor}
 
 -- for an order of whose faults nothing is said
-pub if_text_answers : (order : Order) (former : Option (Bor (List ℕ))) (input : List ℕ) (a : Answer) → ((lines : List ℕ) → AreWrongFor order input lines) → IfText (IsTextFor order former input) a → IsAnswerFor order former input a
-if_text_answers order former input (Text text) unsaid holds = holds
-if_text_answers order former input (Remarks lines) unsaid holds = absurd holds
-if_text_answers order former input (Noted text lines) unsaid holds = absurd holds
-if_text_answers order former input (Wrong lines) unsaid holds = unsaid (string_bytes lines)
+pub if_text_answers : (order : Order) (former : Option (Bor (List ℕ))) (input : List ℕ) (names : List (Vec (String Global) Global)) (a : Answer) → ((lines : List ℕ) → AreWrongFor order input lines) → IfText (IsTextFor order former input names) a → IsAnswerFor order former input names a
+if_text_answers order former input names (Text text) unsaid holds = holds
+if_text_answers order former input names (Remarks lines) unsaid holds = absurd holds
+if_text_answers order former input names (Noted text lines) unsaid holds = absurd holds
+if_text_answers order former input names (Wrong lines) unsaid holds = unsaid (string_bytes lines)
 
-pub planning_answers : (former : Option (Bor (List ℕ))) (input : List ℕ) (a : Answer) → IsPlanning input a → IsAnswerFor OfPlan former input a
-planning_answers former input (Text text) holds = holds
-planning_answers former input (Remarks lines) holds = absurd holds
-planning_answers former input (Noted text lines) holds = holds
-planning_answers former input (Wrong lines) holds = tt
+pub planning_answers : (former : Option (Bor (List ℕ))) (input : List ℕ) (names : List (Vec (String Global) Global)) (a : Answer) → IsPlanning input a → IsAnswerFor OfPlan former input names a
+planning_answers former input names (Text text) holds = holds
+planning_answers former input names (Remarks lines) holds = absurd holds
+planning_answers former input names (Noted text lines) holds = holds
+planning_answers former input names (Wrong lines) holds = tt
 
-pub certifying_answers : (budget : ℕ) (effort : Effort) (former : Option (Bor (List ℕ))) (input : List ℕ) (a : Answer) → IsCertifying input budget a → IsAnswerFor (Certify budget effort) former input a
-certifying_answers budget effort former input (Text text) holds = holds
-certifying_answers budget effort former input (Remarks lines) holds = absurd holds
-certifying_answers budget effort former input (Noted text lines) holds = absurd holds
-certifying_answers budget effort former input (Wrong lines) holds = holds
+pub certifying_answers : (budget : ℕ) (effort : Effort) (former : Option (Bor (List ℕ))) (input : List ℕ) (names : List (Vec (String Global) Global)) (a : Answer) → IsCertifying input budget a → IsAnswerFor (Certify budget effort) former input names a
+certifying_answers budget effort former input names (Text text) holds = holds
+certifying_answers budget effort former input names (Remarks lines) holds = absurd holds
+certifying_answers budget effort former input names (Noted text lines) holds = absurd holds
+certifying_answers budget effort former input names (Wrong lines) holds = holds
 
-pub lint_answers : (before former : Option (Bor (List ℕ))) (input : List ℕ) (a : Answer) → IsLinted former input a → IsAnswerFor (Lint before) former input a
-lint_answers before former input (Text text) linted = linted
-lint_answers before former input (Remarks lines) linted = tt
-lint_answers before former input (Noted text lines) linted = absurd linted
-lint_answers before former input (Wrong lines) linted = tt
+pub lint_answers : (before former : Option (Bor (List ℕ))) (input : List ℕ) (names : List (Vec (String Global) Global)) (a : Answer) → IsLinted former input a → IsAnswerFor (Lint before) former input names a
+lint_answers before former input names (Text text) linted = linted
+lint_answers before former input names (Remarks lines) linted = tt
+lint_answers before former input names (Noted text lines) linted = absurd linted
+lint_answers before former input names (Wrong lines) linted = tt
 
-pub ordering_answers : (former : Option (Bor (List ℕ))) (input : List ℕ) (a : Answer) → IsOrdering input a → IsAnswerFor AddOrders former input a
-ordering_answers former input (Text text) holds = absurd holds
-ordering_answers former input (Remarks lines) holds = absurd holds
-ordering_answers former input (Noted text lines) holds = (tt, holds)
-ordering_answers former input (Wrong lines) holds = tt
+pub ordering_answers : (former : Option (Bor (List ℕ))) (input : List ℕ) (names : List (Vec (String Global) Global)) (a : Answer) → IsOrdering input a → IsAnswerFor AddOrders former input names a
+ordering_answers former input names (Text text) holds = absurd holds
+ordering_answers former input names (Remarks lines) holds = absurd holds
+ordering_answers former input names (Noted text lines) holds = (tt, holds)
+ordering_answers former input names (Wrong lines) holds = tt
 
-pub run_ordering_answers : (seed : ℕ) (journal former : Option (Bor (List ℕ))) (input : List ℕ) (a : Answer) → IsOrderingByRun input a →
-    IsAnswerFor (OrderByRun seed journal) former input a
-run_ordering_answers seed journal former input (Text text) holds = absurd holds
-run_ordering_answers seed journal former input (Remarks lines) holds = absurd holds
-run_ordering_answers seed journal former input (Noted text lines) holds = (tt, holds)
-run_ordering_answers seed journal former input (Wrong lines) holds = tt
+pub run_ordering_answers : (seed : ℕ) (journal former : Option (Bor (List ℕ))) (input : List ℕ) (names : List (Vec (String Global) Global)) (a : Answer) → IsOrderingByRun input a →
+    IsAnswerFor (OrderByRun seed journal) former input names a
+run_ordering_answers seed journal former input names (Text text) holds = absurd holds
+run_ordering_answers seed journal former input names (Remarks lines) holds = absurd holds
+run_ordering_answers seed journal former input names (Noted text lines) holds = (tt, holds)
+run_ordering_answers seed journal former input names (Wrong lines) holds = tt
 
-pub protecting_answers : (budget : ℕ) (effort : Effort) (rounds : ℕ) (former : Option (Bor (List ℕ))) (input : List ℕ) (a : Answer) →
-    IsProtecting input a → IsAnswerFor (Protect budget effort rounds) former input a
-protecting_answers budget effort rounds former input (Text text) holds = absurd holds
-protecting_answers budget effort rounds former input (Remarks lines) holds = absurd holds
-protecting_answers budget effort rounds former input (Noted text lines) holds = (tt, holds)
-protecting_answers budget effort rounds former input (Wrong lines) holds = holds
+pub protecting_answers : (budget : ℕ) (effort : Effort) (rounds : ℕ) (former : Option (Bor (List ℕ))) (input : List ℕ) (names : List (Vec (String Global) Global)) (a : Answer) →
+    IsProtecting input a → IsAnswerFor (Protect budget effort rounds) former input names a
+protecting_answers budget effort rounds former input names (Text text) holds = absurd holds
+protecting_answers budget effort rounds former input names (Remarks lines) holds = absurd holds
+protecting_answers budget effort rounds former input names (Noted text lines) holds = (tt, holds)
+protecting_answers budget effort rounds former input names (Wrong lines) holds = holds
 
 -- what is wrong is no document with orders
 pub wrong_orders : (input : List ℕ) (a : Answer) → IfText (λ text. ⊥) a → IsOrdering input a

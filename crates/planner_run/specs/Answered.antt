@@ -71,27 +71,27 @@ TellsState D t p run (NoTable tables words) text = ⊥
 TellsState D t p run (NoDocument refused words) text = ⊥
 TellsState D t p run (NoLine words) text = ⊥
 
--- The text explains positions under table t of the document, and tells of runs to them if this is asked for.
-pub record ExplainsPlacesIn (D : Doc) (t : ℕ) (p : List ℕ) (run : Bool) (text : List ℕ) : Type 0 where
+-- The text explains positions under table t of the document, by these names of sections, and tells of runs to them if this is asked for.
+pub record ExplainsPlacesIn (D : Doc) (names : List (Vec (String Global) Global)) (t : ℕ) (p : List ℕ) (run : Bool) (text : List ℕ) : Type 0 where
   pub told : Explained
-  pub explains : ExplainsIn D t p told
+  pub explains : ExplainsIn D names t p told
   pub tells : TellsState D t p run told text
 
 -- The input is a document, and the text explains the positions that the words name, under the table that they name, and tells of runs to
 -- them if this is asked for.
-pub record ExplainsPlaces (input table_words place_words : List ℕ) (run : Bool) (text : List ℕ) : Type 0 where
+pub record ExplainsPlaces (input : List ℕ) (names : List (Vec (String Global) Global)) (table_words place_words : List ℕ) (run : Bool) (text : List ℕ) : Type 0 where
   pub document : Doc
   pub table : ℕ
   pub places : List ℕ
   pub is_read : doc_of input ≡ Ok document
   pub is_table : number_of table_words ≡ Some table
   pub are_places : place_words ≡ places_words places
-  pub explains : ExplainsPlacesIn document table places run text
+  pub explains : ExplainsPlacesIn document names table places run text
 
 -- The text explains a line of ats.
-pub record ExplainsWords (input line text : List ℕ) : Type 0 where
+pub record ExplainsWords (input : List ℕ) (names : List (Vec (String Global) Global)) (line text : List ℕ) : Type 0 where
   pub told : Explained
-  pub explains : ExplainsLine input line told
+  pub explains : ExplainsLine input names line told
   pub tells : ExplainsAs told text
 
 -- The text is the graph of a timed run: a picture with one row for each point, by its name, and one mark for each step.
@@ -179,26 +179,26 @@ IsWorkedOn order input Itself = WorksOn order input input []
 IsWorkedOn order input (AsDocument text names) = WorksOn order input text.items names.items
 IsWorkedOn order input (Mistaken lines) = begins_as_document input ≡ false
 
--- The text is what an order comes to on a document, with a former one for remarks.
-abbrev pub IsTextFor : Order → Option (Bor (List ℕ)) → List ℕ → List ℕ → Type 0
-IsTextFor OfPlan former input text = IsPlanned input text
-IsTextFor (ExplainState table at run) former input text = ExplainsPlaces input table.now at.now run text
-IsTextFor (ExplainLine line) former input text = ExplainsWords input line.now text
-IsTextFor (Lint before) former input text = HasNoRemarks former input text
-IsTextFor (Certify budget effort) former input text = IsCertifiedInput input budget text
-IsTextFor (Protect budget effort rounds) former input text = IsProtectedInput input text
-IsTextFor AddOrders former input text = IsOrderedInput input text
-IsTextFor (OrderByRun seed journal) former input text = IsInputByRun input text
-IsTextFor (Timetable csv journal) former input text = IsTimetableText input csv text
-IsTextFor (Graph train journal) former input text = IsGraphText input text
-IsTextFor (Layout table at) former input text = IsLayoutText input table.now at text
+-- The text is what an order comes to on a document, with a former one for remarks, and with names of sections for explanations.
+abbrev pub IsTextFor : Order → Option (Bor (List ℕ)) → List ℕ → List (Vec (String Global) Global) → List ℕ → Type 0
+IsTextFor OfPlan former input names text = IsPlanned input text
+IsTextFor (ExplainState table at run) former input names text = ExplainsPlaces input names table.now at.now run text
+IsTextFor (ExplainLine line) former input names text = ExplainsWords input names line.now text
+IsTextFor (Lint before) former input names text = HasNoRemarks former input text
+IsTextFor (Certify budget effort) former input names text = IsCertifiedInput input budget text
+IsTextFor (Protect budget effort rounds) former input names text = IsProtectedInput input text
+IsTextFor AddOrders former input names text = IsOrderedInput input text
+IsTextFor (OrderByRun seed journal) former input names text = IsInputByRun input text
+IsTextFor (Timetable csv journal) former input names text = IsTimetableText input csv text
+IsTextFor (Graph train journal) former input names text = IsGraphText input text
+IsTextFor (Layout table at) former input names text = IsLayoutText input table.now at text
 
 -- The text is what an order comes to on an input: on what it works on.
 pub record IsTextOn (order : Order) (former : Option (Bor (List ℕ))) (input text : List ℕ) : Type 0 where
   pub document : List ℕ
   pub names : List (Vec (String Global) Global)
   pub works : WorksOn order input document names
-  pub is_text : IsTextFor order former document text
+  pub is_text : IsTextFor order former document names text
 
 -- The lines are what is wrong with a document for an order. Only of those of `certify` and `protect` anything is said.
 abbrev pub AreWrongFor : Order → List ℕ → List ℕ → Type 0
@@ -290,11 +290,11 @@ SaysWrong Holds (Wrong lines) = Holds (string_bytes lines)
 
 -- The answer is what an order comes to on a document, with remarks only where it asks for them and notes only where it has them, or what is
 -- wrong with the document.
-abbrev pub IsAnswerFor : Order → Option (Bor (List ℕ)) → List ℕ → Answer → Type 0
-IsAnswerFor order former document (Text text) = IsTextFor order former document text.items
-IsAnswerFor order former document (Remarks lines) = AsksForRemarks order
-IsAnswerFor order former document (Noted text lines) = HasNotes order (Some document) × IsTextFor order former document text.items
-IsAnswerFor order former document (Wrong lines) = AreWrongFor order document (string_bytes lines)
+abbrev pub IsAnswerFor : Order → Option (Bor (List ℕ)) → List ℕ → List (Vec (String Global) Global) → Answer → Type 0
+IsAnswerFor order former document names (Text text) = IsTextFor order former document names text.items
+IsAnswerFor order former document names (Remarks lines) = AsksForRemarks order
+IsAnswerFor order former document names (Noted text lines) = HasNotes order (Some document) × IsTextFor order former document names text.items
+IsAnswerFor order former document names (Wrong lines) = AreWrongFor order document (string_bytes lines)
 
 -- The same of an input, which is a document or a plan.
 abbrev pub IsAnswerTo : Order → Option (Bor (List ℕ)) → List ℕ → Answer → Type 0

@@ -50,27 +50,30 @@ pub fn answer_to<W: Watcher>(
     ensures { IfOk result (IsAnswerTo order.now former.entry input.now) }
 {
     match standing_for(alloc, order, input)? {
-        Standing::Itself => answer_for(alloc, order, input, former, watcher),
-        Standing::Plan { text, .. } => answer_for(alloc, order, &text, former, watcher),
+        Standing::Itself => answer_for(alloc, order, input, &[], former, watcher),
+        Standing::Plan { text, names } => answer_for(alloc, order, &text, &names, former, watcher),
         Standing::Wrong(lines) => Ok(Answer::Wrong(lines)),
     }
 }
 
-// What an order comes to on a document, with what stands behind it; for `plan`, on a plan.
+// What an order comes to on a document, with what stands behind it, and the names of the sections of each table; for `plan`, on a plan.
 #[tactic(auto, using(crate::proofs::Suits::if_text_answers, crate::proofs::Suits::planning_answers, crate::proofs::Suits::lint_answers, crate::proofs::Suits::certifying_answers, crate::proofs::Suits::ordering_answers, crate::proofs::Suits::run_ordering_answers, crate::proofs::Suits::protecting_answers))]
 fn answer_for<W: Watcher>(
     alloc: Global,
     order: &Order<'_>,
     document: &[u8],
+    names: &[Vec<String>],
     former: Option<&[u8]>,
     watcher: &W,
 ) -> Result<Answer, AllocError>
-    ensures { IfOk result (IsAnswerFor order.now former.entry document.now) }
+    ensures { IfOk result (IsAnswerFor order.now former.entry document.now names.now) }
 {
     match order {
         Order::Plan => plan(alloc, document),
-        Order::ExplainState { table, at, run } => explain_state(alloc, document, table, at, *run),
-        Order::ExplainLine { line } => explain_line(alloc, document, line),
+        Order::ExplainState { table, at, run } => explain_state(
+            alloc, document, names, table, at, *run,
+        ),
+        Order::ExplainLine { line } => explain_line(alloc, document, names, line),
         Order::Lint { .. } => remarks(alloc, document, former),
         Order::Certify { budget, effort } => certify(alloc, document, *budget, *effort, watcher),
         Order::Protect {

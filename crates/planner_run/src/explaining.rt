@@ -26,16 +26,17 @@ pub(crate) fn wrong(alloc: Global, line: &str) -> Result<Answer, AllocError>
     Ok(Answer::Wrong(String::from_str(alloc, line)?))
 }
 
-/// What holds each train at these places, under a table of the document that the input is; with `run`, also what is known of runs from the start to
-/// a legal state.
+/// What holds each train at these places, under a table of the document that the input is, by the names of the sections of each table; with
+/// `run`, also what is known of runs from the start to a legal state.
 pub(crate) fn state(
     alloc: Global,
     input: &[u8],
+    names: &[Vec<String>],
     table: &str,
     at: &str,
     run: bool,
 ) -> Result<Answer, AllocError>
-    ensures { IfOk result (IfText (ExplainsPlaces input.now table.now at.now run)) }
+    ensures { IfOk result (IfText (ExplainsPlaces input.now names.now table.now at.now run)) }
 {
     let Some(table) = number_of(table.as_bytes()) else {
         return wrong(alloc, NO_TABLE);
@@ -46,7 +47,7 @@ pub(crate) fn state(
     let mut scratch = Scratch::new(alloc);
     let read = document_kept(alloc, input, &mut scratch);
     match &read.document {
-        Ok(doc) => state_in(alloc, doc, table, places, run),
+        Ok(doc) => state_in(alloc, doc, names, table, places, run),
         Err(DocRefused::Memory) => Err(AllocError),
         Err(refused) => Ok(Answer::Wrong(no_document_text(alloc, &read.value, refused)?)),
     }
@@ -56,13 +57,14 @@ pub(crate) fn state(
 fn state_in(
     alloc: Global,
     doc: &Doc,
+    names: &[Vec<String>],
     table: u32,
     places: Vec<u32>,
     run: bool,
 ) -> Result<Answer, AllocError>
-    ensures { IfOk result (IfText (ExplainsPlacesIn doc.now table places.items run)) }
+    ensures { IfOk result (IfText (ExplainsPlacesIn doc.now names.now table places.items run)) }
 {
-    let explained = explain_places(alloc, doc, table, &places)?;
+    let explained = explain_places(alloc, doc, names, table, &places)?;
     with_run(alloc, doc, table, places, run, explained)
 }
 
@@ -102,11 +104,16 @@ fn add_run(
     Ok(Answer::Text(text.into_bytes()))
 }
 
-/// What a line of `ats` means for the document that the input is.
-pub(crate) fn line(alloc: Global, input: &[u8], line: &str) -> Result<Answer, AllocError>
-    ensures { IfOk result (IfText (ExplainsWords input.now line.now)) }
+/// What a line of `ats` means for the document that the input is, by the names of the sections of each table.
+pub(crate) fn line(
+    alloc: Global,
+    input: &[u8],
+    names: &[Vec<String>],
+    line: &str,
+) -> Result<Answer, AllocError>
+    ensures { IfOk result (IfText (ExplainsWords input.now names.now line.now)) }
 {
-    Ok(answer_of(explain_line(alloc, input, line)?))
+    Ok(answer_of(explain_line(alloc, input, names, line)?))
 }
 
 // An explanation as an answer: what explains nothing says what is wrong.

@@ -15,6 +15,8 @@ pub struct Placed<'a> {
     pub table: &'a Table,
     /// The number of the table.
     pub number: u32,
+    /// The names of the table's sections; a section has none if its name is empty or missing.
+    pub sections: &'a [String],
     pub places: &'a [u32],
 }
 
@@ -121,8 +123,8 @@ fn write_over(out: &mut Text, placed: &Placed, section: u32, count: u32, limit: 
     let table = placed.table;
     out.say("they take ");
     out.say_number(u64::from(count));
-    out.say(" of section ");
-    out.say_number(u64::from(section));
+    out.say(" of ");
+    out.say_section(placed.sections, section);
     if let Some(section) = table.sections().get(section as usize) {
         let ways = Ways::Numbers(table.missions(), layout_of(placed.doc));
         write_section_points(out, section, ways);

@@ -28,29 +28,23 @@ fn no_line_text(alloc: Global, line: &str) -> Result<String, AllocError> {
     Ok(text)
 }
 
-// What a line that names no state is explained with.
-fn explain_words(
+/// What a line of `ats` says of a document. The line may begin with `ats: ` or with its number. One that names a state
+/// is explained as [`explain_state`] does it, by the names of the sections of each table; of any other it says what it means,
+/// where, and what to do about it.
+pub fn explain_line(
     alloc: Global,
     bytes: &[u8],
-    words: &str,
+    names: &[Vec<String>],
     line: &str,
 ) -> Result<Explained, AllocError>
-    ensures { IfOk result (ExplainsLine bytes.now line.now) }
-{
-    match meaning_of(alloc, bytes, words)? {
-        Some(text) => Ok(Explained::Refusal(text)),
-        None => Ok(Explained::NoLine(no_line_text(alloc, line)?)),
-    }
-}
-
-/// What a line of `ats` says of a document. The line may begin with `ats: ` or with its number. One that names a state
-/// is explained as [`explain_state`] does it; of any other it says what it means, where, and what to do about it.
-pub fn explain_line(alloc: Global, bytes: &[u8], line: &str) -> Result<Explained, AllocError>
-    ensures { IfOk result (ExplainsLine bytes.now line.now) }
+    ensures { IfOk result (ExplainsLine bytes.now names.now line.now) }
 {
     let words = words_of(line);
     match state_of(alloc, words)? {
-        Some(at) => explain_state(alloc, bytes, at.table, at.state.as_slice()),
-        None => explain_words(alloc, bytes, words, line),
+        Some(at) => explain_state(alloc, bytes, names, at.table, at.state.as_slice()),
+        None => match meaning_of(alloc, bytes, words)? {
+            Some(text) => Ok(Explained::Refusal(text)),
+            None => Ok(Explained::NoLine(no_line_text(alloc, line)?)),
+        },
     }
 }

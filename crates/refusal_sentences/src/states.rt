@@ -5,7 +5,7 @@ ghost use Rattle.legal_state.specs.Illegal.{IsIllegal};
 ghost use Rattle.document_json.specs.Doc.{IsDoc, names_of, table_at};
 ghost use Rattle.document_json.specs.Reading.{doc_of};
 ghost use Rattle.state_sentences.specs.Tells.{Tells};
-ghost use Rattle.refusal_sentences.specs.Explains.{ExplainsState, ExplainsIn};
+ghost use Rattle.refusal_sentences.specs.Explains.{ExplainsState, ExplainsIn, sections_named};
 
 use crate::Explained;
 use document_json::{Doc, DocRefused, document_kept, names_of, table_of, tables_of};
@@ -16,23 +16,34 @@ use refusal_meanings::{Placed, no_document_text, no_table_text, not_legal_text};
 use state_sentences::{Scene, text_of};
 use std::alloc::{AllocError, Global};
 
+// The names of the sections of a table, of those of all tables.
+fn sections_of(names: &[Vec<String>], table: u32) -> &[String]
+    ensures { result.now ≡ sections_named names.now table }
+{
+    match names.get(table as usize) {
+        Some(sections) => sections.as_slice(),
+        None => &[],
+    }
+}
+
 // How a legal state is explained under a table that the document has.
 fn explain_legal(
     alloc: Global,
     doc: &Doc,
+    names: &[Vec<String>],
     table: u32,
     state: &State,
 ) -> Result<Explained, AllocError>
     requires within { table < length doc.now.tables }
     requires legal { Legal (table_at doc.now table) state.now }
-    ensures { IfOk result (ExplainsIn doc.now table state.now) }
+    ensures { IfOk result (ExplainsIn doc.now names.now table state.now) }
 {
     let scene = Scene {
         names: names_of(doc),
         table: table_of(doc, table),
         state,
     };
-    let text = text_of(alloc, &scene, table)?;
+    let text = text_of(alloc, &scene, sections_of(names, table), table)?;
     Ok(Explained::State(text))
 }
 
@@ -40,20 +51,22 @@ fn explain_legal(
 fn explain_positions(
     alloc: Global,
     doc: &Doc,
+    names: &[Vec<String>],
     table: u32,
     places: &[u32],
 ) -> Result<Explained, AllocError>
     requires { table < length doc.now.tables }
-    ensures { IfOk result (ExplainsIn doc.now table places.now) }
+    ensures { IfOk result (ExplainsIn doc.now names.now table places.now) }
 {
     let state = State::from(Vec::from_slice(alloc, places)?);
     match judge(table_of(doc, table), &state) {
-        Ok(()) => explain_legal(alloc, doc, table, &state),
+        Ok(()) => explain_legal(alloc, doc, names, table, &state),
         Err(cause) => {
             let placed = Placed {
                 doc,
                 table: table_of(doc, table),
                 number: table,
+                sections: sections_of(names, table),
                 places,
             };
             let text = not_legal_text(alloc, &placed, cause)?;
@@ -62,36 +75,38 @@ fn explain_positions(
     }
 }
 
-/// What holds each train at these places, under a table of a document that was read.
+/// What holds each train at these places, under a table of a document that was read, by the names of the sections of each table.
 pub fn explain_places(
     alloc: Global,
     doc: &Doc,
+    names: &[Vec<String>],
     table: u32,
     places: &[u32],
 ) -> Result<Explained, AllocError>
-    ensures { IfOk result (ExplainsIn doc.now table places.now) }
+    ensures { IfOk result (ExplainsIn doc.now names.now table places.now) }
 {
     let tables = tables_of(doc);
     if table < tables {
-        return explain_positions(alloc, doc, table, places);
+        return explain_positions(alloc, doc, names, table, places);
     }
     let text = no_table_text(alloc, table, tables)?;
     Ok(Explained::NoTable { tables, text })
 }
 
-/// What holds each train at these places, under a table of the document.
+/// What holds each train at these places, under a table of the document, by the names of the sections of each table.
 pub fn explain_state(
     alloc: Global,
     bytes: &[u8],
+    names: &[Vec<String>],
     table: u32,
     places: &[u32],
 ) -> Result<Explained, AllocError>
-    ensures { IfOk result (ExplainsState bytes.now table places.now) }
+    ensures { IfOk result (ExplainsState bytes.now names.now table places.now) }
 {
     let mut scratch = Scratch::new(alloc);
     let read = document_kept(alloc, bytes, &mut scratch);
     match &read.document {
-        Ok(doc) => explain_places(alloc, doc, table, places),
+        Ok(doc) => explain_places(alloc, doc, names, table, places),
         Err(DocRefused::Memory) => Err(AllocError),
         Err(refused) => {
             let text = no_document_text(alloc, &read.value, refused)?;

@@ -3,13 +3,15 @@ use Rattle.std.proofs.Common.{◌≡◌, ◌∷◌, [], ℕ, zero, suc, ◌+◌,
 use Rattle.std.proofs.lemmas.Bool.{false≢true}
 use Rattle.std.specs.Prelude.{◌++◌, Some, pos, negsuc, codes}
 use Rattle.std.specs.Fmt.{digits}
+use Rattle.std.specs.Str.{chars}
 use Rattle.rail_model.specs.Names.{Names}
 use Rattle.rail_model.specs.Table.{Table, Mission, trains}
 use Rattle.state_core.proofs.Tests.{core_is_tested}
 use Rattle.state_sentences.specs.Circle.{waits_for, IsCircle, BeginsNone, IsCircleOrNone}
 use Rattle.state_sentences.specs.Knot.{IsKnotOrNone}
 use Rattle.state_sentences.specs.KnotWords.{knot_words}
-use Rattle.state_sentences.specs.Text.{cure_words, section_words}
+use Rattle.state_sentences.specs.Sections.{called_words, section_words}
+use Rattle.state_sentences.specs.Text.{cure_words, remedy_words}
 
 abbrev from_to : ℕ → ℕ → Mission
 from_to a b = record { points = a ∷ b ∷ []; exits = false }
@@ -110,13 +112,13 @@ one_alone : IsKnotOrNone shut both (1 ∷ []) → ⊥
 one_alone knot = false≢true ((core_is_tested shut both (1 ∷ [])).1 knot.core)
 
 -- its words
-two_told : knot_words names shut both [] (0 ∷ 1 ∷ [])
+two_told : knot_words names [] shut both [] (0 ∷ 1 ∷ [])
     ≡ codes "A knot: T0 waits for T1. T1 waits for section 0; T0 has 1. None of them can ever move.\n"
 unfolding digits
 two_told = refl
 
 -- a knot with the trains of the circle isn't told again
-circle_alone : knot_words names shut both (1 ∷ 0 ∷ []) (0 ∷ 1 ∷ []) ≡ []
+circle_alone : knot_words names [] shut both (1 ∷ 0 ∷ []) (0 ∷ 1 ∷ []) ≡ []
 circle_alone = refl
 
 -- T1 has arrived where T0 has to pass
@@ -127,7 +129,7 @@ behind = record {
   connections = [];
 }
 
-arrived_told : knot_words names behind (0 ∷ 1 ∷ []) [] (0 ∷ 1 ∷ [])
+arrived_told : knot_words names [] behind (0 ∷ 1 ∷ []) [] (0 ∷ 1 ∷ [])
     ≡ codes "A knot: T0 waits for T1. T1 has arrived and stays. None of them can ever move.\n"
 arrived_told = refl
 
@@ -135,7 +137,7 @@ arrived_cure : cure_words behind (0 ∷ 1 ∷ []) (0 ∷ 1 ∷ [])
     ≡ codes "A train of the knot has arrived where it is in the way: it has to come later, or to end elsewhere.\n"
 arrived_cure = refl
 
-section_cure : cure_words shut both (0 ∷ 1 ∷ []) ≡ section_words shut
+section_cure : cure_words shut both (0 ∷ 1 ∷ []) ≡ remedy_words shut
 section_cure = refl
 
 -- each waits for the other by a connection
@@ -147,8 +149,28 @@ held = record {
       record { train = 0; place = 0; other = 1; reached = 1 } ∷ record { train = 1; place = 0; other = 0; reached = 1 } ∷ [];
 }
 
-connections_told : knot_words names held (0 ∷ 0 ∷ []) [] (0 ∷ 1 ∷ [])
+connections_told : knot_words names [] held (0 ∷ 0 ∷ []) [] (0 ∷ 1 ∷ [])
     ≡ codes "A knot: T0 waits for T1 to come to place 1, by a connection. T1 waits for T0 to come to place 1, by a connection."
     ++ codes " None of them can ever move.\n"
 unfolding digits
 connections_told = refl
+
+-- ---- what sections are called
+
+called_by_name : called_words 0 (codes "corridor") ≡ codes "section \"corridor\""
+unfolding chars lib.Utf8.encode
+called_by_name = refl
+
+-- a newline in a name ends no line
+called_in_one_line : called_words 0 (97 ∷ 10 ∷ 98 ∷ []) ≡ codes "section \"a?b\""
+unfolding chars lib.Utf8.encode
+called_in_one_line = refl
+
+called_by_number : called_words 1 [] ≡ codes "section 1"
+unfolding digits
+called_by_number = refl
+
+-- a document names no sections
+unnamed : section_words [] 1 ≡ codes "section 1"
+unfolding digits
+unnamed = refl

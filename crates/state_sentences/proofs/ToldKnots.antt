@@ -25,5 +25,5 @@ knot_if_core T p [] group none core = absurd (none group core)
 knot_if_core T p (i ∷ later) group least core = least.core
 
 pub stuck_states_have_knots : StuckStatesHaveKnots
-stuck_states_have_knots N T p t text table stuck told =
+stuck_states_have_knots N S T p t text table stuck told =
     knot_if_core T p told.knot (below (trains T)) told.is_knot (stuck_states_have_cores T p table stuck)

@@ -1,5 +1,5 @@
 -- What trains are told: those that have no move, and those that have not arrived.
-use Rattle.std.proofs.Common.{◌≡◌, ℕ, List, ◌+◌, ◌++◌, subst, refl}
+use Rattle.std.proofs.Common.{◌≡◌, ℕ, List, String, Global, ◌+◌, ◌++◌, subst, refl}
 use Rattle.rail_model.specs.declared.types.Ask.{Ask}
 use Rattle.rail_model.specs.declared.types.Ask.TheVariants.{Yes, Arrived as AtEnd, Occupied, Full, Waits}
 use Rattle.rail_model.specs.Names.{Names}
@@ -14,9 +14,9 @@ pub stays : (T : Table) (p : List ℕ) (i : ℕ) (a : Ask) → Legal T p → Ans
 stays T p i a legal told other q move = other (told_once T p i a Yes legal told (subst (Move T p i) move.step move))
 
 -- the words on a train that has not arrived
-pub words_on_the_way : (N : Names) (T : Table) (p : List ℕ) (i : ℕ) (a : Ask) → (a ≡ AtEnd → ⊥) → next_words N T i (place p i + 1) ++ reason_words N T p i a ≡ told_words N T p i a
-words_on_the_way N T p i AtEnd other = absurd (other refl)
-words_on_the_way N T p i Yes other = refl
-words_on_the_way N T p i (Occupied by) other = refl
-words_on_the_way N T p i (Full s n) other = refl
-words_on_the_way N T p i (Waits c) other = refl
+pub words_on_the_way : (N : Names) (S : List (String Global)) (T : Table) (p : List ℕ) (i : ℕ) (a : Ask) → (a ≡ AtEnd → ⊥) → next_words N T i (place p i + 1) ++ reason_words N S T p i a ≡ told_words N S T p i a
+words_on_the_way N S T p i AtEnd other = absurd (other refl)
+words_on_the_way N S T p i Yes other = refl
+words_on_the_way N S T p i (Occupied by) other = refl
+words_on_the_way N S T p i (Full s n) other = refl
+words_on_the_way N S T p i (Waits c) other = refl

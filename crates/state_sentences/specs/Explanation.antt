@@ -1,5 +1,6 @@
 -- The words on the trains of a legal state, and on a circle of them.
-use Rattle.std.specs.Prelude.{◌+◌, ◌++◌, ◌∷◌, ℕ, zero, suc, pos, int_lt, List, [], codes, decimal, flat_map, Option, Some, None, slice_get, if◌then◌else◌}
+use Rattle.std.specs.Prelude.{◌+◌, ◌++◌, ◌∷◌, ℕ, zero, suc, pos, int_lt, List, [], codes, decimal, flat_map, Option, Some, None, slice_get, if◌then◌else◌, String}
+use Rattle.std.specs.declared.alloc.Global.{Global}
 use Rattle.std.specs.Fmt.{signed_decimal}
 use Rattle.rail_model.specs.declared.types.Ask.{Ask}
 use Rattle.rail_model.specs.declared.types.Ask.TheVariants.{Yes, Arrived as AtEnd, Occupied, Full, Waits}
@@ -8,6 +9,7 @@ use Rattle.rail_model.specs.Table.{Table, Connection, trains, last, limit, chang
 use Rattle.rail_model.specs.Checks.{ask}
 use Rattle.state_sentences.specs.Named.{name_at}
 use Rattle.state_sentences.specs.Circle.{waits_for}
+use Rattle.state_sentences.specs.Sections.{section_words}
 
 -- f 0 ++ f 1 ++ .. ++ f (n - 1)
 abbrev pub joined_below : (ℕ → List ℕ) → ℕ → List ℕ
@@ -46,17 +48,17 @@ holder_words N T p s i =
     else []
 
 -- a section without room
-abbrev pub room_words : ℕ → List ℕ
-room_words s = codes "section " ++ decimal s ++ codes " has no room for "
+abbrev pub room_words : List (String Global) → ℕ → List ℕ
+room_words S s = section_words S s ++ codes " has no room for "
 
 -- how much of a section is taken
 abbrev pub taken_words : ℕ → ℕ → List ℕ
 taken_words taken limit = codes " more, " ++ decimal taken ++ codes " of " ++ decimal limit ++ codes " are taken"
 
 -- a section without room for a train's move: the change, how much of it is taken, and what each train has of it
-abbrev pub full_words : Names → Table → List ℕ → ℕ → ℕ → ℕ → List ℕ
-full_words N T p i s n =
-    room_words s ++ (signed_decimal (change T i s (place p i + 1)) ++ (taken_words n (limit T s) ++ joined_below (holder_words N T p s) (trains T)))
+abbrev pub full_words : Names → List (String Global) → Table → List ℕ → ℕ → ℕ → ℕ → List ℕ
+full_words N S T p i s n =
+    room_words S s ++ (signed_decimal (change T i s (place p i + 1)) ++ (taken_words n (limit T s) ++ joined_below (holder_words N T p s) (trains T)))
 
 -- which train a connection waits for, and until which place
 abbrev pub until_words : ℕ → List ℕ → ℕ → List ℕ
@@ -69,28 +71,28 @@ wait_words N T c None = []
 wait_words N T c (Some k) = until_words c (train_name N k.other) k.reached ++ wish_words (name_at N T k.other k.reached)
 
 -- what a train is told that has not arrived
-abbrev pub reason_words : Names → Table → List ℕ → ℕ → Ask → List ℕ
-reason_words N T p i AtEnd = []
-reason_words N T p i Yes = codes "it may"
-reason_words N T p i (Occupied by) = train_name N by ++ codes " is there"
-reason_words N T p i (Full s n) = full_words N T p i s n
-reason_words N T p i (Waits c) = wait_words N T c (slice_get T.connections c)
+abbrev pub reason_words : Names → List (String Global) → Table → List ℕ → ℕ → Ask → List ℕ
+reason_words N S T p i AtEnd = []
+reason_words N S T p i Yes = codes "it may"
+reason_words N S T p i (Occupied by) = train_name N by ++ codes " is there"
+reason_words N S T p i (Full s n) = full_words N S T p i s n
+reason_words N S T p i (Waits c) = wait_words N T c (slice_get T.connections c)
 
 -- what a train wants, and what it is told
-abbrev pub told_words : Names → Table → List ℕ → ℕ → Ask → List ℕ
-told_words N T p i AtEnd = codes ", and has arrived"
-told_words N T p i Yes = next_words N T i (place p i + 1) ++ reason_words N T p i Yes
-told_words N T p i (Occupied by) = next_words N T i (place p i + 1) ++ reason_words N T p i (Occupied by)
-told_words N T p i (Full s n) = next_words N T i (place p i + 1) ++ reason_words N T p i (Full s n)
-told_words N T p i (Waits c) = next_words N T i (place p i + 1) ++ reason_words N T p i (Waits c)
+abbrev pub told_words : Names → List (String Global) → Table → List ℕ → ℕ → Ask → List ℕ
+told_words N S T p i AtEnd = codes ", and has arrived"
+told_words N S T p i Yes = next_words N T i (place p i + 1) ++ reason_words N S T p i Yes
+told_words N S T p i (Occupied by) = next_words N T i (place p i + 1) ++ reason_words N S T p i (Occupied by)
+told_words N S T p i (Full s n) = next_words N T i (place p i + 1) ++ reason_words N S T p i (Full s n)
+told_words N S T p i (Waits c) = next_words N T i (place p i + 1) ++ reason_words N S T p i (Waits c)
 
 -- the sentence on a train
-abbrev pub train_words : Names → Table → List ℕ → ℕ → List ℕ
-train_words N T p i = where_words N T p i ++ told_words N T p i (ask T p i) ++ codes "\n"
+abbrev pub train_words : Names → List (String Global) → Table → List ℕ → ℕ → List ℕ
+train_words N S T p i = where_words N T p i ++ told_words N S T p i (ask T p i) ++ codes "\n"
 
 -- the sentences on all trains
-abbrev pub trains_words : Names → Table → List ℕ → List ℕ
-trains_words N T p = joined_below (train_words N T p) (trains T)
+abbrev pub trains_words : Names → List (String Global) → Table → List ℕ → List ℕ
+trains_words N S T p = joined_below (train_words N S T p) (trains T)
 
 -- a train, and the one that it waits for
 abbrev pub pair_words : Names → ℕ → Option ℕ → List ℕ

@@ -1,4 +1,5 @@
 pub mod Named
+pub mod Sections
 pub mod Circle
 pub mod Explanation
 pub mod Knot

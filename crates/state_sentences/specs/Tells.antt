@@ -1,5 +1,6 @@
 -- What a text on a state tells.
-use Rattle.std.specs.Prelude.{◌≡◌, ℕ, List}
+use Rattle.std.specs.Prelude.{◌≡◌, ℕ, List, String}
+use Rattle.std.specs.declared.alloc.Global.{Global}
 use Rattle.rail_model.specs.Names.{Names}
 use Rattle.rail_model.specs.Table.{Table, IsTable}
 use Rattle.rail_model.specs.State as state
@@ -22,19 +23,19 @@ IsVerdict T p Arrived = state.Arrived T p
 IsVerdict T p Going = HasMove T p
 IsVerdict T p Stuck = stuck.Stuck T p
 
--- The text tells for each train of the state what it is told, a circle exactly if there is one, a knot exactly if there is one,
+-- The text tells by names of trains, points and sections: for each train of the state what it is told, a circle exactly if there is one, a knot exactly if there is one,
 -- and whether the state is stuck.
-pub record Tells (N : Names) (T : Table) (p : List ℕ) (t : ℕ) (text : List ℕ) : Type 0 where
+pub record Tells (N : Names) (S : List (String Global)) (T : Table) (p : List ℕ) (t : ℕ) (text : List ℕ) : Type 0 where
   pub circle : List ℕ
   pub knot : List ℕ
   pub verdict : Verdict
   pub is_circle : IsCircleOrNone T p circle
   pub is_knot : IsKnotOrNone T p knot
   pub is_verdict : IsVerdict T p verdict
-  pub is_text : text ≡ explanation N T p t circle knot verdict
+  pub is_text : text ≡ explanation N S T p t circle knot verdict
 
 -- Of a stuck state a text tells a knot.
 abbrev pub StuckStatesHaveKnots : Type 0
 StuckStatesHaveKnots =
-    (N : Names) (T : Table) (p : List ℕ) (t : ℕ) (text : List ℕ) → IsTable T → stuck.Stuck T p → (told : Tells N T p t text) →
+    (N : Names) (S : List (String Global)) (T : Table) (p : List ℕ) (t : ℕ) (text : List ℕ) → IsTable T → stuck.Stuck T p → (told : Tells N S T p t text) →
     IsCore T p told.knot

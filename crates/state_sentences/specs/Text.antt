@@ -1,5 +1,6 @@
 -- The text on a legal state: a sentence for each train, the circle, the knot, and whether the state is stuck.
-use Rattle.std.specs.Prelude.{◌==◌, ◌++◌, ℕ, List, length, codes, decimal, if◌then◌else◌}
+use Rattle.std.specs.Prelude.{◌==◌, ◌++◌, ℕ, List, length, codes, decimal, if◌then◌else◌, String}
+use Rattle.std.specs.declared.alloc.Global.{Global}
 use Rattle.rail_model.specs.Names.{Names}
 use Rattle.rail_model.specs.Table.{Table}
 use Rattle.state_sentences.specs.Explanation.{trains_words, circle_words}
@@ -8,8 +9,8 @@ use Rattle.state_sentences.specs.declared.closing.Verdict.{Verdict}
 use Rattle.state_sentences.specs.declared.closing.Verdict.TheVariants.{Arrived, Going, Stuck}
 
 -- that a section keeps a stuck state out
-abbrev pub section_words : Table → List ℕ
-section_words T =
+abbrev pub remedy_words : Table → List ℕ
+remedy_words T =
     if length T.connections == 0
     then codes "A section keeps it out: write one that these places overfill, or let planner protect make one.\n"
     else codes "A section keeps it out: write one that these places overfill. ats repair refuses a table with connections.\n"
@@ -19,7 +20,7 @@ abbrev pub cure_words : Table → List ℕ → List ℕ → List ℕ
 cure_words T p knot =
     if has_arrived T p knot
     then codes "A train of the knot has arrived where it is in the way: it has to come later, or to end elsewhere.\n"
-    else section_words T
+    else remedy_words T
 
 -- whether the state is stuck, and what keeps it out
 abbrev pub verdict_words : Table → List ℕ → ℕ → List ℕ → Verdict → List ℕ
@@ -30,6 +31,6 @@ verdict_words T p t knot Stuck =
     ++ codes " allow it, whether or not trains can come to it from the start.\n" ++ cure_words T p knot
 
 -- the whole text
-abbrev pub explanation : Names → Table → List ℕ → ℕ → List ℕ → List ℕ → Verdict → List ℕ
-explanation N T p t circle knot verdict =
-    trains_words N T p ++ circle_words N T p circle ++ knot_words N T p circle knot ++ verdict_words T p t knot verdict
+abbrev pub explanation : Names → List (String Global) → Table → List ℕ → ℕ → List ℕ → List ℕ → Verdict → List ℕ
+explanation N S T p t circle knot verdict =
+    trains_words N S T p ++ circle_words N T p circle ++ knot_words N S T p circle knot ++ verdict_words T p t knot verdict

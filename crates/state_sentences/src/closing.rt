@@ -1,7 +1,7 @@
 // The last sentences: whether the state is stuck, and what keeps it out.
 ghost use Rattle.std.specs.Prelude.{◌≡◌, ◌++◌, ◌↔◌, IsTrue, OnOk, string_bytes};
 ghost use Rattle.rail_model.specs.State.{Arrived};
-ghost use Rattle.state_sentences.specs.Text.{section_words, cure_words, verdict_words};
+ghost use Rattle.state_sentences.specs.Text.{remedy_words, cure_words, verdict_words};
 ghost use Rattle.state_sentences.specs.Tells.{HasMove, IsVerdict};
 
 use crate::Scene;
@@ -56,8 +56,8 @@ pub(crate) fn verdict_of(scene: &Scene) -> Verdict
 }
 
 // Adds that a section keeps a stuck state out.
-fn write_section(out: &mut String, table: &Table) -> Result<(), AllocError>
-    ensures { OnOk result (string_bytes out.new ≡ string_bytes out.old ++ section_words table.now) }
+fn write_remedy(out: &mut String, table: &Table) -> Result<(), AllocError>
+    ensures { OnOk result (string_bytes out.new ≡ string_bytes out.old ++ remedy_words table.now) }
 {
     if connections_of(table) == 0 {
         out.push_str(
@@ -79,7 +79,7 @@ fn write_cure(out: &mut String, scene: &Scene, knot: &Group) -> Result<(), Alloc
             "A train of the knot has arrived where it is in the way: it has to come later, or to end elsewhere.\n",
         )
     } else {
-        write_section(out, scene.table)
+        write_remedy(out, scene.table)
     }
 }
 

@@ -8,6 +8,7 @@ ghost use Rattle.state_sentences.specs.Knot.{IsKnotOrNone};
 ghost use Rattle.state_sentences.specs.KnotWords.{has_more as has_more_of, differ as differ_of, has_arrived as has_arrived_of, member_share_words, shut_words, keeper_words, kept_words, arrived_words, member_words, whole_knot_words, knot_words};
 
 use crate::Scene;
+use crate::naming::push_section;
 use crate::sentences::write_holder;
 use rail_model::last_of;
 use state_core::{Group, Keeper, all_below, keeper_of, least_core};
@@ -121,12 +122,18 @@ fn write_member_shares(
 }
 
 // Adds a section, and what each train of a knot has of it.
-fn write_shut(out: &mut String, scene: &Scene, knot: &Group, section: u32) -> Result<(), AllocError>
+fn write_shut(
+    out: &mut String,
+    scene: &Scene,
+    sections: &[String],
+    knot: &Group,
+    section: u32,
+) -> Result<(), AllocError>
     requires { section < length scene.now.table.now.sections }
     ensures { OnOk result (string_bytes out.new ≡ string_bytes out.old
-        ++ shut_words scene.now.names.now scene.now.table.now scene.now.state.now knot.now section) }
+        ++ shut_words scene.now.names.now sections.now scene.now.table.now scene.now.state.now knot.now section) }
 {
-    write!(out, "section {section}")?;
+    push_section(out, sections, section)?;
     write_member_shares(out, scene, knot, section)
 }
 
@@ -134,17 +141,18 @@ fn write_shut(out: &mut String, scene: &Scene, knot: &Group, section: u32) -> Re
 fn write_keeper(
     out: &mut String,
     scene: &Scene,
+    sections: &[String],
     knot: &Group,
     keeper: Option<Keeper>,
 ) -> Result<(), AllocError>
     requires { IfSome keeper (IsKeeperOf scene.now.table.now) }
     ensures { OnOk result (string_bytes out.new ≡ string_bytes out.old
-        ++ keeper_words scene.now.names.now scene.now.table.now scene.now.state.now knot.now keeper) }
+        ++ keeper_words scene.now.names.now sections.now scene.now.table.now scene.now.state.now knot.now keeper) }
 {
     match keeper {
         None => Ok(()),
         Some(Keeper::Train { train }) => out.push_str(scene.train(train)),
-        Some(Keeper::Section { section }) => write_shut(out, scene, knot, section),
+        Some(Keeper::Section { section }) => write_shut(out, scene, sections, knot, section),
         Some(Keeper::Connection { other, reached }) => {
             let name = scene.train(other);
             write!(out, "{name} to come to place {reached}, by a connection")
@@ -153,17 +161,24 @@ fn write_keeper(
 }
 
 // Adds that a train waits within a knot.
-fn write_kept(out: &mut String, scene: &Scene, knot: &Group, train: u32) -> Result<(), AllocError>
+fn write_kept(
+    out: &mut String,
+    scene: &Scene,
+    sections: &[String],
+    knot: &Group,
+    train: u32,
+) -> Result<(), AllocError>
     requires train { train < trains scene.now.table.now }
     requires unfinished { place_of scene.now.state.now train < last scene.now.table.now train }
     ensures { OnOk result (string_bytes out.new ≡ string_bytes out.old
-        ++ kept_words scene.now.names.now scene.now.table.now scene.now.state.now knot.now train) }
+        ++ kept_words scene.now.names.now sections.now scene.now.table.now scene.now.state.now knot.now train) }
 {
     let name = scene.train(train);
     write!(out, " {name} waits for ")?;
     write_keeper(
         out,
         scene,
+        sections,
         knot,
         keeper_of(scene.table, scene.state, knot, train),
     )?;
@@ -180,28 +195,39 @@ fn write_arrived(out: &mut String, scene: &Scene, train: u32) -> Result<(), Allo
 }
 
 // Adds the sentence on a train, if it is one of a knot.
-fn write_member(out: &mut String, scene: &Scene, knot: &Group, train: u32) -> Result<(), AllocError>
+fn write_member(
+    out: &mut String,
+    scene: &Scene,
+    sections: &[String],
+    knot: &Group,
+    train: u32,
+) -> Result<(), AllocError>
     requires { train < trains scene.now.table.now }
     ensures { OnOk result (string_bytes out.new ≡ string_bytes out.old
-        ++ member_words scene.now.names.now scene.now.table.now scene.now.state.now knot.now train) }
+        ++ member_words scene.now.names.now sections.now scene.now.table.now scene.now.state.now knot.now train) }
 {
     if !knot.has(train) {
         return Ok(());
     }
     if is_unfinished(scene, train) {
-        write_kept(out, scene, knot, train)
+        write_kept(out, scene, sections, knot, train)
     } else {
         write_arrived(out, scene, train)
     }
 }
 
 // Adds the sentences on the trains of a knot.
-fn write_members(out: &mut String, scene: &Scene, knot: &Group) -> Result<(), AllocError>
+fn write_members(
+    out: &mut String,
+    scene: &Scene,
+    sections: &[String],
+    knot: &Group,
+) -> Result<(), AllocError>
     ensures { OnOk result (string_bytes out.new ≡ string_bytes out.old
-        ++ joined_below (member_words scene.now.names.now scene.now.table.now scene.now.state.now knot.now) (trains scene.now.table.now)) }
+        ++ joined_below (member_words scene.now.names.now sections.now scene.now.table.now scene.now.state.now knot.now) (trains scene.now.table.now)) }
 {
     for train in 0..scene.trains() {
-        write_member(out, scene, knot, train)?;
+        write_member(out, scene, sections, knot, train)?;
     }
     Ok(())
 }
@@ -214,12 +240,17 @@ fn write_end(out: &mut String) -> Result<(), AllocError>
 }
 
 // Adds a knot: what each of its trains waits for.
-fn write_whole_knot(out: &mut String, scene: &Scene, knot: &Group) -> Result<(), AllocError>
+fn write_whole_knot(
+    out: &mut String,
+    scene: &Scene,
+    sections: &[String],
+    knot: &Group,
+) -> Result<(), AllocError>
     ensures { OnOk result (string_bytes out.new ≡ string_bytes out.old
-        ++ whole_knot_words scene.now.names.now scene.now.table.now scene.now.state.now knot.now) }
+        ++ whole_knot_words scene.now.names.now sections.now scene.now.table.now scene.now.state.now knot.now) }
 {
     out.push_str("A knot:")?;
-    write_members(out, scene, knot)?;
+    write_members(out, scene, sections, knot)?;
     write_end(out)
 }
 
@@ -227,14 +258,15 @@ fn write_whole_knot(out: &mut String, scene: &Scene, knot: &Group) -> Result<(),
 pub(crate) fn write_knot(
     out: &mut String,
     scene: &Scene,
+    sections: &[String],
     circle: &Group,
     knot: &Group,
 ) -> Result<(), AllocError>
     ensures { OnOk result (string_bytes out.new ≡ string_bytes out.old
-        ++ knot_words scene.now.names.now scene.now.table.now scene.now.state.now circle.now knot.now) }
+        ++ knot_words scene.now.names.now sections.now scene.now.table.now scene.now.state.now circle.now knot.now) }
 {
     if differ(scene, circle, knot) {
-        write_whole_knot(out, scene, knot)
+        write_whole_knot(out, scene, sections, knot)
     } else {
         Ok(())
     }

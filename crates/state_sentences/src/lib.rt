@@ -5,10 +5,12 @@ mod circles;
 mod closing;
 mod knots;
 mod laws;
+mod naming;
 mod scene;
 mod sentences;
 mod telling;
 
 pub use laws::stuck_states_have_knots;
+pub use naming::push_section;
 pub use scene::Scene;
 pub use telling::text_of;

@@ -7,6 +7,7 @@ ghost use Rattle.state_sentences.specs.Named.{name_at};
 ghost use Rattle.state_sentences.specs.Explanation.{joined_below, wish_words, where_words, wants_words, next_words, holder_words, room_words, taken_words, full_words, until_words, wait_words, reason_words, told_words, train_words};
 
 use crate::Scene;
+use crate::naming::push_section;
 use rail_model::{Ask, Connection, change_at, connection_of, last_of, limit_of, share_at};
 use std::alloc::AllocError;
 
@@ -96,10 +97,11 @@ fn write_holders(out: &mut String, scene: &Scene, section: u32) -> Result<(), Al
 }
 
 // Adds that a section has no room.
-fn write_room(out: &mut String, section: u32) -> Result<(), AllocError>
-    ensures { OnOk result (string_bytes out.new ≡ string_bytes out.old ++ room_words section) }
+fn write_room(out: &mut String, sections: &[String], section: u32) -> Result<(), AllocError>
+    ensures { OnOk result (string_bytes out.new ≡ string_bytes out.old ++ room_words sections.now section) }
 {
-    write!(out, "section {section} has no room for ")
+    push_section(out, sections, section)?;
+    out.push_str(" has no room for ")
 }
 
 // Adds how much more of a section a train has at a place.
@@ -130,6 +132,7 @@ fn write_taken(out: &mut String, count: u32, limit: u32) -> Result<(), AllocErro
 fn write_full(
     out: &mut String,
     scene: &Scene,
+    sections: &[String],
     train: u32,
     section: u32,
     count: u32,
@@ -138,11 +141,11 @@ fn write_full(
     requires train { train < trains scene.now.table.now }
     requires unfinished { place_of scene.now.state.now train < last scene.now.table.now train }
     ensures { OnOk result (string_bytes out.new ≡ string_bytes out.old
-        ++ full_words scene.now.names.now scene.now.table.now scene.now.state.now train section count) }
+        ++ full_words scene.now.names.now sections.now scene.now.table.now scene.now.state.now train section count) }
 {
     let place = scene.place(train) + 1;
     let limit = limit_of(scene.table, section);
-    write_room(out, section)?;
+    write_room(out, sections, section)?;
     write_need(out, scene, train, section, place)?;
     write_taken(out, count, limit)?;
     write_holders(out, scene, section)
@@ -177,10 +180,16 @@ fn write_wait(
 }
 
 // Adds what a train is told that has not arrived.
-fn write_reason(out: &mut String, scene: &Scene, train: u32, told: Ask) -> Result<(), AllocError>
+fn write_reason(
+    out: &mut String,
+    scene: &Scene,
+    sections: &[String],
+    train: u32,
+    told: Ask,
+) -> Result<(), AllocError>
     requires train { train < trains scene.now.table.now }
     requires told { Answers scene.now.table.now scene.now.state.now train told }
-    ensures { OnOk result (string_bytes out.new ≡ string_bytes out.old ++ reason_words scene.now.names.now scene.now.table.now scene.now.state.now train told) }
+    ensures { OnOk result (string_bytes out.new ≡ string_bytes out.old ++ reason_words scene.now.names.now sections.now scene.now.table.now scene.now.state.now train told) }
 {
     match told {
         Ask::Arrived => Ok(()),
@@ -189,7 +198,7 @@ fn write_reason(out: &mut String, scene: &Scene, train: u32, told: Ask) -> Resul
             let by = scene.train(by);
             write!(out, "{by} is there")
         }
-        Ask::Full { section, count } => write_full(out, scene, train, section, count),
+        Ask::Full { section, count } => write_full(out, scene, sections, train, section, count),
         Ask::Waits { connection } => write_wait(
             out,
             scene,
@@ -200,24 +209,35 @@ fn write_reason(out: &mut String, scene: &Scene, train: u32, told: Ask) -> Resul
 }
 
 // Adds what a train wants, and what it is told.
-fn write_told(out: &mut String, scene: &Scene, train: u32, told: Ask) -> Result<(), AllocError>
+fn write_told(
+    out: &mut String,
+    scene: &Scene,
+    sections: &[String],
+    train: u32,
+    told: Ask,
+) -> Result<(), AllocError>
     requires train { train < trains scene.now.table.now }
     requires told { Answers scene.now.table.now scene.now.state.now train told }
-    ensures { OnOk result (string_bytes out.new ≡ string_bytes out.old ++ told_words scene.now.names.now scene.now.table.now scene.now.state.now train told) }
+    ensures { OnOk result (string_bytes out.new ≡ string_bytes out.old ++ told_words scene.now.names.now sections.now scene.now.table.now scene.now.state.now train told) }
 {
     if let Ask::Arrived = told {
         return out.push_str(", and has arrived");
     }
     write_next(out, scene, train, scene.place(train) + 1)?;
-    write_reason(out, scene, train, told)
+    write_reason(out, scene, sections, train, told)
 }
 
 /// Adds the sentence on a train.
-pub(crate) fn write_train(out: &mut String, scene: &Scene, train: u32) -> Result<(), AllocError>
+pub(crate) fn write_train(
+    out: &mut String,
+    scene: &Scene,
+    sections: &[String],
+    train: u32,
+) -> Result<(), AllocError>
     requires { train < trains scene.now.table.now }
-    ensures { OnOk result (string_bytes out.new ≡ string_bytes out.old ++ train_words scene.now.names.now scene.now.table.now scene.now.state.now train) }
+    ensures { OnOk result (string_bytes out.new ≡ string_bytes out.old ++ train_words scene.now.names.now sections.now scene.now.table.now scene.now.state.now train) }
 {
     write_where(out, scene, train)?;
-    write_told(out, scene, train, scene.told(train))?;
+    write_told(out, scene, sections, train, scene.told(train))?;
     out.push_str("\n")
 }

@@ -15,9 +15,10 @@ pub returns-in-Plan : goal.returns-in-Plan
 returns-in-Plan c =
     let order = c.args.order.now in
     let input = c.args.input.now in
-    let names = c.in-Plan.names.items in
     let document = c.deref.result.now in
+    let names = c.deref-in-Plan.result.now in
     let works : WorksOn order input document names =
     subst (λ (text : List ℕ). WorksOn order input text names) (sym c.deref.ensures.value)
-    (subst (IsWorkedOn order input) c.in-Plan.is c.in_ok-standing_for.ensures) in
+    (subst (WorksOn order input c.in-Plan.text.items) (sym c.deref-in-Plan.ensures.value)
+    (subst (IsWorkedOn order input) c.in-Plan.is c.in_ok-standing_for.ensures)) in
     IfOk-weaker c.answer_for-in-Plan.result _ _ (λ a is. answer_there order c.args.former input document names works a is) c.answer_for-in-Plan.ensures

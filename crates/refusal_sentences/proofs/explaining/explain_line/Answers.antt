@@ -12,6 +12,6 @@ returns-in-Some c =
     let at = c.in-Some.at in
     let told = c.explain_state.result in
     let named : NamesState words at.table at.state = rw c.in-Some.is at c.in_ok-at.ensures in
-    let explained : IfOk told (ExplainsState bytes at.table at.state) =
-    subst (λ (p : List ℕ). IfOk told (ExplainsState bytes at.table p)) c.as_slice.ensures c.explain_state.ensures in
-    told_if_ok bytes c.args.line.now words at.table at.state c.words_of-words.ensures named told explained
+    let explained : IfOk told (ExplainsState bytes c.args.names.now at.table at.state) =
+    subst (λ (p : List ℕ). IfOk told (ExplainsState bytes c.args.names.now at.table p)) c.as_slice.ensures c.explain_state.ensures in
+    told_if_ok bytes c.args.names.now c.args.line.now words at.table at.state c.words_of-words.ensures named told explained

@@ -6,4 +6,4 @@ use Rattle.state_sentences.proofs.knots.write_members.Given as goal
 abbrev pub invariant-loop-train : goal.invariant-loop-train
 invariant-loop-train l =
     string_bytes l.out
-    ≡ string_bytes l.initial.out ++ joined_below (member_words l.scene.names.now l.scene.table.now l.scene.state.now l.knot) l.train
+    ≡ string_bytes l.initial.out ++ joined_below (member_words l.scene.names.now l.sections l.scene.table.now l.scene.state.now l.knot) l.train

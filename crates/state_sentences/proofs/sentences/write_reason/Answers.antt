@@ -29,10 +29,11 @@ write_wait-requires c =
 pub returns-in-Waits : goal.returns-in-Waits
 returns-in-Waits c =
     let N = c.args.scene.now.names.now in
+    let S = c.args.sections.now in
     let T = c.args.scene.now.table.now in
     let p = c.args.scene.now.state.now in
     let before = string_bytes c.args.out.now in
     let waits =
     subst (λ (o : Option Connection). OnOk c.write_wait.result (string_bytes c.write_wait.new.out ≡ before ++ wait_words N T c.in-Waits.connection o))
     (sym c.connection_of.ensures.connection) c.write_wait.ensures in
-    subst (λ (told : Ask). OnOk c.write_wait.result (string_bytes c.write_wait.new.out ≡ before ++ reason_words N T p c.args.train told)) (sym c.in-Waits.is) waits
+    subst (λ (told : Ask). OnOk c.write_wait.result (string_bytes c.write_wait.new.out ≡ before ++ reason_words N S T p c.args.train told)) (sym c.in-Waits.is) waits

@@ -5,4 +5,4 @@ use Rattle.state_sentences.proofs.telling.write_trains.Given as goal
 abbrev pub invariant-loop-train : goal.invariant-loop-train
 invariant-loop-train l =
     string_bytes l.out
-    ≡ string_bytes l.initial.out ++ joined_below (train_words l.scene.names.now l.scene.table.now l.scene.state.now) l.train
+    ≡ string_bytes l.initial.out ++ joined_below (train_words l.scene.names.now l.sections l.scene.table.now l.scene.state.now) l.train
