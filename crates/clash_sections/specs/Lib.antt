@@ -1,4 +1,0 @@
-pub mod Answer
-pub mod Sections
-pub mod Stands
-pub mod Tracks
