@@ -37,7 +37,11 @@ fn check_ends(faults: &mut Faults, entry: &Entry, patterns: &[Value]) {
         }
     }
     if base_of(patterns, here).is_some() {
-        faults.tell(&entry.at("pattern"), "a pattern that it rests on rests on itself", &[]);
+        faults.tell(
+            &entry.at("pattern"),
+            "a pattern that it rests on rests on itself",
+            &[],
+        );
     }
 }
 
@@ -47,7 +51,11 @@ fn check_range(faults: &mut Faults, entry: &Entry) {
         && (count < 1 || MOST_TRAINS < count)
     {
         let parts = [Part::Number(MOST_TRAINS), Part::Number(count)];
-        faults.tell(&entry.at("count"), "\"count\" goes from 1 to {}, and this is {}", &parts);
+        faults.tell(
+            &entry.at("count"),
+            "\"count\" goes from 1 to {}, and this is {}",
+            &parts,
+        );
     }
 }
 
@@ -56,7 +64,13 @@ fn check_entry(faults: &mut Faults, entry: &Entry, patterns: &[Value], names: &[
     check_counts(faults, entry);
     check_range(faults, entry);
     if let Some(name) = entry.text("pattern") {
-        check_name(faults, &entry.at("pattern").of(name), "pattern", name, names);
+        check_name(
+            faults,
+            &entry.at("pattern").of(name),
+            "pattern",
+            name,
+            names,
+        );
     }
     check_ends(faults, entry, patterns);
 }
