@@ -96,7 +96,8 @@ fn check_route(faults: &mut Faults, entry: &Entry, ways: &Ways) {
     if 0 < ways.count()
         && let Some(route) = entry.names("route")
     {
-        ways.check_items(faults, &entry.at("route"), route);
+        let at = entry.at("route");
+        ways.check_items(faults, &at, route);
     }
 }
 

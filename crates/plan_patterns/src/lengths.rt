@@ -79,7 +79,7 @@ impl<'t> Ways<'t> {
     }
 
     /// Tells each way among items that isn't known, and that they are too many points.
-    pub fn check_items<'x>(&'x self, faults: &mut Faults, at: &Entry<'x>, items: &'x [Value]) {
+    pub fn check_items<'x>(&self, faults: &mut Faults, at: &Entry<'x>, items: &'x [Value]) {
         for item in items {
             if let Some(name) = name_in(item) {
                 check_name(faults, &at.of(name), "way", name, &self.names);
@@ -93,13 +93,28 @@ impl<'t> Ways<'t> {
         }
     }
 
+    // The name of a way, and its points.
+    fn name(&self, index: usize) -> &str {
+        match self.names.get(index) {
+            Some(name) => name,
+            None => "",
+        }
+    }
+
+    fn list(&self, index: usize) -> &[Value] {
+        match self.lists.get(index) {
+            Some(list) => list,
+            None => &[],
+        }
+    }
+
     /// Tells what is wrong with each way: ways in it that aren't known, and that it comes to itself.
     pub fn check(&self, faults: &mut Faults) {
         for index in 0..self.lists.len() {
-            let name = self.names.get(index).copied().unwrap_or("");
-            let at = Entry::part(Kind::Ways, None);
-            let at = at.at(name);
-            let list = self.lists.get(index).copied().unwrap_or(&[]);
+            let name = self.name(index);
+            let list = self.list(index);
+            let part = Entry::part(Kind::Ways, None);
+            let at = part.at(name);
             self.check_items(faults, &at, list);
             if self.points_along(list).is_none() {
                 faults.tell(&at, "way {} has itself within it", &[Part::Name(name)]);
