@@ -5,14 +5,14 @@ use Rattle.planner_run.proofs.Standing.{answer_there}
 use Rattle.planner_run.proofs.answer.answer_to.Goals as goal
 
 pub returns-in-Itself : goal.returns-in-Itself
-returns-in-Itself c =
+returns-in-Itself g c =
     let order = c.args.order.now in
     let input = c.args.input.now in
     let works = subst (IsWorkedOn order input) c.in-Itself.is c.in_ok-standing_for.ensures in
     IfOk-weaker c.answer_for.result _ _ (λ a is. answer_there order c.args.former input input [] works a is) c.answer_for.ensures
 
 pub returns-in-Plan : goal.returns-in-Plan
-returns-in-Plan c =
+returns-in-Plan g c =
     let order = c.args.order.now in
     let input = c.args.input.now in
     let document = c.deref.result.now in
