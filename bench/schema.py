@@ -31,15 +31,17 @@ SECTION = {"limit": 1, "changes": [[0, 1, -1]]}
 # What planner says of a shape, and of a meaning.
 SHAPE = re.compile(
     r'" takes .*, and this is of type |"zones" takes a table|" is missing$|: no key "|: this is no table of keys$|: the route is empty$|'
-    r"a (time|limit|weight) is \d+ to \d+, and this is |a table is due after 0 to 1000000 moves, and this is |: there is no train$|"
+    r"a (time|limit|weight|share) is \d+ to \d+, and this is |a table is due after 0 to 1000000 moves, and this is |: there is no train$|"
     r'" is no (name: 1 to 16|zone: they are|link: two points)|^line \d+: train .*: the route has \d+ places|'
-    r"one (train|section|connection|table) too many"
+    r'one (train|section|connection|table) too many|"holds" says all of it; leave out "|the weight for all others is said twice, '
 )
 MEANING = re.compile(
     r': no (point|train) "|" is no step of the route$|" is not on the route of train "|" comes more than once on the route of train "|'
     r'" comes twice in a row$|" is the name of an earlier train too$|: starts at "|: without an exit it ends at "|" is never left: |'
+    r': ends at "|: its route begins at "|'
     r'" is changed twice by this table$|: a train doesn\'t wait for itself$|: no train of this section comes to "| alone takes \d+ of \d+$|'
     r": at the start \d+ of \d+ are taken, |: no line goes from \"|\" is in a zone already$|: zone \d+ has no point, and zone \d+ has$|"
+    r'is for all others, and is the name of a train too|"-" without an exit: train "|" is a place that has another name here too$|'
     r"table \d+, train .*: the route has \d+ places|: there are more faults than these$"
 )
 # What it says of a plan that it takes.

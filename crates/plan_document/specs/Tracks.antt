@@ -72,3 +72,12 @@ keeps_at lines switches route place = keeps_there lines switches (before route p
 -- whether a route keeps to lines at each place
 abbrev pub keeps : List (Vec (String Global) Global) → List (String Global) → List (String Global) → Bool
 keeps lines switches route = list_all (keeps_at lines switches route) (below (length route))
+
+-- whether a point, if there is one, is no switch
+abbrev pub is_no_switch : List (String Global) → Option (String Global) → Bool
+is_no_switch switches None = true
+is_no_switch switches (Some point) = not (is_among switches (string_bytes point))
+
+-- whether a route neither begins nor ends at a switch
+abbrev pub has_free_ends : List (String Global) → List (String Global) → Bool
+has_free_ends switches route = is_no_switch switches (slice_get route 0) && is_no_switch switches (before route (length route))

@@ -189,3 +189,21 @@ pub fn keeps(lines: &[Vec<String>], switches: &[String], route: &[String]) -> bo
 {
     (0..route.len()).all(|place| keeps_at(lines, switches, route, place))
 }
+
+/// Whether a point, if there is one, is no switch.
+pub fn is_no_switch(switches: &[String], point: Option<&String>) -> bool
+    ensures { result ≡ spec.is_no_switch switches.now (option_copied point.entry) }
+{
+    match point {
+        Some(point) => !is_among(switches, point.as_str()),
+        None => true,
+    }
+}
+
+/// Whether a route neither begins nor ends at a switch.
+pub fn has_free_ends(switches: &[String], route: &[String]) -> bool
+    ensures { result ≡ spec.has_free_ends switches.now route.now }
+{
+    let last = before(route, route.len());
+    is_no_switch(switches, point_at(route, 0)) && is_no_switch(switches, last)
+}

@@ -1,9 +1,11 @@
 // The lines of a plan, and routes that don't keep to them.
 use crate::ground::{Ground, Link};
 use crate::lists::{copied, push, push_names};
-use crate::names::{check_names, find, is_known};
+use crate::names::{check_names, find, is_known, tell_of};
 use crate::tables::Layer;
-use plan_document::{Plan, TablePlan, before, behind, goes, is_among, is_linked};
+use plan_document::{
+    Plan, TablePlan, before, behind, goes, is_among, is_linked, is_no_switch, point_at,
+};
 use plan_entries::{Entry, Faults, Part, names_of};
 use toml::Value;
 
@@ -103,18 +105,60 @@ impl<'x> Tracks<'x> {
         }
     }
 
-    // Tells where the route of a train doesn't keep to the lines.
-    fn check_route(&self, faults: &mut Faults, train: &Entry<'x>, route: &'x [String]) {
-        for place in 0..route.len() {
-            self.check_place(faults, train, route, place);
+    // Tells a point, which stands at a key, that is a switch.
+    fn check_free(
+        &self,
+        faults: &mut Faults,
+        train: &Entry<'x>,
+        key: &'static str,
+        point: Option<&'x String>,
+        form: &'static str,
+    ) {
+        if let Some(point) = point
+            && !is_no_switch(self.switches, Some(point))
+        {
+            tell_of(faults, train, key, point.as_str(), form);
         }
     }
 
-    // Tells where the routes of a table don't keep to the lines.
-    fn check_table(&self, faults: &mut Faults, layer: &Layer<'x>, table: &'x TablePlan) {
+    // Tells where the route of a train, which starts at a place of it or doesn't start under its table, doesn't keep to the lines.
+    fn check_route(
+        &self,
+        faults: &mut Faults,
+        train: &Entry<'x>,
+        route: &'x [String],
+        start: Option<usize>,
+    ) {
+        for place in 0..route.len() {
+            self.check_place(faults, train, route, place);
+        }
+        let begins = match start {
+            Some(0) => "starts at {}, a switch",
+            _ => "its route begins at {}, a switch",
+        };
+        self.check_free(faults, train, "route", point_at(route, 0), begins);
+        let last = before(route, route.len());
+        self.check_free(faults, train, "route", last, "ends at {}, a switch");
+        if let Some(place) = start
+            && 0 < place
+        {
+            let point = point_at(route, place);
+            self.check_free(faults, train, "start", point, "starts at {}, a switch");
+        }
+    }
+
+    // Tells where the routes of a table don't keep to the lines. Only under the first table trains start.
+    fn check_table(
+        &self,
+        faults: &mut Faults,
+        layer: &Layer<'x>,
+        table: &'x TablePlan,
+        starts: &[u32],
+    ) {
         let roster = layer.roster();
         for train in 0..table.routes.len() {
-            self.check_route(faults, &roster.entry(train), table.route(train));
+            let start = starts.get(train).copied().map(|place| place as usize);
+            self.check_route(faults, &roster.entry(train), table.route(train), start);
         }
     }
 }
@@ -128,7 +172,8 @@ fn check_tables<'x>(faults: &mut Faults, top: &Entry<'x>, ground: &'x Ground<'x>
         links: &ground.links,
     };
     for (number, table) in plan.tables.iter().enumerate() {
-        tracks.check_table(faults, &Layer::of(top, number), table);
+        let starts: &[u32] = if number == 0 { &plan.start } else { &[] };
+        tracks.check_table(faults, &Layer::of(top, number), table, starts);
     }
 }
 

@@ -1,6 +1,6 @@
 -- Worked rows: which routes keep to two lines that part at the switch A and meet again at B.
-use Rattle.std.proofs.Common.{◌≡◌, List, [], ◌∷◌, true, false, String, Vec, Global, codes, lit<, refl}
-use Rattle.plan_document.specs.Tracks.{goes, keeps}
+use Rattle.std.proofs.Common.{◌≡◌, List, [], ◌∷◌, true, false, None, Some, String, Vec, Global, codes, lit<, refl}
+use Rattle.plan_document.specs.Tracks.{goes, has_free_ends, is_no_switch, keeps}
 use Rattle.plan_reading.proofs.Texts.{text_of, vec_of}
 
 abbrev w : String Global → String Global
@@ -52,3 +52,20 @@ module _ (s : String Global) (v : Vec (String Global) Global) where
 
   pub not_to_itself : goes (lines s v) (codes "Main") (codes "B") (codes "Main") ≡ false
   not_to_itself = refl
+
+  -- a route from W to B: neither end is at the switch A, but one is if B is a switch, or if it ends at A
+  pub free_ends : has_free_ends (a s ∷ []) (w s ∷ a s ∷ l s ∷ b s ∷ []) ≡ true
+  free_ends = refl
+
+  pub ends_at_a_switch : has_free_ends (a s ∷ b s ∷ []) (w s ∷ a s ∷ l s ∷ b s ∷ []) ≡ false
+  ends_at_a_switch = refl
+
+  pub begins_at_a_switch : has_free_ends (a s ∷ []) (a s ∷ l s ∷ b s ∷ []) ≡ false
+  begins_at_a_switch = refl
+
+  -- a place that isn't there is no switch
+  pub a_switch : is_no_switch (a s ∷ []) (Some (a s)) ≡ false
+  a_switch = refl
+
+  pub nowhere : is_no_switch (a s ∷ []) None ≡ true
+  nowhere = refl

@@ -6,7 +6,7 @@ use Rattle.std.specs.declared.alloc.Global.{Global}
 use Rattle.toml.specs.Data.{Data, Items, no_items, item, Members, get_member, get_item, as_array}
 use Rattle.toml.specs.Parse.{parse_document}
 use Rattle.plan_document.specs.Nothing.{points_of}
-use Rattle.plan_document.specs.Tracks.{keeps}
+use Rattle.plan_document.specs.Tracks.{has_free_ends, is_no_switch, keeps}
 use Rattle.plan_document.specs.declared.plan.Plan.{Plan}
 use Rattle.plan_document.specs.declared.plan.TablePlan.{TablePlan}
 use Rattle.plan_document.specs.declared.plan.Wait.{Wait}
@@ -84,20 +84,24 @@ is_wait trains routes entry w =
     && names_train (text_at (codes "after") entry) (slice_get trains w.after)
     && names_place (text_at (codes "reached") entry) (points_of (slice_get routes w.after)) w.reached
 
--- whether all routes keep to lines: each of their points and links is one of a line, and they pass switches as lines do
+-- whether a route keeps to lines, and neither begins nor ends at a switch
+abbrev pub keeps_free : List (Vec (String Global) Global) → List (String Global) → List (String Global) → Bool
+keeps_free lines switches route = keeps lines switches route && has_free_ends switches route
+
+-- whether all routes keep to lines, with no end at a switch: each of their points and links is one of a line, and they pass switches as lines do
 abbrev pub all_keep : List (Vec (String Global) Global) → List (String Global) → List (Vec (String Global) Global) → Bool
-all_keep lines switches routes = list_all (λ route. keeps lines switches route.items) routes
+all_keep lines switches routes = list_all (λ route. keeps_free lines switches route.items) routes
 
 -- whether all routes keep to lines, if there are any
 unfoldable pub keep_to : List (Vec (String Global) Global) → List (String Global) → List (Vec (String Global) Global) → Bool
 keep_to lines switches routes = (length lines == 0) || all_keep lines switches routes
 
 -- a table of a plan agrees with a text and with what the table says itself: in its trains, its sections and its
--- connections, and in when it is due; and its routes keep to the plan's lines
+-- connections, and in when it is due; and its routes keep to the plan's lines, with no end at a switch
 pub record AgreesIn (text : Members) (own : Option Data) (plan : Plan) (t : TablePlan) : Type 0 where
   pub complete : is_complete plan t ≡ true
   pub trains : EachTrain plan (goes_right (entries_at (codes "train") text) own plan t)
-  pub sections : agree_all (is_section plan.points.items plan.trains.items t.routes.items) (entries_in (codes "section") text own) t.sections.items ≡ true
+  pub sections : agree_all (is_section plan.trains.items t.routes.items t.exits.items) (entries_in (codes "section") text own) t.sections.items ≡ true
   pub connections : agree_all (is_wait plan.trains.items t.routes.items) (entries_in (codes "connection") text own) t.waits.items ≡ true
   pub due : is_due own t.after ≡ true
   pub laid : keep_to plan.lines.items plan.switches.items t.routes.items ≡ true
@@ -112,12 +116,20 @@ pub record TablesAsSaid (text : Members) (further : Items) (plan : Plan) : Type 
   pub as_many : length plan.tables.items ≡ suc (count_of further)
   pub each : (k : ℕ) → ForSome (slice_get plan.tables.items k) (AgreesIn text (own_of further k) plan)
 
--- whether a train of a plan starts, under the first table, at the place that its entry says
+-- whether a plan has no lines, or this point, if there is one, is no switch
+abbrev pub may_start_at : Plan → Option (String Global) → Bool
+may_start_at plan point = (length plan.lines.items == 0) || is_no_switch plan.switches.items point
+
+-- whether a train that says this of its start starts at this place of its route, where it may
+abbrev pub starts_there : Plan → Option (List ℕ) → List (String Global) → ℕ → Bool
+starts_there plan said route place = starts_at said route place && may_start_at plan (slice_get route place)
+
+-- whether a train of a plan starts, under the first table, at the place that its entry says, where it may
 abbrev pub starts_right : Items → Plan → TablePlan → ℕ → Bool
 starts_right entries plan first train =
-    starts_at (option_and_then (text_at (codes "start")) (get_item train entries)) (route_in first train) (slice_index_or plan.start.items train 0)
+    starts_there plan (option_and_then (text_at (codes "start")) (get_item train entries)) (route_in first train) (slice_index_or plan.start.items train 0)
 
--- the trains of a plan start, under the first table, where their entries say
+-- the trains of a plan start, under the first table, where their entries say, and, if there are lines, at no switch
 pub record StartAsSaid (entries : Items) (plan : Plan) (first : TablePlan) : Type 0 where
   pub as_many : length plan.start.items ≡ length plan.trains.items
   pub places : EachTrain plan (starts_right entries plan first)

@@ -16,7 +16,9 @@ use crate::matching::{
 };
 use crate::timed::are_times;
 use crate::zoned::are_zoned;
-use plan_document::{Plan, SectionPlan, TablePlan, Wait, keeps};
+use plan_document::{
+    Plan, SectionPlan, TablePlan, Wait, has_free_ends, is_no_switch, keeps, point_at,
+};
 use std::alloc::{AllocError, Global};
 use toml::{Table, Value};
 
@@ -166,10 +168,10 @@ fn are_named(entries: &[Value], names: &[String]) -> bool
 
 // Whether the sections of a table are those of the entries, in order.
 fn are_sections(entries: &[Value], plan: &Plan, table: &TablePlan) -> bool
-    ensures { result ≡ agree_values (is_section_of plan.now.points.items plan.now.trains.items table.now.routes.items) entries.now table.now.sections.items }
+    ensures { result ≡ agree_values (is_section_of plan.now.trains.items table.now.routes.items table.now.exits.items) entries.now table.now.sections.items }
 {
     agree(entries, &table.sections, |entry, section| {
-        is_section(&plan.points, &plan.trains, &table.routes, entry, section)
+        is_section(&plan.trains, table, entry, section)
     })
 }
 
@@ -190,11 +192,20 @@ fn is_complete(plan: &Plan, table: &TablePlan) -> bool
     table.routes.len() == trains && table.exits.len() == trains && table.times.len() == trains
 }
 
+// Whether a route keeps to lines, and neither begins nor ends at a switch.
+fn keeps_free(lines: &[Vec<String>], switches: &[String], route: &[String]) -> bool
+    ensures { result ≡ spec.keeps_free lines.now switches.now route.now }
+{
+    keeps(lines, switches, route) && has_free_ends(switches, route)
+}
+
 // Whether all routes keep to lines.
 fn all_keep(lines: &[Vec<String>], switches: &[String], routes: &[Vec<String>]) -> bool
     ensures { result ≡ spec.all_keep lines.now switches.now routes.now }
 {
-    routes.iter().all(|route| keeps(lines, switches, route))
+    routes
+        .iter()
+        .all(|route| keeps_free(lines, switches, route))
 }
 
 // Whether all routes keep to lines, if there are any.
@@ -255,12 +266,26 @@ fn start_said(entries: &[Value], train: usize) -> Option<&str>
     }
 }
 
-// Whether a train of a plan starts, under the first table, at the place that its entry says.
+// Whether a plan has no lines, or this point is no switch.
+fn may_start_at(plan: &Plan, point: Option<&String>) -> bool
+    ensures { result ≡ spec.may_start_at plan.now (option_copied point.entry) }
+{
+    plan.lines.is_empty() || is_no_switch(&plan.switches, point)
+}
+
+// Whether a train that says this of its start starts at this place of its route, where it may.
+fn starts_there(plan: &Plan, said: Option<&str>, route: &[String], place: u32) -> bool
+    ensures { result ≡ spec.starts_there plan.now (option_copied said.entry) route.now place }
+{
+    starts_at(said, route, place) && may_start_at(plan, point_at(route, place as usize))
+}
+
+// Whether a train of a plan starts, under the first table, at the place that its entry says, where it may.
 fn starts_right(entries: &[Value], plan: &Plan, first: &TablePlan, train: usize) -> bool
     ensures { result ≡ spec.starts_right (items_view entries.now) plan.now first.now train }
 {
     let place = plan.start.get(train).copied().unwrap_or(0);
-    starts_at(start_said(entries, train), first.route(train), place)
+    starts_there(plan, start_said(entries, train), first.route(train), place)
 }
 
 // Whether all trains of a plan start, under this first table, where their entries say.
