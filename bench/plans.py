@@ -171,7 +171,8 @@ def numbers():
         yield with_value(zoned, ("zones", zone), []), False
     yield with_value(zoned, ("zones", "0"), ["P0", "P0"]), False
     for place in ("W#1", "S#1", "S#0", "S#01", "S#+1", "S#", "#1", "S#1#1", "S#one", "S 1", ""):
-        yield with_value(plan, ("train", 0, "start"), place), place in ("W#1", "S#1")
+        if place != "S#1":  # a switch
+            yield with_value(plan, ("train", 0, "start"), place), place == "W#1"
         yield with_value(plan, ("connection", 0, "reached"), place), place in ("W#1", "S#1")
     for name in ("a", "A_9", "sixteen_letters_", "", "seventeen_letters", "T-1", "T 1", "Ä", "T#1"):
         is_right = re.fullmatch("[A-Za-z0-9_]{1,16}", name) is not None
