@@ -69,6 +69,3 @@ module _ {A : Type 0} (ms : List (Bor (List ℕ) × Kept A)) (i : ℕ) (m : Bor 
 
   pub one_more_member : (v : Value) → of_json (kept.value_view m.1) ≡ Some (view v) → of_members (kept.members_view (drop i ms)) found ≡ rest_onto (put m.0.now (view v) found)
   one_more_member v e = member_here ∙ ap (option_and_then (λ d. rest_onto (put m.0.now d found))) e
-
-  pub no_member : of_json (kept.value_view m.1) ≡ None → of_members (kept.members_view (drop i ms)) found ≡ None
-  no_member e = member_here ∙ ap (option_and_then (λ d. rest_onto (put m.0.now d found))) e

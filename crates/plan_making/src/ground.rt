@@ -1,7 +1,7 @@
 // The trains and points of a plan and what links the points, in the order in which they are first named, and zones.
 use crate::laying::lines_of;
 use crate::lists::push;
-use crate::names::{check_count, is_known, is_name, number_of, tell_no, tell_of, text_of};
+use crate::names::{check_count, is_known, is_name, number_of, tell_of, text_of};
 use crate::routes::count_of;
 use plan_entries::{Entries, Entry, Faults, Kind, Part, names_of};
 use std::alloc::Global;

@@ -1,10 +1,6 @@
-// Names, and what to write in place of one that isn't known.
-use plan_entries::{Entries, Entry, Faults, Part};
-use std::alloc::AllocError;
+// Names of a plan.
+use plan_entries::{Entries, Entry, Faults, Part, tell_no};
 use toml::Value;
-
-// A distance between names that aren't alike.
-const FAR: usize = 1000;
 
 /// The text of a value that is one; else it is empty.
 pub(crate) fn text_of(value: &Value) -> &str {
@@ -37,63 +33,6 @@ pub(crate) fn number_of(known: &[&str], name: &str) -> Option<usize> {
 /// Whether a name is one of these.
 pub(crate) fn is_known(known: &[&str], name: &str) -> bool {
     known.contains(&name)
-}
-
-// By how many letters two names differ; far if hardly any are the same.
-fn distance(faults: &mut Faults, name: &str, known: &str) -> usize {
-    if name.eq_ignore_ascii_case(known) {
-        return 0;
-    }
-    if 24 < name.len() {
-        return FAR;
-    }
-    match strsim::osa_distance(faults.alloc(), name, known) {
-        Ok(edits) if edits < name.len().max(known.len()) => edits,
-        Ok(_) => FAR,
-        Err(AllocError) => {
-            faults.lose();
-            FAR
-        }
-    }
-}
-
-// The name that is most like this one; none, if none differs in at most two letters.
-fn nearest<'x>(faults: &mut Faults, name: &str, known: &'x [&'x str]) -> Option<&'x str> {
-    let mut least = 3usize;
-    let mut found = None;
-    for one in known {
-        let edits = distance(faults, name, one);
-        if edits < least {
-            least = edits;
-            found = Some(*one);
-        }
-    }
-    found
-}
-
-/// Tells that there is no point, or no train, of a name: one that is like it, or all that there are.
-pub(crate) fn tell_no<'x>(
-    faults: &mut Faults,
-    at: &Entry,
-    kind: &'static str,
-    name: &'x str,
-    known: &'x [&'x str],
-) {
-    match nearest(faults, name, known) {
-        Some(near) => {
-            let parts = [Part::Words(kind), Part::Name(name), Part::Words(near)];
-            faults.tell(at, "no {} {}; did you mean \"{}\"?", &parts);
-        }
-        None => {
-            let parts = [
-                Part::Words(kind),
-                Part::Name(name),
-                Part::Words(kind),
-                Part::List(known),
-            ];
-            faults.tell(at, "no {} {}; the {}s are {}", &parts);
-        }
-    }
 }
 
 /// The number of a name, which stands at a key, among those of a kind; one that isn't among them is reported.

@@ -11,7 +11,7 @@ use std::alloc::AllocError;
 use toml::Table;
 
 /// A plan without its patterns, counts and ways: with all that they stand for written out. None, if there is a fault: all that
-/// is wrong with them is told. Faults that are told afterwards are of the trains that are written out, and in the lines of the
+/// is wrong with them is written. Faults that are found afterwards are of the trains that are written out, and in the lines of the
 /// entries that these come from.
 pub fn expand(faults: &mut Faults, text: Table) -> Result<Option<Table>, AllocError>
     ensures { IfOk result (λ plan. MatchOption plan (has_fault faults.new ≡ true) (λ plan. table_view plan ≡ expanded (table_view text))) }

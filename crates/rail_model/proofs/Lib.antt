@@ -6,6 +6,7 @@ pub mod Asks
 pub mod BlockAnswers
 pub mod Boxes
 pub mod BoxTests
+pub mod Counts
 pub mod Decide
 pub mod Exchanges
 pub mod FirstBads

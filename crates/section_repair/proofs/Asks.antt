@@ -12,26 +12,12 @@ use Rattle.rail_model.specs.Move.{Answers}
 use Rattle.rail_model.specs.Checks.{ask}
 use Rattle.rail_model.proofs.Agree.{Decides-int_lt}
 use Rattle.rail_model.proofs.Asked.{asked, ask-agrees}
-use Rattle.rail_model.proofs.Shares.{total_not_below, count_natural}
+use Rattle.rail_model.proofs.Counts.{count_low, told_is_ask}
 use Rattle.section_repair.specs.Claims.{WaitsFor, WaitsAgree}
 use Rattle.section_repair.proofs.Told.{waits_by}
 
-no-change : (T : Table) (i s k : ℕ) → length T.sections ≤ s → change T i s k ≡ pos 0
-no-change T i s k past =
-    ap (λ (c : Section). slice_index_or (slice_index_or c.changes i []) k (pos 0)) (get_or_past T.sections s (record { limit = 0; changes = [] }) past)
-
--- no count is below 0
-counts_low : (T : Table) (p : List ℕ) → IsTable T → Legal T p → (s : ℕ) → pos 0 ≤ℤ count T s p
-counts_low T p table legal s = elim (cases_lt s (length T.sections)) [
-  | inl here ↦ let n = count_natural T s p table here legal.in_range in omega (arith, ints, n.1)
-  | inr past ↦ total_not_below _ (trains T) (λ i lt. total_not_below (change T i s) (suc (place p i)) (λ k low. omega (arith, ints, no-change T i s k past)))
-]
-
-pub told_is_ask : (T : Table) (p : List ℕ) (i : ℕ) (a : Ask) → IsTable T → Legal T p → i < trains T → Answers T p i a → a ≡ ask T p i
-told_is_ask T p i a table legal lt told = (ask-agrees T p i a legal lt (counts_low T p table legal)).0 told
-
 pub ask_answers : (T : Table) (p : List ℕ) (i : ℕ) (a : Ask) → IsTable T → Legal T p → i < trains T → a ≡ ask T p i → Answers T p i a
-ask_answers T p i a table legal lt is = (ask-agrees T p i a legal lt (counts_low T p table legal)).1 is
+ask_answers T p i a table legal lt is = (ask-agrees T p i a legal lt (λ s. count_low T s p table)).1 is
 
 pub full_section : (T : Table) (p : List ℕ) (i s n : ℕ) → IsTable T → Legal T p → i < trains T → Full s n ≡ ask T p i → s < length T.sections
 full_section T p i s n table legal lt is = (ask_answers T p i (Full s n) table legal lt is).2.0.0
@@ -48,7 +34,7 @@ waits_told T p i j (Waits c) l told w = absurd (true≢false (sym w))
 
 pub waits_agree : WaitsAgree
 waits_agree T p i j table legal li lj = (
-  (λ w. waits_told T p i j (ask T p i) lj (asked T p i legal li (counts_low T p table legal)) w),
+  (λ w. waits_told T p i j (ask T p i) lj (asked T p i legal li (λ s. count_low T s p table)) w),
   (λ w. elim w [
     | inl told ↦ subst (λ a. waits_by T p i j a ≡ true) (told_is_ask T p i (Occupied j) table legal li told) (eq-eqb j j refl)
     | inr h ↦ subst (λ a. waits_by T p i j a ≡ true) (told_is_ask T p i (Full h.0 h.1) table legal li h.2)

@@ -1,4 +1,3 @@
-pub mod Asking
 pub mod Verdicts
 pub mod Walks
 pub mod Joined

@@ -1,7 +1,7 @@
 use Rattle.std.proofs.Common.{rules}
 use Rattle.rail_model.specs.Checks.{ask}
 use Rattle.forbidden_states.proofs.Growing.{next_listed}
-use Rattle.section_repair.proofs.Asks.{told_is_ask}
+use Rattle.rail_model.proofs.Counts.{told_is_ask}
 use Rattle.section_repair.proofs.cores.asks.Goals as goal
 
 pub loop-train-preserved : goal.loop-train-preserved

@@ -3,7 +3,7 @@ use Rattle.rail_model.specs.Table.{Table}
 use Rattle.rail_model.specs.Checks.{is_due, admitted}
 use Rattle.rail_model.proofs.Told.{admitted-agrees}
 use Rattle.table_exchange.specs.Admitted.{told}
-use Rattle.zone_machine.proofs.Counted.{count_low}
+use Rattle.rail_model.proofs.Counts.{count_low}
 use Rattle.zone_machine.proofs.ControlEnters.{same_due}
 use Rattle.zone_machine.proofs.control.tell.Goals as goal
 

@@ -1,4 +1,4 @@
-use Rattle.state_sentences.proofs.Asking.{told_is_ask}
+use Rattle.rail_model.proofs.Counts.{told_is_ask}
 use Rattle.state_sentences.proofs.scene.Scene.told.Goals as goal
 
 pub returns-clause-computed : goal.returns-clause-computed
