@@ -1,17 +1,10 @@
 -- Who owes a cell claimed the zones of its last entry.
-use Rattle.std.proofs.Common.{◌≡◌, ◌≢◌, ℕ, ◌==◌, List, [], ◌∷◌, ◌++◌, set, true, false, cond, refl, sym, ap, ◌∙◌, subst, inl, inr, append_assoc}
-use Rattle.std.specs.Prelude.{is_none, Some}
+use Rattle.zone_machine.proofs.Prelude.{◌≡◌, ◌≢◌, ℕ, ◌==◌, List, [], ◌∷◌, ◌++◌, true, false, cond, refl, sym, ap, ◌∙◌, subst, inl, inr, append_assoc, is_none, Some, Entry, control, Cell, number_of, Setup, Actor, World, zones, known_table, driver_after, IsSetup, Is, IsUnheard, Sound}
+use Rattle.std.proofs.Common.{set}
 use Rattle.std.proofs.lemmas.Bool.{cond-true, cond-false}
 use Rattle.std.proofs.lemmas.List.{append-nil}
-use Rattle.rail_model.specs.declared.types.Entry.{Entry}
-use Rattle.rail_model.specs.Yard.{control}
-use Rattle.move_claim.specs.declared.cells.Cell.{Cell}
 use Rattle.move_claim.specs.declared.cells.Cell.TheVariants.{Table as TableCell}
-use Rattle.move_claim.specs.Cells.{number_of}
-use Rattle.zone_machine.specs.World.{Setup, Actor, World}
-use Rattle.zone_machine.specs.Needs.{zones}
-use Rattle.zone_machine.specs.Entries.{known_table, driver_after, control_after}
-use Rattle.zone_machine.specs.Sound.{IsSetup, Is, IsUnheard, Sound}
+use Rattle.zone_machine.specs.Entries.{control_after}
 use Rattle.zone_machine.specs.Claiming.{entered, made, HasEntered}
 use Rattle.zone_machine.proofs.Grants.{unheard-append}
 use Rattle.zone_machine.proofs.InForce.{table_is}

@@ -1,26 +1,15 @@
 -- What the control's append that is allowed says of it, and the world that it leaves.
-use Rattle.std.proofs.Common.{◌≡◌, ◌⊎◌, inl, inr, ℕ, ◌+◌, ◌≤◌, nat_lt, List, [], ◌∷◌, ◌++◌, length, set, get_or, Bool, cond, None, ap, ◌∙◌, subst, ltb-false, length-append}
+use Rattle.zone_machine.proofs.Prelude.{◌≡◌, ◌⊎◌, inl, inr, ℕ, ◌+◌, ◌≤◌, nat_lt, List, [], ◌∷◌, ◌++◌, length, get_or, Bool, cond, None, ap, ◌∙◌, subst, ltb-false, length-append, Tried, Early, Control, Entry, below, Offer, control, offer, then_some-none, passing, Append, Setup, Actor, World, actor, table_of, has_more, known_table, tried, refusal, append_checks, after_control, Sound, IsSetup, CoreValue, IsCore}
+use Rattle.std.proofs.Common.{set}
 use Rattle.std.specs.Prelude.{◌↔◌, IsTrue}
-use Rattle.rail_model.specs.declared.types.Tried.{Tried}
-use Rattle.rail_model.specs.declared.types.Tried.TheVariants.{Early}
-use Rattle.rail_model.specs.declared.types.Reply.TheVariants.{Control}
-use Rattle.rail_model.specs.declared.types.Entry.{Entry}
-use Rattle.rail_model.specs.Checks.{below, is_due, admitted}
+use Rattle.rail_model.specs.Checks.{is_due, admitted}
 use Rattle.rail_model.specs.Table.{Table}
-use Rattle.rail_model.specs.Yard.{Offer, control, offer}
 use Rattle.std.proofs.lemmas.Bool.Decides.{same_from_decides}
 use Rattle.rail_model.specs.State.{Arrived}
 use Rattle.rail_model.proofs.StateTests.{due as due_test}
-use Rattle.rail_model.proofs.Firsts.{then_some-none, passing}
-use Rattle.zone_machine.specs.declared.steps.Step.TheVariants.{Append}
 use Rattle.zone_machine.specs.declared.steps.NotAllowed.TheVariants as no
-use Rattle.zone_machine.specs.World.{Setup, Actor, World, actor}
-use Rattle.zone_machine.specs.Needs.{table_of, has_more}
-use Rattle.zone_machine.specs.Entries.{known_table, known_positions, moves_to, tried, control_after}
+use Rattle.zone_machine.specs.Entries.{known_positions, moves_to, control_after}
 use Rattle.zone_machine.specs.Entered.{control_told}
-use Rattle.zone_machine.specs.Steps.{refusal, append_checks, after_control}
-use Rattle.zone_machine.specs.Sound.{Sound, IsSetup}
-use Rattle.zone_machine.specs.Cores.{CoreValue, IsCore}
 use Rattle.zone_machine.proofs.Acting.{passed, there, is_row, allowed_here}
 use Rattle.zone_machine.proofs.Allowed.{Passes, asked}
 use Rattle.zone_machine.proofs.ControlAppends.{tell, is_told}

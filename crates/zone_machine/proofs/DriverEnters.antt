@@ -1,30 +1,13 @@
 -- What a driver's append that is allowed says of its actor, and the world that it leaves.
-use Rattle.std.proofs.Common.{◌≡◌, ℕ, zero, suc, ◌+◌, ◌<◌, ◌≤◌, ◌==◌, nat_lt, List, ◌++◌, length, set, get_or, replicate, Bool, false, true≢false, cond, Some, None, refl, sym, ap, ◌∙◌, subst, arith, ltb-false, ne_eqb, length-append}
-use Rattle.std.specs.Prelude.{◌||◌}
-use Rattle.std.proofs.lemmas.Bool.{or_parts}
+use Rattle.zone_machine.proofs.Prelude.{◌≡◌, ℕ, zero, suc, ◌+◌, ◌<◌, ◌≤◌, ◌==◌, nat_lt, List, ◌++◌, length, get_or, replicate, Bool, false, true≢false, cond, Some, None, refl, sym, ap, ◌∙◌, subst, arith, ltb-false, ne_eqb, length-append, ◌||◌, or_parts, Yes, Driver, Entry, control, then_some-none, Cell, number_of, number_in, Footprint, claim_of, footprint_of, Block, Setup, Actor, World, actor, trains_of, yard_after, table_of, zones, block_entries, known_table, own_claim, answer, driver_after, checks, refusal, room_for, after_driver, Sound, IsSetup, Is, CoreValue, IsCore}
+use Rattle.std.proofs.Common.{set}
 use Rattle.std.proofs.lemmas.List.{length-replicate}
 use Rattle.std.proofs.lemmas.Bool.Decides.{Decides-eqb}
-use Rattle.rail_model.specs.declared.types.Ask.TheVariants.{Yes}
-use Rattle.rail_model.specs.declared.types.Reply.TheVariants.{Driver}
-use Rattle.rail_model.specs.declared.types.Entry.{Entry}
-use Rattle.rail_model.specs.Yard.{control}
-use Rattle.rail_model.proofs.Firsts.{then_some-none}
 use Rattle.rail_model.specs.declared.types.BlockAsk.{BlockAsk}
 use Rattle.rail_model.specs.declared.types.BlockAsk.TheVariants as block
-use Rattle.move_claim.specs.declared.cells.Cell.{Cell}
-use Rattle.move_claim.specs.Cells.{number_of, number_in}
-use Rattle.move_claim.specs.Claims.{Footprint, claim_of, footprint_of}
 use Rattle.move_claim.specs.Deciding.{decided}
-use Rattle.zone_machine.specs.declared.steps.Step.TheVariants.{Block}
 use Rattle.zone_machine.specs.declared.steps.NotAllowed.TheVariants as no
-use Rattle.zone_machine.specs.World.{Setup, Actor, World, actor, trains_of, yard_after}
-use Rattle.zone_machine.specs.Needs.{table_of, zones}
-use Rattle.rail_model.specs.Blocks.{block_entries}
-use Rattle.zone_machine.specs.Entries.{known_table, own_claim, answer, driver_after}
 use Rattle.zone_machine.specs.Entered.{driver_told}
-use Rattle.zone_machine.specs.Steps.{checks, refusal, room_for, after_driver}
-use Rattle.zone_machine.specs.Sound.{Sound, IsSetup, Is}
-use Rattle.zone_machine.specs.Cores.{CoreValue, IsCore}
 use Rattle.zone_machine.proofs.Acting.{in_place, passed, there, is_row, allowed_here}
 use Rattle.zone_machine.proofs.Allowed.{Passes, asked, is_aboard_at}
 use Rattle.zone_machine.proofs.InForce.{stands, in_range as known_in}

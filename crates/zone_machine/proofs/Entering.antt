@@ -1,11 +1,6 @@
 -- What the loops of an append find and add.
-use Rattle.std.proofs.Common.{◌≡◌, ℕ, ◌<◌, List, [], ◌∷◌, map, Bool, true, false, Some, None, refl, sym, ap, ◌∙◌, inl, inr}
-use Rattle.std.specs.Prelude.{find, is_none, option_map}
-use Rattle.std.proofs.lemmas.Bool.{cases_Bool}
-use Rattle.rail_model.specs.Checks.{below}
-use Rattle.move_claim.specs.declared.cells.Cell.{Cell}
-use Rattle.move_claim.specs.declared.cells.Cell.TheVariants.{Position}
-use Rattle.move_claim.specs.Cells.{number_of, first_unknown}
+use Rattle.zone_machine.proofs.Prelude.{◌≡◌, ℕ, ◌<◌, List, [], ◌∷◌, map, Bool, true, false, Some, None, refl, sym, ap, ◌∙◌, inl, inr, find, is_none, option_map, cases_Bool, below, Cell, Position, number_of}
+use Rattle.move_claim.specs.Cells.{first_unknown}
 use Rattle.move_claim.proofs.Finding.{found, nothing_found}
 
 find-map : (t : Cell → Bool) (f : ℕ → Cell) (xs : List ℕ) → find t (map f xs) ≡ option_map f (find (λ i. t (f i)) xs)

@@ -1,13 +1,7 @@
 -- What the tests of an actor's program say of its zones.
-use Rattle.std.proofs.Common.{◌≡◌, ◌⊎◌, ℕ, ◌<◌, ◌==◌, List, [], ◌∷◌, Bool, true, false, true≢false, cond, Option, Some, None, refl, sym, ap, ap₂, ◌∙◌, subst, inl, inr, arith, eq-eqb, ne_eqb, le-leb}
-use Rattle.std.specs.Prelude.{find, nat_le, not, is_none, is_some, option_map}
-use Rattle.std.specs.Option.{option_or}
-use Rattle.std.specs.List.Sorted.{IsStrictlyIncreasing}
-use Rattle.std.proofs.lemmas.Bool.{lt-leb, eqb-true, cases_Bool, cases_order, both_ways, false_from_ne_true}
-use Rattle.zone_locks.specs.Zones.{has}
-use Rattle.zone_machine.specs.declared.steps.Step.{Step}
-use Rattle.zone_machine.specs.declared.steps.Step.TheVariants.{Take}
-use Rattle.zone_machine.specs.Steps.{first_zone}
+use Rattle.zone_machine.proofs.Prelude.{◌≡◌, ◌⊎◌, ℕ, ◌<◌, ◌==◌, List, [], ◌∷◌, Bool, true, false, true≢false, cond, Option, Some, None, refl, sym, ap, ◌∙◌, subst, inl, inr, arith, eq-eqb, ne_eqb, find, nat_le, not, is_none, is_some, option_map, option_or, IsStrictlyIncreasing, eqb-true, cases_Bool, both_ways, false_from_ne_true, has, Step, Take, first_zone}
+use Rattle.std.proofs.Common.{ap₂, le-leb}
+use Rattle.std.proofs.lemmas.Bool.{lt-leb, cases_order}
 use Rattle.zone_machine.specs.Program.{rest_of, zones_left}
 use Rattle.zone_machine.proofs.Places.{same_some, by_option, has-first, has-later, Rises, rises}
 

@@ -1,17 +1,10 @@
 -- What a sound world says of the tables that its actors know.
-use Rattle.std.proofs.Common.{◌≡◌, ℕ, ◌<◌, length, false, true≢false, Option, Some, None, refl, sym, ap, ◌∙◌, subst, arith}
-use Rattle.std.specs.Prelude.{is_none, unwrap_or}
-use Rattle.rail_model.specs.State.{Legal}
+use Rattle.zone_machine.proofs.Prelude.{◌≡◌, ℕ, ◌<◌, length, false, true≢false, Option, Some, None, refl, sym, ap, ◌∙◌, subst, arith, is_none, unwrap_or, Legal, Yard, number_of, Setup, Actor, World, yard_after, table_of, known_table, Sound, IsSetup, Is}
 use Rattle.rail_model.specs.Table.{Table}
-use Rattle.rail_model.specs.Yard.{Yard, in_force}
+use Rattle.rail_model.specs.Yard.{in_force}
 use Rattle.table_exchange.specs.Tables.{Stands}
 use Rattle.table_exchange.proofs.Histories.{stands_history}
 use Rattle.move_claim.specs.declared.cells.Cell.TheVariants.{Table as TableCell}
-use Rattle.move_claim.specs.Cells.{number_of}
-use Rattle.zone_machine.specs.World.{Setup, Actor, World, yard_after}
-use Rattle.zone_machine.specs.Needs.{table_of}
-use Rattle.zone_machine.specs.Entries.{known_table}
-use Rattle.zone_machine.specs.Sound.{Sound, IsSetup, Is}
 
 -- a number that isn't missing is known
 pub is_known : (o : Option ℕ) → is_none o ≡ false → (n : ℕ) × (o ≡ Some n)

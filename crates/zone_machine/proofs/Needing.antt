@@ -1,14 +1,5 @@
 -- What a core says of an actor's next entry.
-use Rattle.std.proofs.Common.{◌≡◌, ℕ, ◌<◌, List, length, true, Some, refl, sym, subst, arith}
-use Rattle.std.specs.List.Sorted.{IsStrictlyIncreasing}
-use Rattle.rail_model.specs.Checks.{below}
-use Rattle.rail_model.specs.Yard.{control}
-use Rattle.zone_locks.specs.Zones.{has}
-use Rattle.move_claim.specs.Claims.{claim_of, zones_of}
-use Rattle.zone_machine.specs.World.{Setup, Actor, gone, trains_of}
-use Rattle.zone_machine.specs.Needs.{table_of, zones}
-use Rattle.zone_machine.specs.Sound.{Sound, IsSetup, Is}
-use Rattle.zone_machine.specs.Cores.{CoreValue, IsCore}
+use Rattle.zone_machine.proofs.Prelude.{◌≡◌, ℕ, ◌<◌, List, length, true, Some, refl, sym, subst, arith, IsStrictlyIncreasing, below, control, has, claim_of, zones_of, Setup, Actor, gone, trains_of, table_of, zones, Sound, IsSetup, Is, CoreValue, IsCore}
 use Rattle.zone_machine.proofs.InForce.{glance_in as in_force}
 use Rattle.zone_machine.proofs.Readable.{Rising-zones, zones_low}
 use Rattle.zone_machine.proofs.Refusing.{no_control}

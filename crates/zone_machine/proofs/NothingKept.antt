@@ -1,10 +1,7 @@
 -- Where nothing was kept yet, all that is kept is right.
-use Rattle.std.proofs.Common.{◌≡◌, ℕ, zero, suc, replicate, Some, None, refl, sym, ap, ◌∙◌}
-use Rattle.std.specs.Prelude.{slice_get}
-use Rattle.move_claim.specs.Claims.{Footprint, claim_of, footprint_of, nothing_claimed}
+use Rattle.zone_machine.proofs.Prelude.{◌≡◌, ℕ, zero, suc, replicate, Some, None, refl, sym, ap, ◌∙◌, slice_get, Footprint, claim_of, footprint_of, table_of, Setup}
+use Rattle.move_claim.specs.Claims.{nothing_claimed}
 use Rattle.zone_machine.specs.Keeping.{Kept, IsKept, AreKept}
-use Rattle.zone_machine.specs.Needs.{table_of}
-use Rattle.zone_machine.specs.World.{Setup}
 use Rattle.zone_machine.proofs.Samples.{apart}
 
 -- nothing is kept for an actor

@@ -1,11 +1,10 @@
 -- A history that is replayed entry by entry.
-use Rattle.std.proofs.Common.{◌≡◌, ℕ, zero, suc, ◌+◌, ◌-◌, ◌<◌, List, [], ◌∷◌, ◌++◌, length, get_or, drop, drop-cons, Bool, true, false, cond, None, sym, ◌∙◌, append_assoc, subst, arith}
-use Rattle.std.specs.Prelude.{option_to_list, slice_get}
-use Rattle.rail_model.specs.declared.types.Entry.{Entry}
+use Rattle.zone_machine.proofs.Prelude.{◌≡◌, ℕ, zero, suc, ◌+◌, ◌-◌, ◌<◌, List, [], ◌∷◌, ◌++◌, length, get_or, drop, Bool, true, false, cond, None, sym, ◌∙◌, append_assoc, subst, arith, slice_get, Entry, last, point, Offer, Yard, IsHistory, after, after_entry}
+use Rattle.std.proofs.Common.{drop-cons}
+use Rattle.std.specs.Prelude.{option_to_list}
 use Rattle.rail_model.specs.declared.types.Line.{Line}
 use Rattle.rail_model.specs.Lines.{journal_of, line_of}
-use Rattle.rail_model.specs.Table.{Table, Mission, mission, last_of, last, point}
-use Rattle.rail_model.specs.Yard.{Offer, Yard, IsHistory, after, after_entry}
+use Rattle.rail_model.specs.Table.{Table, Mission, mission, last_of}
 use Rattle.table_exchange.specs.Tables.{AreTables, Stands}
 use Rattle.table_exchange.proofs.Histories.{stands_history}
 

@@ -1,8 +1,6 @@
 -- Worked rows: each refusal, at each step that it can meet.
-use Rattle.std.proofs.Common.{◌≡◌, [], ◌∷◌, ◌++◌, Ok, Err, refl}
-use Rattle.rail_model.specs.Yard.{control}
-use Rattle.move_claim.specs.declared.cells.Cell.TheVariants.{Point, Position, Table}
-use Rattle.zone_machine.specs.declared.steps.Step.TheVariants.{Board, Glance, Take, Read, Append, Block, Pay, Release, Leave}
+use Rattle.zone_machine.proofs.Prelude.{◌≡◌, [], ◌∷◌, ◌++◌, Ok, Err, refl, control, Point, Position, Board, Glance, Take, Read, Append, Block, Pay, Release, Leave}
+use Rattle.move_claim.specs.declared.cells.Cell.TheVariants.{Table}
 use Rattle.zone_machine.specs.declared.steps.Seen.TheVariants as seen
 use Rattle.zone_machine.specs.declared.steps.NotAllowed.TheVariants as no
 use Rattle.zone_machine.proofs.Samples.{apart, sees, by}

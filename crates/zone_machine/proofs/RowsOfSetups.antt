@@ -1,15 +1,13 @@
 -- A yard with names and links, of which all is true that the core asks of its setup.
-use Rattle.std.proofs.Common.{◌≡◌, ℕ, zero, suc, ◌+◌, ◌<◌, ◌≤◌, ℤ, pos, ◌≤ℤ◌, [], ◌∷◌, length, Some, refl, subst, arith, lit<, lit≤}
-use Rattle.std.specs.Prelude.{codes, ◌≢◌, slice_get, slice_index_or}
+use Rattle.zone_machine.proofs.Prelude.{◌≡◌, ℕ, zero, suc, ◌+◌, ◌<◌, ◌≤◌, pos, ◌≤ℤ◌, [], ◌∷◌, length, Some, refl, subst, arith, ◌≢◌, slice_get, IsTable, trains, last, offer, IsOn, IsSetup}
+use Rattle.std.proofs.Common.{ℤ, lit<, lit≤}
+use Rattle.std.specs.Prelude.{codes, slice_index_or}
 use Rattle.std.proofs.lemmas.Int.{ints}
 use Rattle.rail_model.specs.Layout.{IsLayout, Link, zone}
-use Rattle.rail_model.specs.Table.{Table, IsTable, IsSection, IsMission, mission, section as section_of, trains, last, share}
-use Rattle.rail_model.specs.Yard.{offer}
+use Rattle.rail_model.specs.Table.{Table, IsSection, IsMission, mission, section as section_of, share}
 use Rattle.rail_model.proofs.MissionTests.{Decides-mission}
 use Rattle.rail_model.proofs.MoveTests.{Decides-legal}
 use Rattle.rail_model.proofs.NameTests.{are_names}
-use Rattle.rail_model.specs.Ways.{IsOn}
-use Rattle.zone_machine.specs.Sound.{IsSetup}
 use Rattle.zone_machine.proofs.Samples.{detour}
 
 -- the table of the detour of this number

@@ -1,23 +1,11 @@
 -- From one try's steps to what came of it.
-use Rattle.std.proofs.Common.{◌≡◌, ◌≢◌, ◌+◌, ℕ, List, [], ◌++◌, length, true, false, sym, ap, ◌∙◌, subst, arith, Some}
-use Rattle.atomic_table.specs.Seated.{TableId}
-use Rattle.rail_model.specs.declared.types.BlockAsk.{BlockAsk}
-use Rattle.rail_model.specs.declared.types.Entry.{Entry}
+use Rattle.zone_yard.proofs.Prelude.{◌≡◌, ◌≢◌, ◌+◌, ℕ, List, [], ◌++◌, length, true, false, sym, ap, ◌∙◌, subst, arith, Some, TableId, BlockAsk, Entry, offer, number_of, Footprint, claim_of, Wanted, Setup, state_after, IsLegalHistory, StartsWith, told, receipts_from, entries_of, standing, Enters, needs, replies_of, granted_steps, CanAnswer, steps_left, new_entries, pass_of, Seat, HoldsZones, RefusesZone, IsToldBlock}
 use Rattle.rail_model.specs.declared.types.Reply.{Reply}
-use Rattle.rail_model.specs.Yard.{offer}
 use Rattle.move_claim.specs.declared.cells.Cell.TheVariants.{Table as TableCell}
-use Rattle.move_claim.specs.Cells.{number_of}
-use Rattle.move_claim.specs.Claims.{Footprint, claim_of}
-use Rattle.zone_yard.specs.declared.requests.Wanted.{Wanted}
-use Rattle.zone_yard.specs.Setup.{Setup, state_after, IsLegalHistory}
-use Rattle.zone_yard.specs.Passes.{StartsWith, told, receipts_from, entries_of, standing}
-use Rattle.zone_yard.specs.Entering.{Enters}
-use Rattle.zone_yard.specs.Blocks.{needs, replies_of, granted_steps, CanAnswer, steps_left}
-use Rattle.zone_yard.specs.Views.{new_entries, pass_of, Seat}
 use Rattle.zone_yard.specs.Aboard.{IsIdle}
 use Rattle.zone_yard.specs.Tells.{Appends}
-use Rattle.zone_yard.specs.Holding.{HoldsZones, Meets, Learns, StillOwes, Frees}
-use Rattle.zone_yard.specs.Attempts.{RefusesZone, Moves, IsBack, IsToldBlock}
+use Rattle.zone_yard.specs.Holding.{Meets, Learns, StillOwes, Frees}
+use Rattle.zone_yard.specs.Attempts.{Moves, IsBack}
 
 -- what the zones and the reads leave
 known_under : (held : List ℕ) (m0 m1 m2 : Seat) → HoldsZones m0 m1 held → Learns m1 m2

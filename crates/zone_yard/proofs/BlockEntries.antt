@@ -1,42 +1,25 @@
 -- A driver that holds the zones of its next steps and knows their cells may enter the answer, and owes what it grants.
-use Rattle.std.proofs.Common.{◌≡◌, ◌≢◌, ℕ, zero, suc, ◌+◌, ◌<◌, ◌≤◌, ◌==◌, List, [], ◌∷◌, length, Bool, true, false, true≢false, cond, Some, None, refl, sym, ap, ◌∙◌, subst, arith, eq-eqb, ne_eqb}
-use Rattle.std.specs.Prelude.{filter, map, unwrap_or, Option, replicate, if◌then◌else◌}
+use Rattle.zone_yard.proofs.Prelude.{◌≡◌, ◌≢◌, ℕ, zero, suc, ◌+◌, ◌<◌, ◌≤◌, ◌==◌, List, [], ◌∷◌, length, Bool, true, false, true≢false, cond, Some, None, refl, sym, ap, ◌∙◌, subst, arith, eq-eqb, ne_eqb, map, unwrap_or, Option, replicate, if◌then◌else◌, BlockAsk, Driver, Control, Entry, Table, block_entries, below, offer, control, has, Cell, Position, Claim, number_of, number_in, first_unknown, Footprint, claim_of, zones_of, decided, Actor, trains_of, known_table, tried, Wanted, Setup, core, told, needs, replies_of, granted_steps, CanAnswer, View, new_entries, MayEnter, span}
+use Rattle.std.specs.Prelude.{filter}
 use Rattle.std.specs.List.{range_with_len}
 use Rattle.std.proofs.lemmas.Bool.Decides.{Decides-eqb}
 use mathlib.Core.Logic.{dite}
 use native.Mathlib.Decide.{ℕ_discrete}
 use Rattle.rail_model.specs.declared.types.Ask.{Ask}
 use Rattle.rail_model.specs.declared.types.Ask.TheVariants as ask
-use Rattle.rail_model.specs.declared.types.BlockAsk.{BlockAsk}
 use Rattle.rail_model.specs.declared.types.BlockAsk.TheVariants as block
 use Rattle.rail_model.specs.declared.types.Reply.{Reply}
-use Rattle.rail_model.specs.declared.types.Reply.TheVariants.{Driver, Control}
-use Rattle.rail_model.specs.declared.types.Entry.{Entry}
-use Rattle.rail_model.specs.Table.{Table}
-use Rattle.rail_model.specs.Blocks.{block_entries}
-use Rattle.rail_model.specs.Checks.{below}
-use Rattle.rail_model.specs.Yard.{offer, control}
 use Rattle.rail_model.proofs.Found.{Among-range}
-use Rattle.zone_locks.specs.Zones.{has}
-use Rattle.move_claim.specs.declared.cells.Cell.{Cell}
-use Rattle.move_claim.specs.declared.cells.Cell.TheVariants.{Position, Table as TableCell}
-use Rattle.move_claim.specs.declared.claims.Claim.{Claim}
-use Rattle.move_claim.specs.Cells.{number_of, number_in, first_unknown}
-use Rattle.move_claim.specs.Claims.{Footprint, claim_of, zones_of, cells_of}
-use Rattle.move_claim.specs.Deciding.{decided, ask_after, first_refused, stopped}
+use Rattle.move_claim.specs.declared.cells.Cell.TheVariants.{Table as TableCell}
+use Rattle.move_claim.specs.Claims.{cells_of}
+use Rattle.move_claim.specs.Deciding.{ask_after, first_refused, stopped}
 use Rattle.move_claim.proofs.Amongs.{Among-filter}
 use Rattle.move_claim.proofs.Numbered.{Among-has}
-use Rattle.zone_machine.specs.World.{Actor, trains_of}
-use Rattle.zone_machine.specs.Entries.{known_table, own_claim, is_granted, tried, control_after, driver_after}
+use Rattle.zone_machine.specs.Entries.{own_claim, is_granted, control_after, driver_after}
 use Rattle.zone_machine.specs.Needs.{zones, cells}
 use Rattle.zone_machine.specs.Steps.{missing_zone, room_for}
-use Rattle.zone_yard.specs.declared.requests.Wanted.{Wanted}
-use Rattle.zone_yard.specs.Setup.{Setup, core}
-use Rattle.zone_yard.specs.Passes.{told}
-use Rattle.zone_yard.specs.Blocks.{needs, replies_of, granted_steps, CanAnswer}
-use Rattle.zone_yard.specs.Views.{View, new_entries, actor_after}
-use Rattle.zone_yard.specs.Core.{MayEnter}
-use Rattle.zone_yard.specs.Holding.{span, owing}
+use Rattle.zone_yard.specs.Views.{actor_after}
+use Rattle.zone_yard.specs.Holding.{owing}
 use Rattle.zone_yard.proofs.Lists.{second_of, same_of}
 
 -- the entries of an answer tell it

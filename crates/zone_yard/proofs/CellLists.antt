@@ -1,13 +1,12 @@
 -- Cells are read one after the other, and paid in their order.
-use Rattle.std.proofs.Common.{◌≡◌, ◌≢◌, ℕ, zero, suc, ◌+◌, ◌<◌, ◌≤◌, ◌^◌, List, [], ◌∷◌, length, drop, get_or, Bool, true, false, cond, Option, Some, None, refl, sym, ap, ◌∙◌, subst, ⊎_elim, arith}
-use Rattle.std.specs.Prelude.{slice_get, is_none}
-use Rattle.move_claim.specs.declared.cells.Cell.{Cell}
-use Rattle.move_claim.specs.Cells.{same_cell, number_of, put, without_cell, first_unknown, AreDistinct}
-use Rattle.zone_machine.specs.World.{Setup as CoreSetup, is_cell}
+use Rattle.zone_yard.proofs.Prelude.{◌≡◌, ◌≢◌, ℕ, zero, suc, ◌+◌, ◌<◌, ◌≤◌, ◌^◌, List, [], ◌∷◌, length, get_or, Bool, true, false, cond, Option, Some, None, refl, sym, ap, ◌∙◌, subst, ⊎_elim, arith, slice_get, is_none, Cell, number_of, put, first_unknown, is_cell, Seat, AreAllSmall}
+use Rattle.std.proofs.Common.{drop}
+use Rattle.move_claim.specs.Cells.{same_cell, without_cell, AreDistinct}
+use Rattle.zone_machine.specs.World.{Setup as CoreSetup}
 use Rattle.zone_machine.proofs.OwnSteps.{same_self, cells, number_of-put_same, number_of-put_other}
 use Rattle.zone_machine.proofs.Places.{same_some}
-use Rattle.zone_yard.specs.Views.{read, paid, Seat}
-use Rattle.zone_yard.specs.Holding.{AreAllSmall, Knows, StillOwes, AreCells}
+use Rattle.zone_yard.specs.Views.{read, paid}
+use Rattle.zone_yard.specs.Holding.{Knows, StillOwes, AreCells}
 
 pub put-length : (c : Cell) (n : ℕ) (xs : List (Cell × ℕ)) → length (put c n xs) ≤ suc (length xs)
 put-length c n [] = omega arith

@@ -1,26 +1,17 @@
 -- Looks at the table in force, reads under a guard and payments keep the rule, by the core's own steps.
-use Rattle.std.proofs.Common.{◌≡◌, ◌≢◌, ◌⊎◌, ℕ, ◌*◌, ◌<◌, ◌≤◌, List, [], length, set, get_or, true, false, Ok, Some, refl, sym, ap, ◌∙◌, subst, inl, inr, arith, get_or-set_other, get_or-set_same, ⊎_elim}
-use Rattle.std.specs.Prelude.{slice_get}
+use Rattle.zone_yard.proofs.Prelude.{◌≡◌, ◌≢◌, ◌⊎◌, ℕ, ◌*◌, ◌<◌, ◌≤◌, List, [], length, set, get_or, true, false, Ok, Some, refl, sym, ap, ◌∙◌, subst, inl, inr, arith, get_or-set_other, get_or-set_same, ⊎_elim, slice_get, slice_get-get_or, Me, keeps, stepped, Allows, stands_history, Cell, Point, Position, number_of, put, Aboard, Actor, World, actor, gone, word, word_of, is_cell, may_read, Sound, step_of, step_sound, Setup, core, View, seat_of, KeepsRule}
 use Rattle.std.proofs.lemmas.List.{set-get_or}
-use Rattle.std.proofs.lemmas.Option.{slice_get-get_or}
 use mathlib.Core.Option.{none, some}
 use lib.ListN.{get_elem?}
-use Rattle.atomic_table.specs.Table.{Me, step, keeps, stepped, Allows}
-use Rattle.table_exchange.proofs.Histories.{stands_history}
-use Rattle.move_claim.specs.declared.cells.Cell.{Cell}
-use Rattle.move_claim.specs.declared.cells.Cell.TheVariants.{Point, Count, Position, Table as TableCell}
-use Rattle.move_claim.specs.Cells.{number_of, put, without_cell}
-use Rattle.zone_machine.specs.declared.steps.Stage.TheVariants.{Aboard}
+use Rattle.atomic_table.specs.Table.{step}
+use Rattle.move_claim.specs.declared.cells.Cell.TheVariants.{Count, Table as TableCell}
+use Rattle.move_claim.specs.Cells.{without_cell}
 use Rattle.zone_machine.specs.declared.steps.Step.TheVariants.{Glance, Read, Pay}
 use Rattle.zone_machine.specs.declared.steps.Seen.TheVariants as seen
-use Rattle.zone_machine.specs.World.{Setup as CoreSetup, Actor, World, actor, gone, word, word_of, with_word, with_actor, is_cell, may_read, yard_after}
-use Rattle.zone_machine.specs.Sound.{Sound, IsNumber, IsSetup as IsCoreSetup}
-use Rattle.zone_machine.specs.Steps.{step_of}
-use Rattle.zone_machine.proofs.Together.{step_sound}
+use Rattle.zone_machine.specs.World.{Setup as CoreSetup, with_word, with_actor, yard_after}
+use Rattle.zone_machine.specs.Sound.{IsNumber, IsSetup as IsCoreSetup}
 use Rattle.zone_machine.proofs.Words.{word_apart, cell_word}
-use Rattle.zone_yard.specs.Setup.{Setup, core}
-use Rattle.zone_yard.specs.Views.{View, glanced, read, read_table, paid, seat_of}
-use Rattle.zone_yard.specs.Kept.{KeepsRule}
+use Rattle.zone_yard.specs.Views.{glanced, read, read_table, paid}
 use Rattle.zone_yard.specs.Tells.{Glances, ReadsCell, ReadsInForce, PaysCell}
 use Rattle.zone_yard.proofs.Apart.{found_apart}
 use Rattle.zone_yard.proofs.Keeps.{St, own_keeps, Stays}

@@ -1,30 +1,20 @@
 -- A yard that nobody is out of comes to the state that its whole history leads to.
-use Rattle.std.proofs.Common.{◌≡◌, ℕ, zero, suc, ◌+◌, ◌*◌, ◌-◌, ◌<◌, ◌≤◌, List, [], ◌∷◌, ◌++◌, length, get_or, Some, refl, sym, ap, ◌∙◌, subst, arith, lt-ltb}
+use Rattle.zone_yard.proofs.Prelude.{◌≡◌, ℕ, zero, suc, ◌+◌, ◌*◌, ◌-◌, ◌<◌, ◌≤◌, List, [], ◌∷◌, ◌++◌, length, get_or, Some, refl, sym, ap, ◌∙◌, subst, arith, lt-ltb, TableId, Entry, Line, journal_of, trains, place, Yard, stands_history, Row, Position, word_of, Setup, core, state_after, IsLegalHistory, most_passes, entries_of, done_of, View, KeepsRule, AreLeft}
 use Rattle.std.proofs.lemmas.List.Elements.{All-cons}
 use mathlib.Core.Option.{some, some-injective, some-ne-none}
 use lib.ListN.{get_elem?}
-use Rattle.atomic_table.specs.Seated.{TableId}
-use Rattle.rail_model.specs.declared.types.Entry.{Entry}
-use Rattle.rail_model.specs.declared.types.Line.{Line}
-use Rattle.rail_model.specs.Lines.{journal_of}
-use Rattle.rail_model.specs.Table.{trains, place}
-use Rattle.rail_model.specs.Yard.{Yard, in_force}
+use Rattle.rail_model.specs.Yard.{in_force}
 use Rattle.table_exchange.specs.Tables.{Stands}
-use Rattle.table_exchange.proofs.Histories.{stands_history}
 use Rattle.plain_yard.specs.Keeps.{Keeps}
 use Rattle.plain_yard.proofs.Keeping.{history_keeps, keeps_ready, few_moves}
 use Rattle.ticket_lines.specs.Tickets.{AreOf, lines_of}
-use Rattle.ticket_lines.specs.Merging.{Row, AreRows}
+use Rattle.ticket_lines.specs.Merging.{AreRows}
 use Rattle.ticket_lines.proofs.Counted.{tables_counted}
-use Rattle.move_claim.specs.declared.cells.Cell.TheVariants.{Position, Table as TableCell}
-use Rattle.zone_machine.specs.World.{word_of, number}
+use Rattle.move_claim.specs.declared.cells.Cell.TheVariants.{Table as TableCell}
+use Rattle.zone_machine.specs.World.{number}
 use Rattle.zone_machine.specs.Sound.{IsSetup}
-use Rattle.zone_yard.specs.Setup.{Setup, core, state_after, IsLegalHistory, most_passes}
-use Rattle.zone_yard.specs.Passes.{entries_of, done_of}
-use Rattle.zone_yard.specs.Views.{View, root_of}
+use Rattle.zone_yard.specs.Views.{root_of}
 use Rattle.zone_yard.specs.Boarding.{Closes}
-use Rattle.zone_yard.specs.Kept.{KeepsRule}
-use Rattle.zone_yard.specs.Lines.{AreLeft}
 use Rattle.zone_yard.proofs.Keeps.{St}
 use Rattle.zone_yard.proofs.Closes.{seen_whole, words_are}
 use Rattle.zone_yard.proofs.Counts.{AreLow, low_history, all_few}

@@ -1,18 +1,14 @@
 -- A history is as long as the passes' own entries together, so a bound on each bounds it.
-use Rattle.std.proofs.Common.{◌≡◌, ◌≢◌, ℕ, zero, suc, ◌+◌, ◌*◌, ◌<◌, ◌≤◌, ◌==◌, List, [], ◌∷◌, length, if◌then◌else◌, refl, ap, subst, inl, inr, arith, eq-eqb, ne_eqb, suc-mul}
+use Rattle.zone_yard.proofs.Prelude.{◌≡◌, ◌≢◌, ℕ, zero, suc, ◌+◌, ◌*◌, ◌<◌, ◌≤◌, ◌==◌, List, [], ◌∷◌, length, if◌then◌else◌, refl, ap, subst, inl, inr, arith, eq-eqb, ne_eqb, Driver, Control, Entry, trains, Offer, Yard, offer, IsHistory, Setup, core, most_passes, entries_from, entries_of, KeepsRule}
+use Rattle.std.proofs.Common.{suc-mul}
 use Rattle.std.proofs.lemmas.Bool.{cases_lt}
 use Rattle.std.proofs.lemmas.List.{get_or_past}
 use mathlib.Core.Logic.{dite}
 use native.Mathlib.Decide.{ℕ_discrete}
 use Rattle.rail_model.specs.declared.types.Reply.{Reply}
-use Rattle.rail_model.specs.declared.types.Reply.TheVariants.{Driver, NotWhole, Control}
-use Rattle.rail_model.specs.declared.types.Entry.{Entry}
-use Rattle.rail_model.specs.Table.{trains}
-use Rattle.rail_model.specs.Yard.{Offer, Yard, offer, after_entry, IsAnswer, IsHistory}
+use Rattle.rail_model.specs.declared.types.Reply.TheVariants.{NotWhole}
+use Rattle.rail_model.specs.Yard.{after_entry, IsAnswer}
 use Rattle.zone_machine.specs.Sound.{IsSetup as IsCoreSetup}
-use Rattle.zone_yard.specs.Setup.{Setup, core, most_passes}
-use Rattle.zone_yard.specs.Passes.{entries_from, entries_of}
-use Rattle.zone_yard.specs.Kept.{KeepsRule}
 use Rattle.zone_yard.proofs.Keeps.{St}
 
 -- Each entry is of a pass that there can be.

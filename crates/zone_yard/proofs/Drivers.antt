@@ -1,26 +1,13 @@
 -- What a request for a block leaves of its driver.
-use Rattle.std.proofs.Common.{◌≡◌, ℕ, suc, ◌+◌, ◌<◌, ◌≤◌, ◌^◌, List, length, true, sym, ap, ◌∙◌, subst, arith, length-append}
+use Rattle.zone_yard.proofs.Prelude.{◌≡◌, ℕ, suc, ◌+◌, ◌<◌, ◌≤◌, ◌^◌, List, length, true, sym, ap, ◌∙◌, subst, arith, length-append, TableId, BlockAsk, Driver, Table, trains, offer, has, Claim, zones_of, Told, Busy, Setup, SharedYard, IsLegalHistory, told, receipts_from, replies_of, granted_steps, pass_of, Seat, IsPass, IsToldBlock}
 use Rattle.std.proofs.lemmas.List.{length-replicate}
-use Rattle.atomic_table.specs.Seated.{TableId}
-use Rattle.rail_model.specs.declared.types.BlockAsk.{BlockAsk}
 use Rattle.rail_model.specs.declared.types.BlockAsk.TheVariants as block
 use Rattle.rail_model.specs.declared.types.Ask.TheVariants.{Yes}
 use Rattle.rail_model.specs.declared.types.Reply.{Reply}
-use Rattle.rail_model.specs.declared.types.Reply.TheVariants.{Driver}
-use Rattle.rail_model.specs.Table.{Table, trains}
-use Rattle.rail_model.specs.Yard.{offer}
-use Rattle.zone_locks.specs.Zones.{has}
-use Rattle.move_claim.specs.declared.claims.Claim.{Claim}
-use Rattle.move_claim.specs.Claims.{zones_of}
 use Rattle.zone_yard.specs.declared.requests.Attempt.{Attempt}
-use Rattle.zone_yard.specs.declared.requests.Attempt.TheVariants.{Told, Busy}
-use Rattle.zone_yard.specs.Setup.{Setup, SharedYard, IsLegalHistory}
-use Rattle.zone_yard.specs.Passes.{told, receipts_from}
-use Rattle.zone_yard.specs.Blocks.{replies_of, granted_steps}
 use Rattle.zone_yard.specs.Asked.{Attempted}
-use Rattle.zone_yard.specs.Views.{pass_of, Seat}
-use Rattle.zone_yard.specs.Aboard.{IsDriver, IsPass, IsIdle}
-use Rattle.zone_yard.specs.Attempts.{IsToldBlock, Asks}
+use Rattle.zone_yard.specs.Aboard.{IsDriver, IsIdle}
+use Rattle.zone_yard.specs.Attempts.{Asks}
 use Rattle.zone_yard.proofs.BlockEntries.{told_long}
 use Rattle.zone_yard.proofs.Entered.{length-receipts}
 use Rattle.zone_yard.proofs.Replied.{same_claim}

@@ -1,40 +1,28 @@
 -- Entries are added to the history under the rule, by the core's own step.
-use Rattle.std.proofs.Common.{◌≡◌, ◌≢◌, ℕ, zero, suc, ◌+◌, ◌*◌, ◌%◌, ◌^◌, ◌<◌, ◌≤◌, ◌==◌, List, [], ◌∷◌, ◌++◌, length, set, get_or, replicate, Bool, true, false, if◌then◌else◌, Ok, refl, sym, ap, ◌∙◌, subst, ⊎_elim, arith, eq-eqb, ne_eqb, length-append, cond, append-nil, get_or-set_other, get_or-set_same, Some, None, inl}
+use Rattle.zone_yard.proofs.Prelude.{◌≡◌, ◌≢◌, ℕ, zero, suc, ◌+◌, ◌*◌, ◌^◌, ◌<◌, ◌≤◌, ◌==◌, List, [], ◌∷◌, ◌++◌, length, set, get_or, replicate, Bool, true, false, if◌then◌else◌, Ok, refl, sym, ap, ◌∙◌, subst, ⊎_elim, arith, eq-eqb, ne_eqb, length-append, cond, append-nil, get_or-set_other, get_or-set_same, Some, None, inl, slice_get, is_none, Me, keeps, stepped, Allows, Driver, Control, Entry, control, BlockAsk, number_of, Aboard, Actor, World, actor, gone, word, trains_of, is_cell, known_table, tried, block_entries, step_of, Sound, step_sound, MayEnter, Setup, core, most_passes, state_after, IsLegalHistory, StartsWith, entries_from, entries_of, receipts_from, standing, View, new_entries, seat_of, KeepsRule, Fits, IsPassNumber}
+use Rattle.std.proofs.Common.{◌%◌}
 use Rattle.std.proofs.lemmas.List.{length-replicate}
-use Rattle.std.specs.Prelude.{slice_get, is_none}
 use mathlib.Core.Logic.{dite}
 use native.Mathlib.Decide.{ℕ_discrete}
-use Rattle.atomic_table.specs.Table.{Me, step, keeps, stepped, Allows}
+use Rattle.atomic_table.specs.Table.{step}
 use Rattle.rail_model.specs.declared.types.Ask.TheVariants.{Yes}
-use Rattle.rail_model.specs.declared.types.Reply.TheVariants.{Driver, Control}
-use Rattle.rail_model.specs.declared.types.Entry.{Entry}
-use Rattle.rail_model.specs.Yard.{control}
-use Rattle.rail_model.specs.declared.types.BlockAsk.{BlockAsk}
 use Rattle.rail_model.specs.declared.types.BlockAsk.TheVariants as block
 use Rattle.rail_model.proofs.Found.{find-none}
 use Rattle.move_claim.specs.declared.cells.Cell.TheVariants.{Table as TableCell}
-use Rattle.move_claim.specs.Cells.{number_of}
-use Rattle.zone_machine.specs.declared.steps.Stage.TheVariants.{Aboard}
 use Rattle.zone_machine.specs.declared.steps.Step.{Step}
 use Rattle.zone_machine.specs.declared.steps.Step.TheVariants.{Append, Block}
 use Rattle.zone_machine.specs.declared.steps.Seen.{Seen}
 use Rattle.zone_machine.specs.declared.steps.Seen.TheVariants as seen
-use Rattle.zone_machine.specs.World.{Setup as CoreSetup, Actor, World, actor, gone, word, trains_of, is_cell}
-use Rattle.zone_machine.specs.Entries.{known_table, appended, own_claim, answer, tried, driver_after, control_after}
-use Rattle.rail_model.specs.Blocks.{block_entries}
-use Rattle.zone_machine.specs.Steps.{room_for, step_of, missing_zone, unknown_cell}
+use Rattle.zone_machine.specs.World.{Setup as CoreSetup}
+use Rattle.zone_machine.specs.Entries.{appended, own_claim, answer, driver_after, control_after}
+use Rattle.zone_machine.specs.Steps.{room_for, missing_zone, unknown_cell}
 use Rattle.zone_machine.specs.Ready.{IsReadyToTry}
 use Rattle.zone_machine.specs.ControlAsked.{IsTold}
 use Rattle.zone_machine.specs.Needs.{zones, cells}
-use Rattle.zone_machine.specs.Sound.{Sound, IsSetup as IsCoreSetup}
+use Rattle.zone_machine.specs.Sound.{IsSetup as IsCoreSetup}
 use Rattle.zone_machine.proofs.ReadyEnters.{block_enters, append_enters}
 use Rattle.zone_machine.proofs.ControlAppends.{is_told}
-use Rattle.zone_machine.proofs.Together.{step_sound}
-use Rattle.zone_yard.specs.Core.{MayEnter}
-use Rattle.zone_yard.specs.Setup.{Setup, core, most_passes, state_after, IsLegalHistory}
-use Rattle.zone_yard.specs.Passes.{StartsWith, entries_from, entries_of, receipts_from, standing}
-use Rattle.zone_yard.specs.Views.{View, new_entries, actor_after, entered, seat_of}
-use Rattle.zone_yard.specs.Kept.{KeepsRule, Fits, IsPassNumber}
+use Rattle.zone_yard.specs.Views.{actor_after, entered}
 use Rattle.zone_yard.specs.Tells.{Appends}
 use Rattle.zone_yard.proofs.Apart.{found_apart, spread-set}
 use Rattle.zone_yard.proofs.Lists.{by_set, set_here, starts_itself, starts_on, same_of}

@@ -1,29 +1,21 @@
 -- The cells of a footprint: they are few, and the held zones guard them.
-use Rattle.std.proofs.Common.{◌≡◌, ◌≢◌, ℕ, suc, ◌+◌, ◌-◌, ◌<◌, ◌≤◌, ◌==◌, List, [], ◌∷◌, ◌++◌, length, take, drop, Bool, true, false, true≢false, cond, Option, Some, None, sym, ap, ◌∙◌, subst, ⊎_elim, arith, ne_eqb, length-append}
-use Rattle.std.specs.Prelude.{filter, filter_map, map, not, ◌&&◌}
+use Rattle.zone_yard.proofs.Prelude.{◌≡◌, ◌≢◌, ℕ, suc, ◌+◌, ◌-◌, ◌<◌, ◌≤◌, ◌==◌, List, [], ◌∷◌, ◌++◌, length, Bool, true, false, true≢false, cond, Option, Some, None, sym, ap, ◌∙◌, subst, ⊎_elim, arith, ne_eqb, length-append, map, Table, trains, below, offer, control, has, Cell, Point, Position, number_of, first_unknown, Footprint, claim_of, zones_of, Claim, Actor, is_cell, may_read, trains_of, Wanted, Setup, core, needs, span}
+use Rattle.std.proofs.Common.{take, drop}
+use Rattle.std.specs.Prelude.{filter, filter_map, not, ◌&&◌}
 use Rattle.std.specs.List.{cons_option, list_any}
 use Rattle.std.proofs.lemmas.List.{length-map}
 use Rattle.std.proofs.lemmas.List.FromFn.{length-range_with_len}
 use Rattle.std.proofs.lemmas.List.Sums.{length-filter, count_by-le-length}
 use Rattle.std.proofs.Math.Seq.{take-length}
-use Rattle.rail_model.specs.Table.{Table, IsTable, trains, point}
-use Rattle.rail_model.specs.Checks.{below}
-use Rattle.rail_model.specs.Yard.{offer, control}
+use Rattle.rail_model.specs.Table.{IsTable, point}
 use Rattle.rail_model.proofs.Found.{Among}
-use Rattle.zone_locks.specs.Zones.{has, without}
-use Rattle.move_claim.specs.declared.cells.Cell.{Cell}
-use Rattle.move_claim.specs.declared.cells.Cell.TheVariants.{Point, Count, Position, Table as TableCell}
-use Rattle.move_claim.specs.Cells.{number_of, first_unknown}
-use Rattle.move_claim.specs.Claims.{Footprint, claim_of, cells_of, zones_of, firsts, next_points, sections, others, reached, is_changed, binds}
-use Rattle.move_claim.specs.declared.claims.Claim.{Claim}
-use Rattle.zone_machine.specs.World.{Actor, is_cell, is_bare, may_read, trains_of}
+use Rattle.zone_locks.specs.Zones.{without}
+use Rattle.move_claim.specs.declared.cells.Cell.TheVariants.{Count, Table as TableCell}
+use Rattle.move_claim.specs.Claims.{cells_of, firsts, next_points, sections, others, reached, is_changed, binds}
+use Rattle.zone_machine.specs.World.{is_bare}
 use Rattle.zone_machine.specs.Needs.{zones, cells}
 use Rattle.zone_machine.specs.Sound.{IsSetup as IsCoreSetup}
 use Rattle.zone_machine.proofs.Readable.{readable, map_among, split}
-use Rattle.zone_yard.specs.declared.requests.Wanted.{Wanted}
-use Rattle.zone_yard.specs.Setup.{Setup, core}
-use Rattle.zone_yard.specs.Blocks.{needs}
-use Rattle.zone_yard.specs.Holding.{span}
 use Rattle.zone_yard.proofs.Lists.{second_of, both_true}
 use Rattle.zone_yard.proofs.BlockEntries.{low, among}
 

@@ -1,16 +1,14 @@
 -- A pass takes one zone more, or gives one back.
-use Rattle.std.proofs.Common.{◌≡◌, ℕ, ◌+◌, ◌-◌, ◌<◌, List, [], ◌∷◌, ◌++◌, Bool, true, false, cond, refl, sym, ap, ◌∙◌, subst, append_assoc}
+use Rattle.zone_yard.proofs.Prelude.{◌≡◌, ℕ, ◌+◌, ◌-◌, ◌<◌, List, [], ◌∷◌, ◌++◌, Bool, true, false, cond, refl, sym, ap, ◌∙◌, subst, append_assoc, has, Cell, may_read, core, StartsWith, Seat, span, HoldsZones}
 use Rattle.std.specs.Prelude.{not}
 use Rattle.std.specs.Option.{option_map_or}
-use Rattle.zone_locks.specs.Zones.{has, without}
-use Rattle.move_claim.specs.declared.cells.Cell.{Cell}
-use Rattle.zone_machine.specs.World.{Setup as CoreSetup, is_bare, may_read}
+use Rattle.zone_locks.specs.Zones.{without}
+use Rattle.zone_machine.specs.World.{Setup as CoreSetup, is_bare}
 use Rattle.zone_machine.specs.Steps.{still_known}
 use Rattle.zone_machine.proofs.Guards.{may_read-bare}
-use Rattle.zone_yard.specs.Setup.{core}
-use Rattle.zone_yard.specs.Passes.{Try, StartsWith}
-use Rattle.zone_yard.specs.Views.{took, gave, Seat}
-use Rattle.zone_yard.specs.Holding.{span, HoldsZones, GivesBack}
+use Rattle.zone_yard.specs.Passes.{Try}
+use Rattle.zone_yard.specs.Views.{took, gave}
+use Rattle.zone_yard.specs.Holding.{GivesBack}
 use Rattle.zone_yard.proofs.Spans.{span_next, span_skip, given_back, not_needed}
 
 -- a zone is held besides

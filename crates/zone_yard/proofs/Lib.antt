@@ -1,3 +1,4 @@
+pub mod Prelude
 pub mod RowsOfPasses
 pub mod Apart
 pub mod Closes

@@ -1,42 +1,27 @@
 -- The lines of a pass grow by those of its own entries.
-use Rattle.std.proofs.Common.{◌≡◌, lt_of_not-le, true≢false, get_or-set_same, ◌≢◌, ℕ, zero, suc, ◌+◌, ◌<◌, ◌≤◌, ◌==◌, List, [], ◌∷◌, ◌++◌, length, length-set, set, get_or-set_other, get_or, replicate, Bool, true, false, if◌then◌else◌, All, Some, None, refl, sym, ap, ◌∙◌, subst, arith, eq-eqb, ne_eqb, append-nil, length-append}
+use Rattle.zone_yard.proofs.Prelude.{◌≡◌, true≢false, get_or-set_same, ◌≢◌, ℕ, zero, suc, ◌+◌, ◌<◌, ◌≤◌, ◌==◌, List, [], ◌∷◌, ◌++◌, length, set, get_or-set_other, get_or, replicate, Bool, true, false, if◌then◌else◌, Some, None, refl, sym, ap, ◌∙◌, subst, arith, eq-eqb, ne_eqb, append-nil, length-append, unwrap_or, Occupied, BlockAsk, block_entries, Claim, number_of, number_in, claim_of, decided, known_table, tried, Driver, Control, Entry, Line, Table, place, trains, Offer, Yard, offer, control, IsHistory, stands_history, Row, Setup, core, state_after, IsLegalHistory, most_passes, StartsWith, entries_from, entries_of, done_of, View, new_entries, pass_view, Seat, Lines, AreLines, AreLeft, moves_from, CanAnswer}
+use Rattle.std.proofs.Common.{lt_of_not-le, length-set, All}
 use Rattle.std.proofs.lemmas.List.{get_or_past, append_cancel_left}
 use Rattle.std.proofs.lemmas.List.Elements.{All-cons}
-use Rattle.std.specs.Prelude.{unwrap_or}
 use mathlib.Core.Logic.{dite}
 use native.Mathlib.Decide.{ℕ_discrete, dec_le}
-use Rattle.rail_model.specs.declared.types.Ask.TheVariants.{Yes, Arrived, Occupied, Full, Waits}
-use Rattle.rail_model.specs.declared.types.BlockAsk.{BlockAsk}
+use Rattle.rail_model.specs.declared.types.Ask.TheVariants.{Yes, Arrived, Full, Waits}
 use Rattle.rail_model.specs.declared.types.BlockAsk.TheVariants as block
-use Rattle.rail_model.specs.Blocks.{block_entries}
 use Rattle.rail_model.proofs.Histories.{history_parts}
 use Rattle.move_claim.specs.declared.cells.Cell.TheVariants.{Table as TableCell}
-use Rattle.move_claim.specs.declared.claims.Claim.{Claim}
-use Rattle.move_claim.specs.Cells.{number_of, number_in}
-use Rattle.move_claim.specs.Claims.{claim_of}
-use Rattle.move_claim.specs.Deciding.{decided}
-use Rattle.zone_machine.specs.Entries.{known_table, tried}
-use Rattle.rail_model.specs.declared.types.Reply.TheVariants.{Driver, Control}
-use Rattle.rail_model.specs.declared.types.Entry.{Entry}
-use Rattle.rail_model.specs.declared.types.Line.{Line}
 use Rattle.rail_model.specs.declared.types.Line.TheVariants.{Move as MoveLine}
 use Rattle.rail_model.specs.declared.types.Tried.{Tried}
 use Rattle.rail_model.specs.Lines.{line_of, move_line}
-use Rattle.rail_model.specs.Table.{Table, point, place, trains}
-use Rattle.rail_model.specs.Yard.{Offer, Yard, offer, control, in_force, after, moved, IsHistory}
-use Rattle.table_exchange.proofs.Histories.{stands_history}
+use Rattle.rail_model.specs.Table.{point}
+use Rattle.rail_model.specs.Yard.{in_force, after, moved}
 use Rattle.ticket_lines.specs.declared.tickets.TicketLine.{TicketLine}
-use Rattle.ticket_lines.specs.Merging.{Row}
 use Rattle.ticket_lines.specs.Tickets.{at_ticket, marks_of, own_lines, lines_of}
 use Rattle.ticket_lines.proofs.Histories.{own_here, own_lines_go_on, silent}
 use Rattle.ticket_lines.proofs.Counted.{places_counted, tables_counted}
 use Rattle.zone_machine.specs.Sound.{IsSetup as IsCoreSetup}
-use Rattle.zone_yard.specs.Setup.{Setup, core, state_after, IsLegalHistory, most_passes}
-use Rattle.zone_yard.specs.Passes.{Receipt, StartsWith, entries_from, entries_of, done_of}
-use Rattle.zone_yard.specs.Views.{View, new_entries, pass_view, Seat}
-use Rattle.zone_yard.specs.Lines.{Lines, AreLines, IsLeft, AreLeft, most_lines, moves_from}
+use Rattle.zone_yard.specs.Passes.{Receipt}
+use Rattle.zone_yard.specs.Lines.{IsLeft, most_lines}
 use Rattle.zone_yard.specs.Tells.{Appends}
-use Rattle.zone_yard.specs.Blocks.{CanAnswer}
 use Rattle.zone_yard.proofs.Lists.{first_of, second_of, starts_on}
 use Rattle.zone_yard.proofs.Counts.{all_few}
 use Rattle.zone_yard.proofs.BlockEntries.{can_answer}

@@ -1,18 +1,12 @@
 -- The root looks at the history.
-use Rattle.std.proofs.Common.{◌≡◌, ℕ, ◌<◌, [], List, length, get_or, false, true≢false, refl, sym, ap, ◌∙◌, subst, inl, inr, ⊎_elim, arith}
+use Rattle.zone_yard.proofs.Prelude.{◌≡◌, ℕ, ◌<◌, [], List, length, get_or, false, true≢false, refl, sym, ap, ◌∙◌, subst, inl, inr, ⊎_elim, arith, slice_get-get_or, Me, keeps, stepped, Allows, has, World, Actor, gone, actor, Setup, core, most_passes, IsLegalHistory, StartsWith, entries_of, done_of, View, seat_of, KeepsRule, Fits, IsPassNumber, Rests, Sits}
 use Rattle.std.proofs.lemmas.List.{set-get_or}
 use Rattle.std.proofs.lemmas.List.Elements.{All-nil}
-use Rattle.std.proofs.lemmas.Option.{slice_get-get_or}
 use mathlib.Core.Option.{some}
 use lib.ListN.{get_elem?}
-use Rattle.atomic_table.specs.Table.{Me, keeps, stepped, Allows}
-use Rattle.zone_locks.specs.Zones.{has}
 use Rattle.zone_machine.specs.Sound.{IsSetup as IsCoreSetup}
-use Rattle.zone_machine.specs.World.{World, Actor, gone, actor}
-use Rattle.zone_yard.specs.Setup.{Setup, core, most_passes, IsLegalHistory}
-use Rattle.zone_yard.specs.Passes.{StartsWith, IsAshore, entries_of, done_of}
-use Rattle.zone_yard.specs.Views.{View, looked, seat_of}
-use Rattle.zone_yard.specs.Kept.{KeepsRule, Fits, IsPassNumber, Rests, Sits}
+use Rattle.zone_yard.specs.Passes.{IsAshore}
+use Rattle.zone_yard.specs.Views.{looked}
 use Rattle.zone_yard.specs.Tells.{Looks}
 use Rattle.zone_yard.proofs.Apart.{found_apart}
 use Rattle.zone_yard.proofs.Lists.{by_set, set_here, starts_itself}

@@ -1,17 +1,6 @@
 -- No train is further than place 127.
-use Rattle.std.proofs.Common.{◌≡◌, ◌≢◌, ℕ, ◌+◌, ◌<◌, ◌≤◌, ◌^◌, List, sym, ap, ◌∙◌, subst, arith, ne_eqb}
-use Rattle.atomic_table.specs.Seated.{TableId}
-use Rattle.rail_model.specs.declared.types.BlockAsk.{BlockAsk}
-use Rattle.rail_model.specs.declared.types.Entry.{Entry}
-use Rattle.rail_model.specs.Table.{trains}
-use Rattle.rail_model.specs.Yard.{Yard, offer, control}
-use Rattle.table_exchange.proofs.Histories.{stands_history}
+use Rattle.zone_yard.proofs.Prelude.{◌≡◌, ◌≢◌, ℕ, ◌+◌, ◌<◌, ◌≤◌, ◌^◌, List, sym, ap, ◌∙◌, subst, arith, ne_eqb, TableId, BlockAsk, Entry, trains, Yard, offer, control, stands_history, Seat, Setup, core, state_after, IsLegalHistory, standing, granted_steps, IsToldBlock}
 use Rattle.zone_machine.specs.Sound.{IsSetup as IsCoreSetup}
-use Rattle.zone_yard.specs.Views.{Seat}
-use Rattle.zone_yard.specs.Setup.{Setup, core, state_after, IsLegalHistory}
-use Rattle.zone_yard.specs.Passes.{standing}
-use Rattle.zone_yard.specs.Blocks.{granted_steps}
-use Rattle.zone_yard.specs.Attempts.{IsToldBlock}
 
 pub low_place : (S : Setup) (H : List Entry) (p : ℕ) → IsCoreSetup (core S) → IsLegalHistory S H → p < trains (offer S.tables 0).table
     → standing (state_after S H) p ≤ 127

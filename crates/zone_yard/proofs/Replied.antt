@@ -1,24 +1,17 @@
 -- From what a request was told, or what came of it, to its reply.
-use Rattle.std.proofs.Common.{◌≡◌, ℕ, zero, suc, ◌-◌, ◌<◌, ◌≤◌, [], ◌∷◌, ◌++◌, length, min, refl, ap, ◌∙◌, subst, arith, true, sym}
+use Rattle.zone_yard.proofs.Prelude.{◌≡◌, ℕ, zero, suc, ◌-◌, ◌<◌, ◌≤◌, [], ◌∷◌, ◌++◌, length, refl, ap, ◌∙◌, subst, arith, true, sym, BlockAsk, Driver, Table, offer, claim_of, zones_of, state_after, IsLegalHistory, Pass, StartsWith, told, receipts_from, standing, Enters, replies_of, CanAnswer, steps_left, Replies, BlockReplies, has, Claim, Told, Busy}
+use Rattle.std.proofs.Common.{min}
 use Rattle.rail_model.specs.declared.types.Ask.{Ask}
 use Rattle.rail_model.specs.declared.types.Ask.TheVariants as ask
-use Rattle.rail_model.specs.declared.types.BlockAsk.{BlockAsk}
 use Rattle.rail_model.specs.declared.types.BlockAsk.TheVariants as block
-use Rattle.rail_model.specs.declared.types.Reply.TheVariants.{Driver}
-use Rattle.rail_model.specs.Table.{Table, last}
-use Rattle.rail_model.specs.Yard.{in_force, offer}
-use Rattle.move_claim.specs.Claims.{claim_of, zones_of}
+use Rattle.rail_model.specs.Table.{last}
+use Rattle.rail_model.specs.Yard.{in_force}
 use Rattle.move_claim.specs.Deciding.{one_ask}
-use Rattle.zone_yard.specs.Setup.{state_after, IsLegalHistory}
-use Rattle.zone_yard.specs.Passes.{Pass, StartsWith, told, receipts_from, standing}
-use Rattle.zone_yard.specs.Entering.{Enters, HasRoom}
-use Rattle.zone_yard.specs.Blocks.{replies_of, CanAnswer, IsAnswered, steps_left}
-use Rattle.zone_yard.specs.Replies.{asked_steps, reply_to, block_reply_to, IsReplied, Replies, BlockReplies}
+use Rattle.zone_yard.specs.Entering.{HasRoom}
+use Rattle.zone_yard.specs.Blocks.{IsAnswered}
+use Rattle.zone_yard.specs.Replies.{asked_steps, reply_to, block_reply_to, IsReplied}
 use Rattle.zone_yard.proofs.Lists.{starts_on}
-use Rattle.zone_locks.specs.Zones.{has}
-use Rattle.move_claim.specs.declared.claims.Claim.{Claim}
 use Rattle.zone_yard.specs.declared.requests.Attempt.{Attempt}
-use Rattle.zone_yard.specs.declared.requests.Attempt.TheVariants.{Told, Busy}
 use Rattle.zone_yard.specs.Asked.{Attempted, reply_of, block_reply_of}
 
 pub replies_to : (old new : Pass) (ticket : ℕ) (answer : Ask) → IsReplied old ticket answer new → Replies old (reply_to ticket answer) new

@@ -1,20 +1,11 @@
 -- Tries at a block of steps, one after the other.
-use Rattle.std.proofs.Common.{◌≡◌, ℕ, suc, ◌+◌, ◌-◌, ◌<◌, ◌≤◌, List, [], ◌∷◌, ◌++◌, length, true, false, Some, Option, sym, ap, ◌∙◌, subst, arith, append_assoc}
+use Rattle.zone_yard.proofs.Prelude.{◌≡◌, ℕ, suc, ◌+◌, ◌-◌, ◌<◌, ◌≤◌, List, [], ◌∷◌, ◌++◌, length, true, false, Some, Option, sym, ap, ◌∙◌, subst, arith, append_assoc, TableId, BlockAsk, offer, has, Footprint, claim_of, zones_of, Told, Busy, Wanted, Setup, StartsWith, needs, granted_steps, pass_of, Seat, RefusesZone, IsToldBlock}
 use Rattle.std.specs.Option.{option_map_or}
-use Rattle.atomic_table.specs.Seated.{TableId}
-use Rattle.rail_model.specs.declared.types.BlockAsk.{BlockAsk}
-use Rattle.rail_model.specs.Yard.{offer}
-use Rattle.zone_locks.specs.Zones.{has}
-use Rattle.move_claim.specs.Claims.{Footprint, claim_of, zones_of}
 use Rattle.zone_yard.specs.declared.requests.Attempt.{Attempt}
-use Rattle.zone_yard.specs.declared.requests.Attempt.TheVariants.{Told, Busy}
-use Rattle.zone_yard.specs.declared.requests.Wanted.{Wanted}
-use Rattle.zone_yard.specs.Setup.{Setup}
-use Rattle.zone_yard.specs.Passes.{Try, StartsWith}
-use Rattle.zone_yard.specs.Blocks.{needs, granted_steps}
-use Rattle.zone_yard.specs.Views.{glanced, pass_of, Seat}
+use Rattle.zone_yard.specs.Passes.{Try}
+use Rattle.zone_yard.specs.Views.{glanced}
 use Rattle.zone_yard.specs.Aboard.{IsIdle}
-use Rattle.zone_yard.specs.Attempts.{RefusesZone, Moves, IsToldBlock, Attempts, Since, TurnsAway, Asks}
+use Rattle.zone_yard.specs.Attempts.{Moves, Attempts, Since, TurnsAway, Asks}
 use Rattle.zone_yard.proofs.Lists.{starts_on}
 use Rattle.zone_yard.proofs.Replied.{answered_since}
 

@@ -1,25 +1,18 @@
 -- Rows: what the answers of requests and exchanges say on small yards, and wrong answers that they refuse.
-use Rattle.std.proofs.Common.{◌≡◌, ℕ, zero, suc, ◌<◌, List, [], ◌∷◌, ◌++◌, length, append-nil, true, true≢false, Some, ℤ, pos, ◌≤ℤ◌, refl, sym, subst, arith, lit<, lit≤, inl}
+use Rattle.zone_yard.proofs.Prelude.{◌≡◌, ℕ, zero, suc, ◌<◌, List, [], ◌∷◌, ◌++◌, length, append-nil, true, true≢false, Some, refl, sym, subst, arith, lit<, inl, Occupied, Driver, Control, Entry, Table, IsHistory, journal_of, has, SharedYard, state_after, IsLegalHistory, Pass, told, receipts_from, entries_of, standing, Enters, Replies}
+use Rattle.std.proofs.Common.{ℤ, pos, ◌≤ℤ◌, lit≤}
 use Rattle.std.proofs.lemmas.Int.{ints}
-use Rattle.rail_model.specs.declared.types.Ask.TheVariants.{Occupied}
 use Rattle.rail_model.specs.declared.types.Tried.TheVariants.{Exchanged, Early}
 use Rattle.rail_model.specs.declared.types.Reply.{Reply}
-use Rattle.rail_model.specs.declared.types.Reply.TheVariants.{Driver, Control}
-use Rattle.rail_model.specs.declared.types.Entry.{Entry}
 use Rattle.rail_model.specs.declared.types.Line.TheVariants.{Move as MoveLine, Table as TableLine}
-use Rattle.rail_model.specs.Table.{Table}
 use Rattle.rail_model.specs.Move.{Move, advance}
-use Rattle.rail_model.specs.Yard.{IsHistory, IsAnswer}
-use Rattle.rail_model.specs.Lines.{journal_of}
+use Rattle.rail_model.specs.Yard.{IsAnswer}
 use Rattle.rail_model.proofs.MoveTests.{is_move, Decides-move}
 use Rattle.rail_model.proofs.Told.{told as admits}
-use Rattle.zone_locks.specs.Zones.{has}
 use Rattle.zone_yard.specs.declared.replies.Reply.TheVariants as one
 use Rattle.zone_yard.specs.declared.replies.Turn.TheVariants as turn
-use Rattle.zone_yard.specs.Setup.{SharedYard, state_after, IsLegalHistory}
-use Rattle.zone_yard.specs.Passes.{Pass, IsFree, told, receipts_from, entries_of, standing}
-use Rattle.zone_yard.specs.Entering.{Enters}
-use Rattle.zone_yard.specs.Replies.{Replies, Turns, needed_zones}
+use Rattle.zone_yard.specs.Passes.{IsFree}
+use Rattle.zone_yard.specs.Replies.{Turns, needed_zones}
 use Rattle.zone_yard.proofs.Samples.{table_of, boarded, grant, yes, four_zones, one_zone, two_tables}
 
 -- a move that the checker computes

@@ -1,14 +1,12 @@
 -- Rows of answers to blocks: what they tell, and the replies that come of them.
-use Rattle.std.proofs.Common.{◌≡◌, [], ◌∷◌, refl, arith}
-use Rattle.rail_model.specs.declared.types.Ask.TheVariants.{Yes as Go, Arrived, Occupied, Waits}
+use Rattle.zone_yard.proofs.Prelude.{◌≡◌, [], ◌∷◌, refl, arith, Occupied, Told, Busy, needs, replies_of, CanAnswer, steps_left}
+use Rattle.rail_model.specs.declared.types.Ask.TheVariants.{Yes as Go, Arrived, Waits}
 use Rattle.rail_model.specs.declared.types.BlockAsk.TheVariants.{Yes, First, NotWhole}
 use Rattle.rail_model.specs.declared.types.Reply.TheVariants as reply
 use Rattle.rail_model.specs.declared.types.Tried.TheVariants.{Differs, Over, NoMore}
 use Rattle.zone_yard.specs.declared.replies.Reply.TheVariants as one
 use Rattle.zone_yard.specs.declared.replies.BlockReply.TheVariants as block
 use Rattle.zone_yard.specs.declared.replies.Turn.TheVariants as turn
-use Rattle.zone_yard.specs.declared.requests.Attempt.TheVariants.{Told, Busy}
-use Rattle.zone_yard.specs.Blocks.{needs, replies_of, CanAnswer, steps_left}
 use Rattle.zone_yard.specs.Asked.{reply_of, block_reply_of, FoundNoZoneHeld}
 use Rattle.zone_yard.specs.Replies.{turn_to}
 use Rattle.zone_yard.proofs.Samples.{boarded, first_path, two_tables}

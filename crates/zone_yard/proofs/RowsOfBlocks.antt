@@ -1,20 +1,15 @@
 -- Rows of blocks: granted whole, cut to what remains or to the entries that are left, not whole, and wrong answers that are refused.
-use Rattle.std.proofs.Common.{◌≡◌, ℕ, List, [], ◌∷◌, ◌++◌, refl, ap, ◌∙◌, subst, arith, lit<, min}
+use Rattle.zone_yard.proofs.Prelude.{◌≡◌, ℕ, List, [], ◌∷◌, ◌++◌, refl, ap, ◌∙◌, subst, arith, lit<, Occupied, Driver, Entry, Table, IsHistory, offer, SharedYard, Pass, Enters, BlockReplies, steps_left}
+use Rattle.std.proofs.Common.{min}
 use Rattle.std.proofs.lemmas.Bool.Decides.{not_from_Decides}
-use Rattle.rail_model.specs.declared.types.Ask.TheVariants.{Arrived, Occupied}
+use Rattle.rail_model.specs.declared.types.Ask.TheVariants.{Arrived}
 use Rattle.rail_model.specs.declared.types.BlockAsk.TheVariants.{Yes}
 use Rattle.rail_model.specs.declared.types.Reply.{Reply}
-use Rattle.rail_model.specs.declared.types.Reply.TheVariants.{Driver, NotWhole}
-use Rattle.rail_model.specs.declared.types.Entry.{Entry}
-use Rattle.rail_model.specs.Table.{Table}
-use Rattle.rail_model.specs.Yard.{IsHistory, offer}
+use Rattle.rail_model.specs.declared.types.Reply.TheVariants.{NotWhole}
 use Rattle.rail_model.proofs.MoveTests.{Decides-move, run}
 use Rattle.zone_yard.specs.declared.replies.BlockReply.TheVariants as block
-use Rattle.zone_yard.specs.Setup.{SharedYard}
-use Rattle.zone_yard.specs.Passes.{Pass}
-use Rattle.zone_yard.specs.Entering.{Enters}
-use Rattle.zone_yard.specs.Replies.{BlockReplies, steps_after}
-use Rattle.zone_yard.specs.Blocks.{IsAnswered, steps_left}
+use Rattle.zone_yard.specs.Replies.{steps_after}
+use Rattle.zone_yard.specs.Blocks.{IsAnswered}
 use Rattle.zone_yard.proofs.Samples.{boarded, grant, yes, first_path, passing_loop, corridor}
 use Rattle.zone_yard.proofs.Rows.{goes, nothing, enters}
 

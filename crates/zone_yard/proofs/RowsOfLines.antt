@@ -1,11 +1,10 @@
 -- Rows of the lines that passes keep.
-use Rattle.std.proofs.Common.{◌≡◌, ℕ, List, [], ◌∷◌, length, Some, refl, lit≤}
+use Rattle.zone_yard.proofs.Prelude.{◌≡◌, ℕ, List, [], ◌∷◌, length, Some, refl, View, root_view, pass_view, Row, AreLines, AreLeft, moves_from}
+use Rattle.std.proofs.Common.{lit≤}
 use Rattle.std.specs.Prelude.{slice_index_or}
 use Rattle.rail_model.specs.declared.types.Line.TheVariants.{Move as MoveLine}
 use Rattle.ticket_lines.specs.declared.tickets.TicketLine.{TicketLine}
-use Rattle.zone_yard.specs.Views.{View, root_view, pass_view}
-use Rattle.ticket_lines.specs.Merging.{Row}
-use Rattle.zone_yard.specs.Lines.{AreLines, IsLeft, AreLeft, most_lines, moves_from}
+use Rattle.zone_yard.specs.Lines.{IsLeft, most_lines}
 use Rattle.zone_yard.proofs.Samples.{table_of, yes, first_path}
 
 most_of_train : most_lines 31 ≡ 127

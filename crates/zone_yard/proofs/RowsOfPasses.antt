@@ -1,13 +1,11 @@
 -- Rows of passes: boarding, leaving, and a yard that is closed.
-use Rattle.std.proofs.Common.{◌≡◌, [], ◌∷◌, true≢false, Ok, Err, Some, refl, sym, lit<, inl}
+use Rattle.zone_yard.proofs.Prelude.{◌≡◌, [], ◌∷◌, true≢false, Ok, Some, refl, sym, lit<, inl, state_after, Pass, Root, Replies, journal_of}
+use Rattle.std.proofs.Common.{Err}
 use Rattle.rail_model.specs.declared.types.Line.TheVariants.{Move as MoveLine}
 use Rattle.zone_yard.specs.declared.replies.Board.TheVariants.{Taken, Memory}
 use Rattle.zone_yard.specs.declared.replies.Reply.TheVariants as one
-use Rattle.zone_yard.specs.Setup.{state_after}
-use Rattle.zone_yard.specs.Passes.{Pass, Root, IsAshore}
-use Rattle.zone_yard.specs.Replies.{Replies}
+use Rattle.zone_yard.specs.Passes.{IsAshore}
 use Rattle.zone_yard.specs.Boarding.{fresh_root, with_pass, Boards, TakesBack}
-use Rattle.rail_model.specs.Lines.{journal_of}
 use Rattle.zone_yard.proofs.Samples.{table_of, boarded, grant, yes, one_zone, first_path}
 use Rattle.zone_yard.proofs.Rows.{goes, granted_after, enters}
 use Rattle.zone_yard.proofs.RowsOfBlocks.{through, kept_back, one_further, not_whole}

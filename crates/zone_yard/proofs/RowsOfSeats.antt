@@ -1,15 +1,10 @@
 -- Rows of seats: what a driver's seat keeps between calls, and what its tries at a step leave.
-use Rattle.std.proofs.Common.{◌≡◌, ℕ, [], ◌∷◌, Some, refl, arith, lit<, lit≤}
-use Rattle.rail_model.specs.declared.types.Ask.TheVariants.{Occupied}
+use Rattle.zone_yard.proofs.Prelude.{◌≡◌, ℕ, [], ◌∷◌, Some, refl, arith, lit<, Occupied, number_of, granted_steps, SharedYard, spread, root_view, pass_view, knower, Seat, RefusesZone}
+use Rattle.std.proofs.Common.{lit≤}
 use Rattle.rail_model.specs.declared.types.BlockAsk.TheVariants.{Yes, First, NotWhole}
 use Rattle.move_claim.specs.declared.cells.Cell.TheVariants.{Table as TableCell}
-use Rattle.move_claim.specs.Cells.{number_of}
-use Rattle.zone_yard.specs.Blocks.{granted_steps}
-use Rattle.zone_yard.specs.Setup.{SharedYard}
-use Rattle.zone_yard.specs.Spread.{spread}
-use Rattle.zone_yard.specs.Views.{root_view, pass_view, knower, Seat}
 use Rattle.zone_yard.specs.Aboard.{IsDriver, IsControl}
-use Rattle.zone_yard.specs.Attempts.{RefusesZone, Moves, Since, TurnsAway}
+use Rattle.zone_yard.specs.Attempts.{Moves, Since, TurnsAway}
 use Rattle.zone_yard.proofs.Roots.{fresh}
 use Rattle.zone_yard.proofs.Samples.{four_zones, one_zone, two_tables}
 

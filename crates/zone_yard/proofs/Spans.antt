@@ -1,8 +1,6 @@
 -- Needed zones in a row.
-use Rattle.std.proofs.Common.{◌≡◌, ℕ, zero, suc, ◌+◌, ◌-◌, ◌<◌, ◌≤◌, List, [], ◌∷◌, ◌++◌, Bool, true, false, cond, refl, ap, ◌∙◌, arith, eq-eqb, ne_eqb, lt-ltb, append-nil}
-use Rattle.zone_locks.specs.Zones.{has, without}
-use Rattle.zone_machine.specs.Steps.{is_above}
-use Rattle.zone_yard.specs.Holding.{span}
+use Rattle.zone_yard.proofs.Prelude.{◌≡◌, ℕ, zero, suc, ◌+◌, ◌-◌, ◌<◌, ◌≤◌, List, [], ◌∷◌, ◌++◌, Bool, true, false, cond, refl, ap, ◌∙◌, arith, eq-eqb, ne_eqb, lt-ltb, append-nil, has, is_above, span}
+use Rattle.zone_locks.specs.Zones.{without}
 
 module _ (needed : List ℕ) where
   abbrev pub one : ℕ → List ℕ

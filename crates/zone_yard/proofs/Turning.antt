@@ -1,27 +1,17 @@
 -- The control that holds all zones, and knows the table in force and every position.
-use Rattle.std.proofs.Common.{◌≡◌, ℕ, zero, suc, ◌+◌, ◌<◌, ◌≤◌, ◌==◌, List, [], ◌∷◌, length, get_or, true, false, true≢false, None, refl, sym, ap, ◌∙◌, subst, arith, lt-ltb, eq-eqb}
-use Rattle.std.specs.Prelude.{not, map}
-use Rattle.rail_model.specs.declared.types.Reply.TheVariants.{Control}
-use Rattle.rail_model.specs.Checks.{below}
-use Rattle.rail_model.specs.Yard.{Offer, offer, control}
+use Rattle.zone_yard.proofs.Prelude.{◌≡◌, ℕ, zero, suc, ◌+◌, ◌<◌, ◌≤◌, ◌==◌, List, [], ◌∷◌, length, get_or, true, false, true≢false, None, refl, sym, ap, ◌∙◌, subst, arith, lt-ltb, eq-eqb, map, Control, below, Offer, offer, control, has, Cell, Position, first_unknown, Actor, trains_of, tried, block_entries, MayEnter, span, Setup, core, View, knower, new_entries}
+use Rattle.std.specs.Prelude.{not}
 use Rattle.rail_model.proofs.Agree.{Decides-all_below}
 use Rattle.rail_model.proofs.Found.{Among-range}
-use Rattle.zone_locks.specs.Zones.{has}
-use Rattle.move_claim.specs.declared.cells.Cell.{Cell}
-use Rattle.move_claim.specs.declared.cells.Cell.TheVariants.{Position, Table as TableCell}
-use Rattle.move_claim.specs.Cells.{first_unknown}
+use Rattle.move_claim.specs.declared.cells.Cell.TheVariants.{Table as TableCell}
 use Rattle.move_claim.proofs.Finding.{nothing_found}
 use Rattle.move_claim.proofs.Numbered.{Among-has}
 use Rattle.zone_machine.specs.ControlAsked.{IsTold}
-use Rattle.zone_machine.specs.World.{Setup as CoreSetup, Actor, trains_of, holds_all, is_bare}
-use Rattle.zone_machine.specs.Entries.{own_claim, answer, tried, driver_after, control_after}
+use Rattle.zone_machine.specs.World.{Setup as CoreSetup, holds_all, is_bare}
+use Rattle.zone_machine.specs.Entries.{own_claim, answer, driver_after, control_after}
 use Rattle.zone_machine.specs.Ready.{IsReadyToTry}
 use Rattle.zone_machine.specs.Steps.{room_for}
-use Rattle.rail_model.specs.Blocks.{block_entries}
-use Rattle.zone_yard.specs.Core.{MayEnter}
-use Rattle.zone_yard.specs.Holding.{span}
-use Rattle.zone_yard.specs.Setup.{Setup, core}
-use Rattle.zone_yard.specs.Views.{View, knower, new_entries, actor_after}
+use Rattle.zone_yard.specs.Views.{actor_after}
 use Rattle.zone_yard.proofs.Lists.{first_of}
 use Rattle.zone_yard.proofs.BlockEntries.{among}
 

@@ -1,5 +1,6 @@
 -- Zones are taken and given back under the rule, by the core's own steps.
-use Rattle.std.proofs.Common.{◌≡◌, ◌≢◌, ℕ, zero, suc, ◌+◌, ◌-◌, ◌*◌, ◌/◌, ◌<◌, ◌≤◌, ◌==◌, nat_lt, nat_le, List, [], ◌∷◌, ◌++◌, length, set, get_or, Bool, true, false, true≢false, if◌then◌else◌, Ok, refl, sym, ap, ◌∙◌, subst, arith, eq-eqb, ne_eqb, get_or-set_other}
+use Rattle.zone_yard.proofs.Prelude.{◌≡◌, ◌≢◌, ℕ, zero, suc, ◌+◌, ◌-◌, ◌*◌, ◌<◌, ◌≤◌, ◌==◌, List, [], ◌∷◌, ◌++◌, length, set, get_or, Bool, true, false, true≢false, if◌then◌else◌, Ok, refl, sym, ap, ◌∙◌, subst, arith, eq-eqb, ne_eqb, get_or-set_other, Me, keeps, stepped, Allows, has, Aboard, Actor, World, actor, gone, word, Sound, is_above, step_of, step_sound, Setup, core, most_passes, View, seat_of, KeepsRule}
+use Rattle.std.proofs.Common.{◌/◌, nat_lt, nat_le}
 use Rattle.std.proofs.lemmas.List.{set-get_or}
 use Rattle.std.proofs.lemmas.Option.{get_or_from_slice_get, slice_get_within}
 use Rattle.std.proofs.lemmas.Bool.Decides.{nat_tests}
@@ -8,19 +9,13 @@ use mathlib.Core.Option.{none, some}
 use native.Mathlib.Decide.{ℕ_discrete}
 use lib.ListN.{get_elem?}
 use prog.Atomic.{either}
-use Rattle.atomic_table.specs.Table.{Me, step, keeps, stepped, Allows}
-use Rattle.zone_locks.specs.Zones.{has}
+use Rattle.atomic_table.specs.Table.{step}
 use Rattle.move_claim.specs.declared.cells.Cell.TheVariants.{Table as TableCell}
-use Rattle.zone_machine.specs.declared.steps.Stage.TheVariants.{Aboard}
 use Rattle.zone_machine.specs.declared.steps.Step.TheVariants.{Take, Release}
 use Rattle.zone_machine.specs.declared.steps.Seen.TheVariants as seen
-use Rattle.zone_machine.specs.World.{Setup as CoreSetup, Actor, World, actor, gone, word, with_word}
-use Rattle.zone_machine.specs.Sound.{Sound}
-use Rattle.zone_machine.specs.Steps.{is_above, releasing, step_of}
-use Rattle.zone_machine.proofs.Together.{step_sound}
-use Rattle.zone_yard.specs.Setup.{Setup, core, most_passes}
-use Rattle.zone_yard.specs.Views.{View, tried_at, took, gave, seat_of}
-use Rattle.zone_yard.specs.Kept.{KeepsRule}
+use Rattle.zone_machine.specs.World.{Setup as CoreSetup, with_word}
+use Rattle.zone_machine.specs.Steps.{releasing}
+use Rattle.zone_yard.specs.Views.{tried_at, took, gave}
 use Rattle.zone_yard.specs.Tells.{TakesZone, Releases}
 use Rattle.zone_yard.proofs.Lists.{both_true}
 use Rattle.zone_yard.proofs.Apart.{found_apart}

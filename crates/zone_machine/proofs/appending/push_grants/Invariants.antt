@@ -1,7 +1,5 @@
-use Rattle.std.proofs.Common.{◌≡◌, ◌++◌, replicate}
+use Rattle.zone_machine.proofs.Prelude.{◌≡◌, ◌++◌, replicate, Yes, Driver}
 use Rattle.std.specs.Prelude.{vec_capacity}
-use Rattle.rail_model.specs.declared.types.Ask.TheVariants.{Yes}
-use Rattle.rail_model.specs.declared.types.Reply.TheVariants.{Driver}
 use Rattle.zone_machine.proofs.appending.push_grants.Given as goal
 
 abbrev pub invariant-loop-step : goal.invariant-loop-step

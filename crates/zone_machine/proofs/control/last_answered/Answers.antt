@@ -1,6 +1,5 @@
-use Rattle.std.proofs.Common.{◌≡◌, ℕ, ◌+◌, cond, refl}
-use Rattle.rail_model.specs.declared.types.Tried.{Tried}
-use Rattle.rail_model.specs.declared.types.Tried.TheVariants.{Exchanged, Differs, Over, Early, NoMore}
+use Rattle.zone_machine.proofs.Prelude.{◌≡◌, ℕ, ◌+◌, cond, refl, Tried, Exchanged, Early}
+use Rattle.rail_model.specs.declared.types.Tried.TheVariants.{Differs, Over, NoMore}
 use Rattle.zone_machine.specs.Entries.{is_answer}
 use Rattle.zone_machine.proofs.control.last_answered.Goals as goal
 

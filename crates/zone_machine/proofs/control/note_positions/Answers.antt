@@ -1,7 +1,5 @@
-use Rattle.std.proofs.Common.{length, arith}
+use Rattle.zone_machine.proofs.Prelude.{length, arith, Position, number_in}
 use Rattle.std.proofs.lemmas.List.FromFn.{fill_by_all}
-use Rattle.move_claim.specs.declared.cells.Cell.TheVariants.{Position}
-use Rattle.move_claim.specs.Cells.{number_in}
 use Rattle.zone_machine.proofs.control.note_positions.Goals as goal
 
 pub returns : goal.returns

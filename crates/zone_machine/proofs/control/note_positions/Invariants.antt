@@ -1,6 +1,4 @@
-use Rattle.std.proofs.Common.{◌≡◌, ◌<◌, ℕ, length, get_or}
-use Rattle.move_claim.specs.declared.cells.Cell.TheVariants.{Position}
-use Rattle.move_claim.specs.Cells.{number_in}
+use Rattle.zone_machine.proofs.Prelude.{◌≡◌, ◌<◌, ℕ, length, get_or, Position, number_in}
 use Rattle.zone_machine.proofs.control.note_positions.Given as goal
 
 abbrev pub invariant-loop-train : goal.invariant-loop-train

@@ -1,9 +1,5 @@
-use Rattle.std.proofs.Common.{◌≡◌, ℕ, [], ◌∷◌, ◌++◌, length, List, map, sym, ap, ◌∙◌, arith}
-use Rattle.std.specs.Prelude.{nat_abs}
-use Rattle.rail_model.specs.Table.{count}
-use Rattle.rail_model.specs.Checks.{below}
-use Rattle.move_claim.specs.declared.cells.Cell.{Cell}
-use Rattle.move_claim.specs.declared.cells.Cell.TheVariants.{Count, Table as TableCell}
+use Rattle.zone_machine.proofs.Prelude.{◌≡◌, ℕ, [], ◌∷◌, ◌++◌, length, List, map, sym, ap, ◌∙◌, arith, nat_abs, count, below, Cell, Count}
+use Rattle.move_claim.specs.declared.cells.Cell.TheVariants.{Table as TableCell}
 use Rattle.move_claim.proofs.Growing.{one_longer}
 use Rattle.zone_machine.proofs.FirstWords.{word_more}
 use Rattle.zone_machine.proofs.control.owe_exchange.Goals as goal

@@ -1,8 +1,4 @@
-use Rattle.std.proofs.Common.{◌≡◌, ℕ, ◌+◌, ◌≤◌, ◌++◌, map, length}
-use Rattle.std.specs.Prelude.{nat_abs}
-use Rattle.rail_model.specs.Checks.{below}
-use Rattle.rail_model.specs.Table.{count}
-use Rattle.move_claim.specs.declared.cells.Cell.TheVariants.{Count}
+use Rattle.zone_machine.proofs.Prelude.{◌≡◌, ℕ, ◌+◌, ◌≤◌, ◌++◌, map, length, nat_abs, below, count, Count}
 use Rattle.zone_machine.proofs.control.owe_exchange.Given as goal
 
 abbrev pub invariant-loop-section : goal.invariant-loop-section

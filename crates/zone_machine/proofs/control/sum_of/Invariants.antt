@@ -1,4 +1,5 @@
-use Rattle.std.proofs.Common.{◌≡◌, ◌≤◌, ◌*◌, take}
+use Rattle.zone_machine.proofs.Prelude.{◌≡◌, ◌≤◌}
+use Rattle.std.proofs.Common.{◌*◌, take}
 use Rattle.std.specs.Prelude.{sum}
 use Rattle.zone_machine.proofs.control.sum_of.Given as goal
 

@@ -1,4 +1,4 @@
-use Rattle.std.proofs.Common.{◌≡◌, ◌∙◌, true, false, sym, ap, refl}
+use Rattle.zone_machine.proofs.Prelude.{◌≡◌, ◌∙◌, true, false, sym, ap, refl}
 use Rattle.rail_model.specs.Table.{Table}
 use Rattle.rail_model.specs.Checks.{is_due, admitted}
 use Rattle.rail_model.proofs.Told.{admitted-agrees}

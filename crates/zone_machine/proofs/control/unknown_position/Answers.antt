@@ -1,4 +1,4 @@
-use Rattle.std.proofs.Common.{◌≡◌, ◌<◌, ◌≤◌, ℕ, true, arith, rules}
+use Rattle.zone_machine.proofs.Prelude.{◌≡◌, ◌<◌, ◌≤◌, ℕ, true, arith, rules}
 use Rattle.zone_machine.proofs.Entering.{is_unknown, unknown_found, none_unknown}
 use Rattle.zone_machine.proofs.control.unknown_position.Goals as goal
 

@@ -1,4 +1,4 @@
-use Rattle.std.proofs.Common.{◌≡◌, ◌<◌, ℕ, false}
+use Rattle.zone_machine.proofs.Prelude.{◌≡◌, ◌<◌, ℕ, false}
 use Rattle.zone_machine.proofs.Entering.{is_unknown}
 use Rattle.zone_machine.proofs.control.unknown_position.Given as goal
 

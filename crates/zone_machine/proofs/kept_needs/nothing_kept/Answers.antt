@@ -1,4 +1,4 @@
-use Rattle.std.proofs.Common.{sym, subst}
+use Rattle.zone_machine.proofs.Prelude.{sym, subst}
 use Rattle.zone_machine.specs.Keeping.{AreKept}
 use Rattle.zone_machine.proofs.NothingKept.{none_kept}
 use Rattle.zone_machine.proofs.kept_needs.nothing_kept.Goals as goal

@@ -1,4 +1,4 @@
-use Rattle.std.proofs.Common.{◌≡◌, replicate}
+use Rattle.zone_machine.proofs.Prelude.{◌≡◌, replicate}
 use Rattle.zone_machine.proofs.NothingKept.{unfilled}
 use Rattle.zone_machine.proofs.kept_needs.nothing_kept.Given as goal
 

@@ -1,5 +1,4 @@
-use Rattle.std.proofs.Common.{◌∙◌, sym, ap, arith}
-use Rattle.std.specs.Prelude.{is_some, is_none}
+use Rattle.zone_machine.proofs.Prelude.{◌∙◌, sym, ap, arith, is_some, is_none}
 use Rattle.zone_machine.proofs.Following.{not_begun, begun_whole, begun_before, outside-has}
 use Rattle.zone_machine.proofs.Refusing.{from_some}
 use Rattle.zone_machine.proofs.programs.has_begun.Goals as goal

@@ -1,5 +1,4 @@
-use Rattle.std.proofs.Common.{◌≡◌, ◌∙◌, sym, ap, rules, option_map}
-use Rattle.zone_machine.specs.declared.steps.Step.TheVariants.{Take}
+use Rattle.zone_machine.proofs.Prelude.{◌≡◌, ◌∙◌, sym, ap, rules, option_map, Take}
 use Rattle.zone_machine.proofs.Following.{taken}
 use Rattle.zone_machine.proofs.programs.zone_step.Goals as goal
 

@@ -1,6 +1,4 @@
-use Rattle.std.proofs.Common.{◌≡◌, None, sym, ◌∙◌, subst}
-use Rattle.std.specs.Prelude.{◌<◌}
-use Rattle.rail_model.specs.Table.{last, point}
+use Rattle.zone_machine.proofs.Prelude.{◌≡◌, None, sym, ◌∙◌, subst, ◌<◌, last, point}
 use Rattle.zone_machine.proofs.Replaying.{has_point}
 use Rattle.zone_machine.proofs.replays.next_line.Goals as goal
 

@@ -1,9 +1,5 @@
-use Rattle.std.proofs.Common.{◌++◌, map}
-use Rattle.rail_model.specs.declared.types.Ask.TheVariants.{Yes}
-use Rattle.rail_model.specs.declared.types.Reply.TheVariants.{Driver}
-use Rattle.rail_model.specs.declared.types.Entry.{Entry}
+use Rattle.zone_machine.proofs.Prelude.{◌++◌, map, Yes, Driver, Entry, after}
 use Rattle.rail_model.specs.Lines.{journal_of}
-use Rattle.rail_model.specs.Yard.{after}
 use Rattle.zone_machine.proofs.Replaying.{next_replayed}
 use Rattle.zone_machine.proofs.replays.replay_all.Goals as goal
 

@@ -1,6 +1,5 @@
-use Rattle.std.proofs.Common.{◌++◌, drop, map}
+use Rattle.zone_machine.proofs.Prelude.{◌++◌, drop, map, after}
 use Rattle.rail_model.specs.Lines.{journal_of}
-use Rattle.rail_model.specs.Yard.{after}
 use Rattle.zone_machine.proofs.Replaying.{Replayed}
 use Rattle.zone_machine.proofs.replays.replay_all.Given as goal
 

@@ -1,5 +1,4 @@
-use Rattle.std.proofs.Common.{arith, subst}
-use Rattle.rail_model.specs.Table.{IsTable}
+use Rattle.zone_machine.proofs.Prelude.{arith, subst, IsTable}
 use Rattle.table_exchange.proofs.Standings.{few_places}
 use Rattle.zone_machine.proofs.replays.replay_ask.Goals as goal
 

@@ -1,14 +1,7 @@
-use Rattle.std.proofs.Common.{◌≡◌, ℕ, ◌<◌, length, Some, sym, ap, ◌∙◌, subst}
-use Rattle.atomic_table.specs.Seated.{TableId}
+use Rattle.zone_yard.proofs.Prelude.{◌≡◌, ℕ, ◌<◌, length, Some, sym, ap, ◌∙◌, subst, TableId, Table, offer, Footprint, claim_of, Seat, Wanted, Setup, SharedYard, needs}
 use Rattle.rail_model.specs.Layout.{Layout}
-use Rattle.rail_model.specs.Table.{Table}
-use Rattle.rail_model.specs.Yard.{offer}
-use Rattle.move_claim.specs.Claims.{Footprint, claim_of, footprint_of}
-use Rattle.zone_yard.specs.Views.{Seat}
-use Rattle.zone_yard.specs.declared.requests.Wanted.{Wanted}
+use Rattle.move_claim.specs.Claims.{footprint_of}
 use Rattle.zone_yard.specs.declared.yard.Yard.TheInside.{Inside}
-use Rattle.zone_yard.specs.Setup.{Setup, SharedYard}
-use Rattle.zone_yard.specs.Blocks.{needs}
 use Rattle.zone_yard.specs.Attempts.{Attempts}
 use Rattle.zone_yard.proofs.Retries.{since_glance, since_moved, fewer_left, asks_since}
 use Rattle.zone_yard.proofs.asking.ask_on.Goals as goal

@@ -1,6 +1,5 @@
-use Rattle.std.proofs.Common.{◌≡◌, ◌-◌, length}
+use Rattle.zone_yard.proofs.Prelude.{◌≡◌, ◌-◌, length, AreLines}
 use Rattle.zone_yard.specs.Attempts.{Since}
-use Rattle.zone_yard.specs.Lines.{AreLines}
 use Rattle.zone_yard.proofs.asking.ask_on.Given as goal
 
 abbrev pub invariant-rounds : goal.invariant-rounds

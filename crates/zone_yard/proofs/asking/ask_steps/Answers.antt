@@ -1,8 +1,5 @@
-use Rattle.std.proofs.Common.{◌≡◌, ◌+◌, ◌≤◌, ℕ, length, sym, ap, ◌∙◌, subst, arith}
-use Rattle.zone_yard.specs.Setup.{SharedYard}
-use Rattle.zone_yard.specs.Passes.{Pass}
+use Rattle.zone_yard.proofs.Prelude.{◌≡◌, ◌+◌, ◌≤◌, ℕ, length, sym, ap, ◌∙◌, subst, arith, SharedYard, Pass, pass_of, Seat}
 use Rattle.zone_yard.specs.Asked.{Attempted}
-use Rattle.zone_yard.specs.Views.{pass_of, Seat}
 use Rattle.zone_yard.specs.Aboard.{IsDriver}
 use Rattle.zone_yard.proofs.BlockEntries.{entries_long}
 use Rattle.zone_yard.proofs.Drivers.{driver_told, asks_asked}

@@ -1,4 +1,4 @@
-use Rattle.std.proofs.Common.{subst}
+use Rattle.zone_yard.proofs.Prelude.{subst}
 use Rattle.zone_yard.specs.Passes.{IsFree}
 use Rattle.zone_yard.proofs.asking.entries_left.Goals as goal
 

@@ -1,16 +1,7 @@
-use Rattle.std.proofs.Common.{◌≡◌, ◌<◌, ◌≤◌, ◌∙◌, ℕ, List, length, get_or, true, false, sym, ap, subst, ⊎_elim, arith}
-use Rattle.std.specs.Prelude.{slice_get, is_none}
+use Rattle.zone_yard.proofs.Prelude.{◌≡◌, ◌<◌, ◌≤◌, ◌∙◌, ℕ, List, length, get_or, true, false, sym, ap, subst, ⊎_elim, arith, slice_get, is_none, slice_get-get_or, Cell, Point, number_of, put, may_read, Seat, core, AreAllSmall}
 use Rattle.std.proofs.lemmas.Bool.{cases_lt}
-use Rattle.std.proofs.lemmas.Option.{slice_get-get_or}
-use Rattle.move_claim.specs.declared.cells.Cell.{Cell}
-use Rattle.move_claim.specs.declared.cells.Cell.TheVariants.{Point}
-use Rattle.move_claim.specs.Cells.{number_of, put}
-use Rattle.zone_machine.specs.World.{may_read}
 use Rattle.zone_machine.proofs.OwnSteps.{number_of-put_other}
 use Rattle.zone_machine.proofs.Places.{same_some}
-use Rattle.zone_yard.specs.Views.{Seat}
-use Rattle.zone_yard.specs.Setup.{core}
-use Rattle.zone_yard.specs.Holding.{AreAllSmall}
 use Rattle.zone_yard.proofs.CellLists.{put-length, put-small, put-new, put-seen, all_seen, knows_next}
 use Rattle.zone_yard.proofs.cells.read_all.Goals as goal
 

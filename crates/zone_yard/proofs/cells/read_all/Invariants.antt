@@ -1,8 +1,5 @@
-use Rattle.std.proofs.Common.{◌≡◌, ◌≢◌, ◌+◌, ◌<◌, ◌≤◌, ℕ, length, Some, false}
-use Rattle.std.specs.Prelude.{slice_get, is_none}
-use Rattle.move_claim.specs.declared.cells.Cell.{Cell}
-use Rattle.move_claim.specs.Cells.{number_of}
-use Rattle.zone_yard.specs.Holding.{AreAllSmall, Knows}
+use Rattle.zone_yard.proofs.Prelude.{◌≡◌, ◌≢◌, ◌+◌, ◌<◌, ◌≤◌, ℕ, length, Some, false, slice_get, is_none, Cell, number_of, AreAllSmall}
+use Rattle.zone_yard.specs.Holding.{Knows}
 use Rattle.zone_yard.proofs.cells.read_all.Given as goal
 
 abbrev pub invariant-loop-cell : goal.invariant-loop-cell

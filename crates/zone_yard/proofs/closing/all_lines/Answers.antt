@@ -1,11 +1,7 @@
-use Rattle.std.proofs.Common.{◌≡◌, ◌++◌, ◌<◌, ℕ, List, Ok, Err, sym, ap, ◌∙◌, subst}
+use Rattle.zone_yard.proofs.Prelude.{◌≡◌, ◌++◌, ◌<◌, ℕ, List, Ok, sym, ap, ◌∙◌, subst, Line, journal_of, Row, Setup, SharedYard, most_passes, Root, entries_of, done_of, View}
+use Rattle.std.proofs.Common.{Err}
 use Rattle.std.specs.Prelude.{Result, IfOk}
-use Rattle.rail_model.specs.declared.types.Line.{Line}
-use Rattle.rail_model.specs.Lines.{journal_of}
-use Rattle.ticket_lines.specs.Merging.{Row, AreRows}
-use Rattle.zone_yard.specs.Setup.{Setup, SharedYard, most_passes}
-use Rattle.zone_yard.specs.Passes.{Root, entries_of, done_of}
-use Rattle.zone_yard.specs.Views.{View}
+use Rattle.ticket_lines.specs.Merging.{AreRows}
 use Rattle.zone_yard.proofs.Closed.{rows_are}
 use Rattle.zone_yard.proofs.closing.all_lines.Goals as goal
 

@@ -1,22 +1,14 @@
-use Rattle.std.proofs.Common.{◌≡◌, ◌≢◌, ◌++◌, ◌+◌, ◌*◌, ◌-◌, ◌<◌, ◌≤◌, ℕ, List, length, get_or, set, sym, ap, ◌∙◌, subst, arith, rules, get_or-set_same, get_or-set_other, length-set}
+use Rattle.zone_yard.proofs.Prelude.{◌≡◌, ◌≢◌, ◌++◌, ◌+◌, ◌*◌, ◌-◌, ◌<◌, ◌≤◌, ℕ, List, length, get_or, set, sym, ap, ◌∙◌, subst, arith, get_or-set_same, get_or-set_other, journal_of, place, Yard, Row, Position, word_of, Setup, SharedYard, core, state_after, Root, View, Place, KeepsRule}
+use Rattle.std.proofs.Common.{rules, length-set}
 use Rattle.std.proofs.lemmas.Grind.{same_number_lists}
 use mathlib.Core.Logic.{dite}
 use mathlib.Core.Option.{some}
 use native.Mathlib.Decide.{ℕ_discrete}
 use lib.ListN.{get_elem?}
-use Rattle.rail_model.specs.Lines.{journal_of}
 use Rattle.rail_model.specs.Plain.{Plain}
-use Rattle.rail_model.specs.Table.{place}
-use Rattle.rail_model.specs.Yard.{Yard}
 use Rattle.plain_yard.specs.Keeps.{Keeps}
-use Rattle.ticket_lines.specs.Merging.{Row}
-use Rattle.move_claim.specs.declared.cells.Cell.TheVariants.{Position, Table as TableCell}
-use Rattle.zone_machine.specs.World.{word_of}
-use Rattle.zone_yard.specs.Setup.{Setup, SharedYard, core, state_after}
-use Rattle.zone_yard.specs.Passes.{Root}
-use Rattle.zone_yard.specs.Views.{View, Place}
+use Rattle.move_claim.specs.declared.cells.Cell.TheVariants.{Table as TableCell}
 use Rattle.zone_yard.specs.Boarding.{Closes}
-use Rattle.zone_yard.specs.Kept.{KeepsRule}
 use Rattle.zone_yard.proofs.Keeps.{St}
 use Rattle.zone_yard.proofs.Closed.{ended, size, place_of, table_of, counts, closes}
 use Rattle.zone_yard.proofs.closing.read_back.Goals.{After-close_with-closed}

@@ -1,7 +1,5 @@
-use Rattle.std.proofs.Common.{◌≡◌, ◌<◌, ℕ, length}
+use Rattle.zone_yard.proofs.Prelude.{◌≡◌, ◌<◌, ℕ, length, place, state_after}
 use Rattle.std.specs.Prelude.{slice_index}
-use Rattle.rail_model.specs.Table.{place}
-use Rattle.zone_yard.specs.Setup.{state_after}
 use Rattle.zone_yard.proofs.closing.read_back.Given as goal
 
 abbrev pub invariant-loop-train : goal.invariant-loop-train

@@ -1,17 +1,8 @@
-use Rattle.std.proofs.Common.{◌≡◌, ◌<◌, ◌+◌, ◌∙◌, ℕ, [], ◌∷◌, length, map, true, cond, sym, ap, subst, arith}
-use Rattle.rail_model.specs.declared.types.Reply.TheVariants.{Control}
+use Rattle.zone_yard.proofs.Prelude.{◌≡◌, ◌<◌, ◌+◌, ◌∙◌, ℕ, [], ◌∷◌, length, map, true, cond, sym, ap, subst, arith, Control, Entry, below, Table, Offer, offer, control, Position, number_of, first_unknown, tried, Actor, trains_of, is_cell, Setup, core, View, knower, Seat}
 use Rattle.rail_model.specs.declared.types.Tried.{Tried}
-use Rattle.rail_model.specs.declared.types.Entry.{Entry}
-use Rattle.rail_model.specs.Checks.{below}
 use Rattle.rail_model.specs.State.{Legal}
-use Rattle.rail_model.specs.Table.{Table}
-use Rattle.rail_model.specs.Yard.{Offer, offer, control}
-use Rattle.move_claim.specs.declared.cells.Cell.TheVariants.{Position, Table as TableCell}
-use Rattle.move_claim.specs.Cells.{number_of, first_unknown}
-use Rattle.zone_machine.specs.Entries.{known_positions, tried, is_exchange, exchange_effects}
-use Rattle.zone_machine.specs.World.{Actor, trains_of, is_cell}
-use Rattle.zone_yard.specs.Setup.{Setup, core}
-use Rattle.zone_yard.specs.Views.{View, knower, Seat}
+use Rattle.move_claim.specs.declared.cells.Cell.TheVariants.{Table as TableCell}
+use Rattle.zone_machine.specs.Entries.{known_positions, is_exchange, exchange_effects}
 use Rattle.zone_yard.proofs.CellLists.{are_cells}
 use Rattle.zone_yard.proofs.Turning.{ready_control, control_entry, control_actor, offer_here, asked}
 use Rattle.zone_yard.proofs.exchanging.enter_turn.Goals as goal

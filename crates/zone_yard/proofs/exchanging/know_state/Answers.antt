@@ -1,6 +1,4 @@
-use Rattle.std.proofs.Common.{◌∙◌, sym, ap}
-use Rattle.zone_yard.specs.Views.{Seat}
-use Rattle.zone_yard.specs.Setup.{core}
+use Rattle.zone_yard.proofs.Prelude.{◌∙◌, sym, ap, Seat, core}
 use Rattle.zone_yard.proofs.FootprintCells.{some_held}
 use Rattle.zone_yard.proofs.Turning.{holds_them, not_bare}
 use Rattle.zone_yard.proofs.exchanging.know_state.Goals as goal

@@ -1,14 +1,9 @@
-use Rattle.std.proofs.Common.{◌≡◌, ◌<◌, ◌≤◌, ◌∙◌, ℕ, List, length, true, false, sym, ap, subst, ⊎_elim, arith, lt-ltb}
-use Rattle.std.specs.Prelude.{is_none}
+use Rattle.zone_yard.proofs.Prelude.{◌≡◌, ◌<◌, ◌≤◌, ◌∙◌, ℕ, List, length, true, false, sym, ap, subst, ⊎_elim, arith, lt-ltb, is_none, Cell, Position, number_of, put, Seat, core}
 use Rattle.std.proofs.lemmas.Bool.{cases_lt}
-use Rattle.move_claim.specs.declared.cells.Cell.{Cell}
-use Rattle.move_claim.specs.declared.cells.Cell.TheVariants.{Position, Table as TableCell}
-use Rattle.move_claim.specs.Cells.{number_of, put}
+use Rattle.move_claim.specs.declared.cells.Cell.TheVariants.{Table as TableCell}
 use Rattle.zone_machine.specs.World.{holds_all}
 use Rattle.zone_machine.proofs.Entering.{none_unknown}
 use Rattle.zone_machine.proofs.OwnSteps.{number_of-put_other}
-use Rattle.zone_yard.specs.Views.{Seat}
-use Rattle.zone_yard.specs.Setup.{core}
 use Rattle.zone_yard.proofs.CellLists.{put-length, put-new, put-seen, knows_next}
 use Rattle.zone_yard.proofs.exchanging.read_positions.Goals as goal
 

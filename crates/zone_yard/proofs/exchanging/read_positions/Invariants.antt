@@ -1,6 +1,5 @@
-use Rattle.std.proofs.Common.{◌≡◌, ◌+◌, ◌<◌, ◌≤◌, ℕ, length, false}
+use Rattle.zone_yard.proofs.Prelude.{◌≡◌, ◌+◌, ◌<◌, ◌≤◌, ℕ, length, false, number_of}
 use Rattle.move_claim.specs.declared.cells.Cell.TheVariants.{Table as TableCell}
-use Rattle.move_claim.specs.Cells.{number_of}
 use Rattle.zone_machine.proofs.Entering.{is_unknown}
 use Rattle.zone_yard.specs.Holding.{Knows}
 use Rattle.zone_yard.proofs.exchanging.read_positions.Given as goal

@@ -1,17 +1,10 @@
-use Rattle.std.proofs.Common.{◌≡◌, ◌<◌, ◌+◌, ◌-◌, ◌∙◌, ℕ, Option, [], length, map, sym, ap, subst, arith}
-use Rattle.std.specs.Prelude.{unwrap_or, sum}
-use Rattle.rail_model.specs.Checks.{below}
+use Rattle.zone_yard.proofs.Prelude.{◌≡◌, ◌<◌, ◌+◌, ◌-◌, ◌∙◌, ℕ, Option, [], length, map, sym, ap, subst, arith, unwrap_or, below, Table, Offer, Yard, offer, Position, number_in, known_table, Actor, core, knower}
+use Rattle.std.specs.Prelude.{sum}
 use Rattle.rail_model.specs.State.{Legal}
-use Rattle.rail_model.specs.Table.{Table}
-use Rattle.rail_model.specs.Yard.{Offer, Yard, offer}
-use Rattle.move_claim.specs.declared.cells.Cell.TheVariants.{Position}
-use Rattle.move_claim.specs.Cells.{number_in}
-use Rattle.zone_machine.specs.Entries.{known_table, known_positions, moves_to}
+use Rattle.zone_machine.specs.Entries.{known_positions, moves_to}
 use Rattle.zone_machine.specs.Needs.{table_of}
-use Rattle.zone_machine.specs.World.{Setup as CoreSetup, Actor}
+use Rattle.zone_machine.specs.World.{Setup as CoreSetup}
 use Rattle.zone_machine.proofs.ControlEnters.{same_tried}
-use Rattle.zone_yard.specs.Setup.{core}
-use Rattle.zone_yard.specs.Views.{knower}
 use Rattle.zone_yard.proofs.Turning.{offer_here}
 use Rattle.zone_yard.proofs.exchanging.told_of_next.Goals as goal
 

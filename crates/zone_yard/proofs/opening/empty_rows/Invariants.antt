@@ -1,6 +1,5 @@
-use Rattle.std.proofs.Common.{◌≡◌, ◌<◌, ℕ, [], length}
+use Rattle.zone_yard.proofs.Prelude.{◌≡◌, ◌<◌, ℕ, [], length, Row}
 use Rattle.std.specs.Prelude.{slice_index_or}
-use Rattle.ticket_lines.specs.Merging.{Row}
 use Rattle.zone_yard.proofs.opening.empty_rows.Given as goal
 
 abbrev pub invariant-loop-pass : goal.invariant-loop-pass

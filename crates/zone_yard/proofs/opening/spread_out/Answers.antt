@@ -1,4 +1,4 @@
-use Rattle.std.proofs.Common.{ℕ, List, [], ◌∷◌, ◌++◌, get_or, sym, ap, ◌∙◌, arith}
+use Rattle.zone_yard.proofs.Prelude.{ℕ, List, [], ◌∷◌, ◌++◌, get_or, sym, ap, ◌∙◌, arith}
 use Rattle.zone_yard.proofs.Apart.{spread-more}
 use Rattle.zone_yard.proofs.opening.spread_out.Goals as goal
 

@@ -1,5 +1,5 @@
-use Rattle.std.proofs.Common.{◌≡◌, take}
-use Rattle.zone_yard.specs.Spread.{spread}
+use Rattle.zone_yard.proofs.Prelude.{◌≡◌, spread}
+use Rattle.std.proofs.Common.{take}
 use Rattle.zone_yard.proofs.opening.spread_out.Given as goal
 
 abbrev pub invariant-loop-word : goal.invariant-loop-word

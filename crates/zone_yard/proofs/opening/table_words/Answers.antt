@@ -1,9 +1,7 @@
-use Rattle.std.proofs.Common.{List, sym, ap, ◌∙◌, subst}
+use Rattle.zone_yard.proofs.Prelude.{List, sym, ap, ◌∙◌, subst, Offer, spread}
 use Rattle.std.proofs.lemmas.List.{map-id}
-use Rattle.rail_model.specs.Yard.{Offer}
 use Rattle.table_exchange.specs.Tables.{Stands}
 use Rattle.zone_machine.specs.Weave.{first_words}
-use Rattle.zone_yard.specs.Spread.{spread}
 use Rattle.zone_yard.proofs.opening.table_words.Goals as goal
 
 pub first_words-requires : goal.first_words-requires

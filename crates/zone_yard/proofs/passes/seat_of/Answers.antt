@@ -1,13 +1,9 @@
-use Rattle.std.proofs.Common.{◌≡◌, ℕ, List, [], suc, ◌+◌, ◌<◌, ◌^◌, ◌∷◌, length, get_or, set, Bool, true, false, refl, sym, ap, ◌∙◌, subst, arith, eq-eqb, ne_eqb, get_or-set_other, get_or-set_same, length-set}
+use Rattle.zone_yard.proofs.Prelude.{◌≡◌, ℕ, List, [], suc, ◌+◌, ◌<◌, ◌^◌, ◌∷◌, length, get_or, set, Bool, true, false, refl, sym, ap, ◌∙◌, subst, arith, eq-eqb, ne_eqb, get_or-set_other, get_or-set_same, has, Setup, SharedYard, state_after, IsLegalHistory, entries_of, standing, IsPass, AreLeft, AreLines, IsPassNumber, View, pass_view, Seat}
+use Rattle.std.proofs.Common.{length-set}
 use mathlib.Core.Logic.{dite}
 use native.Mathlib.Decide.{ℕ_discrete}
-use Rattle.zone_locks.specs.Zones.{has}
-use Rattle.zone_yard.specs.Setup.{Setup, SharedYard, state_after, IsLegalHistory}
-use Rattle.zone_yard.specs.Passes.{Root as RootValue, entries_of, standing}
-use Rattle.zone_yard.specs.Aboard.{IsPass}
-use Rattle.zone_yard.specs.Lines.{AreLeft, AreLines}
-use Rattle.zone_yard.specs.Kept.{IsPassNumber}
-use Rattle.zone_yard.specs.Views.{View, boarding, pass_view, Seat}
+use Rattle.zone_yard.specs.Passes.{Root as RootValue}
+use Rattle.zone_yard.specs.Views.{boarding}
 use Rattle.zone_yard.proofs.LinesKept.{left_stay, lines_begin}
 use Rattle.zone_yard.proofs.Keeps.{has_less}
 use Rattle.zone_yard.proofs.Roots.{many_few, many_set, fresh}

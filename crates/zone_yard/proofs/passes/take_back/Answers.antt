@@ -1,13 +1,9 @@
-use Rattle.std.proofs.Common.{◌≡◌, ◌<◌, ◌≤◌, ◌^◌, ℕ, suc, [], false, ⊎_elim, List, ◌∷◌, ◌+◌, ◌-◌, length, sym, ap, ◌∙◌, subst, arith, All}
+use Rattle.zone_yard.proofs.Prelude.{◌≡◌, ◌<◌, ◌≤◌, ◌^◌, ℕ, suc, [], false, ⊎_elim, List, ◌∷◌, ◌+◌, ◌-◌, length, sym, ap, ◌∙◌, subst, arith, Entry, Setup, SharedYard, core, most_passes, IsLegalHistory, Root, StartsWith, entries_of, Seat, View, pass_of, trains, offer, control, has}
+use Rattle.std.proofs.Common.{All}
 use Rattle.std.proofs.lemmas.List.Elements.{All-head, All-tail}
-use Rattle.rail_model.specs.declared.types.Entry.{Entry}
-use Rattle.zone_yard.specs.Setup.{Setup, SharedYard, core, most_passes, IsLegalHistory}
-use Rattle.zone_yard.specs.Passes.{Root, StartsWith, IsAshore, entries_of}
-use Rattle.zone_yard.specs.Views.{Seat, View, pass_of, root_of, leaving, looked}
+use Rattle.zone_yard.specs.Passes.{IsAshore}
+use Rattle.zone_yard.specs.Views.{root_of, leaving, looked}
 use Rattle.zone_yard.specs.Boarding.{TakesBack}
-use Rattle.rail_model.specs.Table.{trains}
-use Rattle.rail_model.specs.Yard.{offer, control}
-use Rattle.zone_locks.specs.Zones.{has}
 use Rattle.zone_machine.specs.Sound.{IsActor}
 use Rattle.zone_yard.proofs.LinesKept.{left_more}
 use Rattle.zone_yard.proofs.passes.take_back.Goals as goal

@@ -1,13 +1,6 @@
-use Rattle.std.proofs.Common.{◌≡◌, ◌++◌, refl, sym, ap, ◌∙◌, subst, append-nil}
-use Rattle.rail_model.specs.Yard.{offer}
-use Rattle.move_claim.specs.Cells.{number_in}
-use Rattle.move_claim.specs.Claims.{claim_of}
-use Rattle.move_claim.specs.Deciding.{decided}
+use Rattle.zone_yard.proofs.Prelude.{◌≡◌, ◌++◌, refl, sym, ap, ◌∙◌, subst, append-nil, offer, number_in, claim_of, decided, new_entries, Seat, Setup, core, state_after, Lines, AreLines, moves_from}
 use Rattle.zone_machine.specs.Sound.{IsSetup}
 use Rattle.ticket_lines.specs.Tickets.{marks_of, own_lines}
-use Rattle.zone_yard.specs.Views.{new_entries, Seat}
-use Rattle.zone_yard.specs.Setup.{Setup, core, state_after}
-use Rattle.zone_yard.specs.Lines.{Lines, AreLines, moves_from}
 use Rattle.zone_yard.proofs.LinesKept.{Tells, granted, none_granted, moves_fit, lines_kept}
 use Rattle.zone_yard.proofs.receipts.enter_answer.Given.{Over}
 use Rattle.zone_yard.proofs.receipts.enter_answer.Goals.{After-append-ticket}

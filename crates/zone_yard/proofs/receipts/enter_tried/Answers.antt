@@ -1,13 +1,7 @@
-use Rattle.std.proofs.Common.{◌≡◌, ◌++◌, ◌+◌, Option, Some, None, refl, sym, ap, ◌∙◌, append-nil}
-use Rattle.rail_model.specs.declared.types.Reply.TheVariants.{Control}
-use Rattle.rail_model.specs.declared.types.Line.{Line}
+use Rattle.zone_yard.proofs.Prelude.{◌≡◌, ◌++◌, ◌+◌, Option, Some, None, refl, sym, ap, ◌∙◌, append-nil, Control, Line, control, tried, core, state_after, Lines, AreLines, knower, Seat}
 use Rattle.rail_model.specs.Lines.{line_of}
-use Rattle.rail_model.specs.Yard.{control}
 use Rattle.ticket_lines.specs.Tickets.{at_ticket}
-use Rattle.zone_machine.specs.Entries.{known_positions, tried}
-use Rattle.zone_yard.specs.Setup.{core, state_after}
-use Rattle.zone_yard.specs.Lines.{Lines, AreLines}
-use Rattle.zone_yard.specs.Views.{knower, Seat}
+use Rattle.zone_machine.specs.Entries.{known_positions}
 use Rattle.zone_yard.proofs.Turning.{asked}
 use Rattle.zone_yard.proofs.LinesKept.{Tries, next_tried, table_lines, line_fits, lines_kept}
 use Rattle.zone_yard.proofs.receipts.enter_tried.Goals.{After-table_line}

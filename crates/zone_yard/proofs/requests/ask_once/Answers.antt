@@ -1,9 +1,5 @@
-use Rattle.std.proofs.Common.{◌≡◌, ◌∙◌, ℕ, List, refl, sym, ap, subst}
+use Rattle.zone_yard.proofs.Prelude.{◌≡◌, ◌∙◌, ℕ, List, refl, sym, ap, subst, number_of, Seat, span, RefusesZone, IsToldBlock}
 use Rattle.move_claim.specs.declared.cells.Cell.TheVariants.{Table as TableCell}
-use Rattle.move_claim.specs.Cells.{number_of}
-use Rattle.zone_yard.specs.Views.{Seat}
-use Rattle.zone_yard.specs.Holding.{span}
-use Rattle.zone_yard.specs.Attempts.{RefusesZone, IsToldBlock}
 use Rattle.zone_yard.proofs.Attempted.{moves_back, refused_back, told_back}
 use Rattle.zone_yard.proofs.requests.ask_once.Goals as goal
 

@@ -1,17 +1,6 @@
-use Rattle.std.proofs.Common.{◌≡◌, ◌+◌, ◌∙◌, List, ℕ, sym, ap, subst, true}
-use Rattle.rail_model.specs.declared.types.BlockAsk.{BlockAsk}
-use Rattle.move_claim.specs.declared.cells.Cell.{Cell}
+use Rattle.zone_yard.proofs.Prelude.{◌≡◌, ◌+◌, ◌∙◌, List, ℕ, sym, ap, subst, true, BlockAsk, Cell, number_of, number_in, first_unknown, Claim, Footprint, decided, is_cell, Seat, Wanted, Setup, core, told, needs, replies_of, granted_steps, CanAnswer}
 use Rattle.move_claim.specs.declared.cells.Cell.TheVariants.{Table as TableCell}
-use Rattle.move_claim.specs.Cells.{number_of, number_in, first_unknown}
-use Rattle.move_claim.specs.declared.claims.Claim.{Claim}
-use Rattle.move_claim.specs.Claims.{Footprint, cells_of}
-use Rattle.move_claim.specs.Deciding.{decided}
-use Rattle.zone_machine.specs.World.{is_cell}
-use Rattle.zone_yard.specs.Views.{Seat}
-use Rattle.zone_yard.specs.declared.requests.Wanted.{Wanted}
-use Rattle.zone_yard.specs.Setup.{Setup, core}
-use Rattle.zone_yard.specs.Passes.{told}
-use Rattle.zone_yard.specs.Blocks.{needs, replies_of, granted_steps, CanAnswer}
+use Rattle.move_claim.specs.Claims.{cells_of}
 use Rattle.zone_yard.specs.Holding.{owing}
 use Rattle.zone_yard.proofs.CellLists.{are_cells}
 use Rattle.zone_yard.proofs.BlockEntries.{told_block, owes_block, stands_block, ready_block, can_answer, held_after}

@@ -1,15 +1,8 @@
-use Rattle.std.proofs.Common.{◌≡◌, ◌<◌, ◌≤◌, ◌^◌, ◌∙◌, [], length, true, refl, sym, ap, subst, inl, inr, arith}
-use Rattle.std.specs.Prelude.{slice_get}
+use Rattle.zone_yard.proofs.Prelude.{◌≡◌, ◌<◌, ◌≤◌, ◌^◌, ◌∙◌, [], length, true, refl, sym, ap, subst, inl, inr, arith, slice_get, number_of, first_unknown, put, Footprint, may_read, Seat, core, AreAllSmall}
 use Rattle.rail_model.proofs.Found.{Among}
 use Rattle.move_claim.specs.declared.cells.Cell.TheVariants.{Table as TableCell}
-use Rattle.move_claim.specs.Cells.{number_of, first_unknown, put}
-use Rattle.move_claim.specs.Claims.{Footprint}
 use Rattle.move_claim.proofs.Amongs.{Among-get}
-use Rattle.zone_machine.specs.World.{may_read}
 use Rattle.zone_machine.proofs.OwnSteps.{number_of-put_same}
-use Rattle.zone_yard.specs.Views.{Seat}
-use Rattle.zone_yard.specs.Setup.{core}
-use Rattle.zone_yard.specs.Holding.{AreAllSmall}
 use Rattle.zone_yard.proofs.CellLists.{put-small}
 use Rattle.zone_yard.proofs.FootprintCells.{later_cells, few_cells, no_table, guarded, some_held, tail_of, tail_known}
 use Rattle.zone_yard.proofs.requests.know_all.Goals as goal

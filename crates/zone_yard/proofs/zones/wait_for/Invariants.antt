@@ -1,5 +1,4 @@
-use Rattle.std.proofs.Common.{◌≡◌}
-use Rattle.zone_yard.specs.Holding.{HoldsZones}
+use Rattle.zone_yard.proofs.Prelude.{◌≡◌, HoldsZones}
 use Rattle.zone_yard.proofs.zones.wait_for.Given as goal
 
 abbrev pub invariant-loop : goal.invariant-loop

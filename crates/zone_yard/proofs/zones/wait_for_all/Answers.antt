@@ -1,6 +1,4 @@
-use Rattle.std.proofs.Common.{◌≡◌, true, ◌∙◌, sym, ap, subst, arith}
-use Rattle.zone_machine.specs.Steps.{is_above}
-use Rattle.zone_yard.specs.Views.{Seat}
+use Rattle.zone_yard.proofs.Prelude.{◌≡◌, true, ◌∙◌, sym, ap, subst, arith, is_above, Seat}
 use Rattle.zone_yard.proofs.Spans.{above_span}
 use Rattle.zone_yard.proofs.Holdings.{waits_more, takes_none}
 use Rattle.zone_yard.proofs.zones.wait_for_all.Goals as goal

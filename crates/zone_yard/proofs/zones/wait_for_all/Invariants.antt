@@ -1,5 +1,4 @@
-use Rattle.std.proofs.Common.{◌≡◌}
-use Rattle.zone_yard.specs.Holding.{span, HoldsZones}
+use Rattle.zone_yard.proofs.Prelude.{◌≡◌, span, HoldsZones}
 use Rattle.zone_yard.proofs.zones.wait_for_all.Given as goal
 
 abbrev pub invariant-loop-zone : goal.invariant-loop-zone

@@ -1,15 +1,6 @@
-use Rattle.std.proofs.Common.{◌≡◌, length, map, get_or, refl, sym, ap, ◌∙◌, arith, rules}
-use Rattle.move_claim.specs.declared.cells.Cell.TheVariants.{Count}
-use Rattle.move_claim.specs.Cells.{number_in}
+use Rattle.zone_machine.proofs.Prelude.{◌≡◌, length, map, get_or, refl, sym, ap, ◌∙◌, arith, rules, Count, number_in, Block, Setup, Actor, World, actor, claim_of, footprint_of, table_of, answer, known_table, after_driver, CoreValue}
 use Rattle.move_claim.specs.Deciding.{decided}
-use Rattle.zone_machine.specs.declared.steps.Step.TheVariants.{Block}
-use Rattle.zone_machine.specs.World.{Setup, Actor, World, actor}
 use Rattle.zone_machine.specs.Entered.{driver_told}
-use Rattle.move_claim.specs.Claims.{claim_of, footprint_of}
-use Rattle.zone_machine.specs.Needs.{table_of}
-use Rattle.zone_machine.specs.Entries.{answer, known_table}
-use Rattle.zone_machine.specs.Steps.{after_driver}
-use Rattle.zone_machine.specs.Cores.{CoreValue}
 use Rattle.zone_machine.proofs.Acting.{is_row, leaves_as, makes_as}
 use Rattle.zone_machine.proofs.DriverEnters.{Enters, enters_at, room_left, needs_here, same_steps, same_told, driver_world}
 use Rattle.zone_machine.proofs.machine.Core.enter.Given.{Over}

@@ -1,11 +1,4 @@
-use Rattle.std.proofs.Common.{◌≡◌, ℕ, ◌<◌, length, sym, ap, ◌∙◌, subst, Option, arith}
-use Rattle.std.specs.Prelude.{unwrap_or}
-use Rattle.move_claim.specs.Claims.{Footprint, claim_of, footprint_of}
-use Rattle.zone_machine.specs.declared.steps.Step.TheVariants.{Block}
-use Rattle.zone_machine.specs.World.{Setup, Actor, World, actor, trains_of}
-use Rattle.zone_machine.specs.Needs.{table_of}
-use Rattle.zone_machine.specs.Entries.{known_table}
-use Rattle.zone_machine.specs.Cores.{CoreValue}
+use Rattle.zone_machine.proofs.Prelude.{◌≡◌, ℕ, ◌<◌, length, sym, ap, ◌∙◌, subst, Option, arith, unwrap_or, Footprint, claim_of, footprint_of, Block, Setup, Actor, World, actor, trains_of, table_of, known_table, CoreValue}
 use Rattle.zone_machine.proofs.Acting.{is_row}
 use Rattle.zone_machine.proofs.DriverEnters.{enters_at}
 use Rattle.zone_machine.proofs.machine.Core.enter_by.Given.{Over}

@@ -1,19 +1,7 @@
-use Rattle.std.proofs.Common.{◌≡◌, ℕ, ◌+◌, ◌<◌, ◌≤◌, length, map, refl, sym, ap, ◌∙◌, subst, List, Option, arith, rules}
-use Rattle.std.specs.Prelude.{unwrap_or}
-use Rattle.std.proofs.lemmas.List.{length-map}
-use Rattle.rail_model.specs.Checks.{below}
-use Rattle.rail_model.specs.State.{Legal}
-use Rattle.rail_model.specs.Table.{Table, trains}
-use Rattle.rail_model.specs.Yard.{Offer, control, offer}
-use Rattle.move_claim.specs.declared.cells.Cell.TheVariants.{Position}
-use Rattle.move_claim.specs.Cells.{number_in}
-use Rattle.zone_machine.specs.declared.steps.Step.TheVariants.{Append}
-use Rattle.zone_machine.specs.World.{Setup, Actor, World, actor}
-use Rattle.zone_machine.specs.Needs.{table_of}
+use Rattle.zone_machine.proofs.Prelude.{◌≡◌, ℕ, ◌+◌, ◌<◌, ◌≤◌, length, map, refl, sym, ap, ◌∙◌, subst, List, Option, arith, rules, unwrap_or, length-map, below, Legal, trains, Offer, control, offer, Position, number_in, Append, Setup, Actor, World, actor, table_of, known_table, tried, after_control, CoreValue}
+use Rattle.rail_model.specs.Table.{Table}
 use Rattle.zone_machine.specs.Entered.{control_told}
-use Rattle.zone_machine.specs.Entries.{known_table, known_positions, moves_to, tried}
-use Rattle.zone_machine.specs.Steps.{after_control}
-use Rattle.zone_machine.specs.Cores.{CoreValue}
+use Rattle.zone_machine.specs.Entries.{known_positions, moves_to}
 use Rattle.zone_machine.proofs.Acting.{is_row, leaves_as, makes_as}
 use Rattle.zone_machine.specs.ControlAsked.{IsTold}
 use Rattle.zone_machine.proofs.ControlEnters.{told_at, same_tried, control_world}

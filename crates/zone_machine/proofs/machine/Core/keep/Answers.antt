@@ -1,8 +1,5 @@
-use Rattle.std.proofs.Common.{◌≡◌, ◌<◌, length, Some, refl, sym, ap, ◌∙◌, subst}
-use Rattle.std.specs.Prelude.{slice_get}
+use Rattle.zone_machine.proofs.Prelude.{◌≡◌, ◌<◌, length, Some, refl, sym, ap, ◌∙◌, subst, slice_get, Actor, CoreValue}
 use Rattle.std.proofs.lemmas.Option.{slice_get_read}
-use Rattle.zone_machine.specs.World.{Actor}
-use Rattle.zone_machine.specs.Cores.{CoreValue}
 use Rattle.zone_machine.proofs.Needing.{glance_in}
 use Rattle.zone_machine.proofs.machine.Core.keep.Goals as goal
 

@@ -1,7 +1,4 @@
-use Rattle.std.proofs.Common.{◌≡◌, ◌<◌, ℕ, List, true, sym, ap, ◌∙◌, subst}
-use Rattle.std.specs.List.Sorted.{IsStrictlyIncreasing}
-use Rattle.zone_locks.specs.Zones.{has}
-use Rattle.move_claim.specs.Claims.{Footprint}
+use Rattle.zone_machine.proofs.Prelude.{◌≡◌, ◌<◌, ℕ, List, true, sym, ap, ◌∙◌, subst, IsStrictlyIncreasing, has, Footprint}
 use Rattle.zone_machine.proofs.Needing.{driver_rising, driver_low}
 use Rattle.zone_machine.proofs.machine.Core.next_by.Goals as goal
 

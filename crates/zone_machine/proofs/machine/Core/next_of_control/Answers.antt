@@ -1,8 +1,4 @@
-use Rattle.std.proofs.Common.{◌≡◌, ◌<◌, ℕ, List, true, sym, ap, ◌∙◌, subst}
-use Rattle.std.specs.List.Sorted.{IsStrictlyIncreasing}
-use Rattle.rail_model.specs.Checks.{below}
-use Rattle.zone_locks.specs.Zones.{has}
-use Rattle.zone_machine.specs.Cores.{CoreValue}
+use Rattle.zone_machine.proofs.Prelude.{◌≡◌, ◌<◌, ℕ, List, true, sym, ap, ◌∙◌, subst, IsStrictlyIncreasing, below, has, CoreValue}
 use Rattle.zone_machine.proofs.Needing.{control_rising, control_low}
 use Rattle.zone_machine.proofs.machine.Core.next_of_control.Goals as goal
 

@@ -1,7 +1,4 @@
-use Rattle.std.proofs.Common.{◌≡◌, ◌∙◌, sym, subst, Some}
-use Rattle.std.specs.Prelude.{slice_get}
-use Rattle.zone_machine.specs.Sound.{IsActor}
-use Rattle.zone_machine.specs.Cores.{CoreValue}
+use Rattle.zone_machine.proofs.Prelude.{◌≡◌, ◌∙◌, sym, subst, Some, slice_get, IsActor, CoreValue}
 use Rattle.zone_machine.proofs.Acting.{row_in, not_left, cause_out_of_place, cause_in_place}
 use Rattle.zone_machine.proofs.machine.Core.refusal.Goals as goal
 

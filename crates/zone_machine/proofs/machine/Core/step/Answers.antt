@@ -1,6 +1,4 @@
-use Rattle.std.proofs.Common.{◌∙◌, sym, subst}
-use Rattle.zone_machine.specs.World.{Setup}
-use Rattle.zone_machine.specs.Sound.{Sound}
+use Rattle.zone_machine.proofs.Prelude.{◌∙◌, sym, subst, Setup, Sound}
 use Rattle.zone_machine.proofs.Acting.{made_sound}
 use Rattle.zone_machine.proofs.machine.Core.step.Goals as goal
 

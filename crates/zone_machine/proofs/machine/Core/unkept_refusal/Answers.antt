@@ -1,15 +1,5 @@
-use Rattle.std.proofs.Common.{◌≡◌, ◌<◌, ◌+◌, ◌==◌, [], ◌∷◌, length, cond, Option, Some, sym, ap, ◌∙◌, subst}
-use Rattle.std.specs.Prelude.{slice_get, option_map, nat_lt}
-use Rattle.std.specs.Bool.{then_some}
-use Rattle.rail_model.specs.Turns.{first_of}
-use Rattle.move_claim.specs.Claims.{Footprint, cells_of, claim_of, footprint_of}
-use Rattle.zone_machine.specs.Needs.{table_of}
-use Rattle.zone_machine.specs.declared.steps.NotAllowed.{NotAllowed}
+use Rattle.zone_machine.proofs.Prelude.{◌≡◌, ◌<◌, ◌+◌, ◌==◌, [], ◌∷◌, length, cond, Option, Some, sym, ap, ◌∙◌, subst, slice_get, option_map, nat_lt, then_some, first_of, Footprint, cells_of, claim_of, footprint_of, table_of, NotAllowed, Actor, missing_zone, unknown_cell, IsSetup, CoreValue}
 use Rattle.zone_machine.specs.declared.steps.NotAllowed.TheVariants as no
-use Rattle.zone_machine.specs.World.{Actor}
-use Rattle.zone_machine.specs.Steps.{missing_zone, unknown_cell}
-use Rattle.zone_machine.specs.Sound.{IsSetup}
-use Rattle.zone_machine.specs.Cores.{CoreValue}
 use Rattle.zone_machine.proofs.InForce.{known_in_range}
 use Rattle.zone_machine.proofs.Refusing.{driver_list, no_control}
 use Rattle.zone_machine.proofs.machine.Core.unkept_refusal.Goals as goal

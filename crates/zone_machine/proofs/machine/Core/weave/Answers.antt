@@ -1,12 +1,7 @@
-use Rattle.std.proofs.Common.{◌≡◌, ℕ, get_or, Option, Ok, Err, refl, sym, ◌∙◌, subst, suc, ◌+◌, ◌<◌, List, length, drop, drop-cons, Some, Result, ap, arith}
-use Rattle.zone_machine.specs.declared.steps.Step.{Step}
-use Rattle.zone_machine.specs.declared.steps.Step.TheVariants.{Board}
-use Rattle.zone_machine.specs.declared.steps.NotAllowed.{NotAllowed}
-use Rattle.zone_machine.specs.World.{Setup, World}
-use Rattle.zone_machine.specs.Steps.{step_of}
+use Rattle.zone_machine.proofs.Prelude.{◌≡◌, ℕ, get_or, Option, Ok, Err, refl, sym, ◌∙◌, subst, suc, ◌+◌, ◌<◌, List, length, drop, Some, ap, arith, Step, Board, NotAllowed, Setup, World, step_of, Seen}
+use Rattle.std.proofs.Common.{drop-cons, Result}
 use Rattle.zone_machine.specs.Calls.{Weaves, Steps}
 use Rattle.zone_machine.proofs.machine.Core.weave.Goals as goal
-use Rattle.zone_machine.specs.declared.steps.Seen.{Seen}
 use Rattle.zone_machine.specs.Weave.{go_on, weave_from}
 
 -- what a step says that was made

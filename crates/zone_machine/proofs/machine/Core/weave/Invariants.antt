@@ -1,5 +1,4 @@
-use Rattle.std.proofs.Common.{◌≡◌, drop}
-use Rattle.zone_machine.specs.Sound.{Sound}
+use Rattle.zone_machine.proofs.Prelude.{◌≡◌, drop, Sound}
 use Rattle.zone_machine.specs.Weave.{weave_of, weave_from}
 use Rattle.zone_machine.proofs.machine.Core.weave.Given as goal
 

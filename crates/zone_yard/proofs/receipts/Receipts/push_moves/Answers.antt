@@ -1,9 +1,7 @@
-use Rattle.std.proofs.Common.{◌≡◌, ◌++◌, ◌∷◌, [], ◌+◌, List, length, ap, sym, ◌∙◌, arith, append_assoc, length-append}
+use Rattle.zone_yard.proofs.Prelude.{◌≡◌, ◌++◌, ◌∷◌, [], ◌+◌, List, length, ap, sym, ◌∙◌, arith, append_assoc, length-append, unwrap_or, Lines, moves_from}
 use Rattle.ticket_lines.specs.declared.tickets.TicketLine.{TicketLine}
-use Rattle.std.specs.Prelude.{unwrap_or}
 use Rattle.rail_model.specs.declared.types.Line.TheVariants.{Move as MoveLine}
 use Rattle.rail_model.specs.Table.{point}
-use Rattle.zone_yard.specs.Lines.{Lines, moves_from}
 use Rattle.zone_yard.proofs.LinesKept.{moves_more, moves_count}
 use Rattle.zone_yard.proofs.receipts.Receipts.push_moves.Goals as goal
 

@@ -1,5 +1,4 @@
-use Rattle.std.proofs.Common.{◌≡◌, ◌++◌}
-use Rattle.zone_yard.specs.Lines.{moves_from}
+use Rattle.zone_yard.proofs.Prelude.{◌≡◌, ◌++◌, moves_from}
 use Rattle.zone_yard.proofs.receipts.Receipts.push_moves.Given as goal
 
 abbrev pub invariant-loop-step : goal.invariant-loop-step

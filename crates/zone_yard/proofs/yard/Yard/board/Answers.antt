@@ -1,9 +1,4 @@
-use Rattle.std.proofs.Common.{◌≡◌, ◌<◌, ◌==◌, sym, ap, ◌∙◌, subst, arith, ne_eqb}
-use Rattle.rail_model.specs.Table.{trains, place}
-use Rattle.rail_model.specs.Yard.{offer, control}
-use Rattle.zone_yard.specs.Setup.{Setup, SharedYard}
-use Rattle.zone_yard.specs.Passes.{Pass, standing}
-use Rattle.zone_yard.specs.Aboard.{IsPass}
+use Rattle.zone_yard.proofs.Prelude.{◌≡◌, ◌<◌, ◌==◌, sym, ap, ◌∙◌, subst, arith, ne_eqb, trains, place, offer, control, Setup, SharedYard, Pass, standing, IsPass}
 use Rattle.zone_yard.proofs.Lists.{second_of}
 use Rattle.zone_yard.proofs.LinesKept.{most_of_train}
 use Rattle.zone_yard.proofs.yard.Yard.board.Goals as goal

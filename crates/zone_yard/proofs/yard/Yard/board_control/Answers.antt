@@ -1,9 +1,4 @@
-use Rattle.std.proofs.Common.{◌≡◌, ◌∙◌, length, ap, sym, subst}
-use Rattle.rail_model.specs.Yard.{Yard, control}
-use Rattle.zone_machine.specs.World.{trains_of}
-use Rattle.zone_yard.specs.Setup.{Setup, SharedYard, core}
-use Rattle.zone_yard.specs.Passes.{Pass}
-use Rattle.zone_yard.specs.Aboard.{IsPass}
+use Rattle.zone_yard.proofs.Prelude.{◌≡◌, ◌∙◌, length, ap, sym, subst, Yard, control, trains_of, Setup, SharedYard, core, Pass, IsPass}
 use Rattle.zone_yard.proofs.yard.Yard.board_control.Goals as goal
 
 pub invariant_of-result : goal.invariant_of-result

@@ -1,7 +1,5 @@
-use Rattle.std.proofs.Common.{refl, sym, ap, subst, arith}
+use Rattle.zone_yard.proofs.Prelude.{refl, sym, ap, subst, arith, SharedYard, Replies}
 use Rattle.zone_yard.specs.declared.replies.Reply.{Reply}
-use Rattle.zone_yard.specs.Setup.{SharedYard}
-use Rattle.zone_yard.specs.Replies.{Replies}
 use Rattle.zone_yard.proofs.Replied.{asked_reply}
 use Rattle.zone_yard.proofs.yard.Yard.request.Goals as goal
 

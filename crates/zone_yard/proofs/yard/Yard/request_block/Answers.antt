@@ -1,7 +1,5 @@
-use Rattle.std.proofs.Common.{refl, sym, ap, subst, arith}
+use Rattle.zone_yard.proofs.Prelude.{refl, sym, ap, subst, arith, SharedYard, BlockReplies}
 use Rattle.zone_yard.specs.declared.replies.BlockReply.{BlockReply}
-use Rattle.zone_yard.specs.Setup.{SharedYard}
-use Rattle.zone_yard.specs.Replies.{BlockReplies}
 use Rattle.zone_yard.proofs.Replied.{asked_block}
 use Rattle.zone_yard.proofs.yard.Yard.request_block.Goals as goal
 

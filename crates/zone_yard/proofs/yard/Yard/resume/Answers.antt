@@ -1,20 +1,14 @@
-use Rattle.std.proofs.Common.{◌≡◌, ◌*◌, ◌^◌, ◌<◌, ℕ, List, [], length, get_or, replicate, false, refl, sym, ap, ◌∙◌, subst, arith}
+use Rattle.zone_yard.proofs.Prelude.{◌≡◌, ◌*◌, ◌^◌, ◌<◌, ℕ, List, [], length, get_or, replicate, false, refl, sym, ap, ◌∙◌, subst, arith, Offer, offer, Setup, core, most_passes, View, root_view, KeepsRule, Row, AreLeft, spread}
 use Rattle.std.proofs.lemmas.List.{map-id, get_or-replicate}
 use Rattle.atomic_table.specs.Table.{opening}
 use Rattle.rail_model.specs.Table.{IsTable}
-use Rattle.rail_model.specs.Yard.{Offer, Yard as YardValue, offer}
+use Rattle.rail_model.specs.Yard.{Yard as YardValue}
 use Rattle.table_exchange.specs.Tables.{Stands}
 use Rattle.plain_yard.proofs.Keeping.{keeps_stands}
 use Rattle.zone_machine.specs.Sound.{IsSetup}
 use Rattle.zone_machine.specs.Weave.{first_words}
-use Rattle.zone_yard.specs.Setup.{Setup, core, most_passes}
-use Rattle.zone_yard.specs.Views.{View, root_view}
-use Rattle.zone_yard.specs.Kept.{KeepsRule}
-use Rattle.ticket_lines.specs.Merging.{Row}
 use Rattle.zone_machine.proofs.Opening.{opened}
 use Rattle.zone_yard.specs.Aboard.{IsRoot}
-use Rattle.zone_yard.specs.Lines.{AreLeft}
-use Rattle.zone_yard.specs.Spread.{spread}
 use Rattle.zone_yard.proofs.Apart.{spread-length}
 use Rattle.zone_yard.proofs.Opens.{opens}
 use Rattle.zone_yard.proofs.yard.Yard.resume.Goals.{After-deref}
