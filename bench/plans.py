@@ -41,6 +41,9 @@ limit = 2
 weight = 0
 from = "L2"
 to = "Y"
+[[section]]
+limit = 8
+holds = { T0 = { "S#1" = 1, X = 2, "W#2" = 0, "-" = 4 }, T1 = { L2 = 3 } }
 [[connection]]
 train = "T1"
 leaves = "V"
@@ -70,7 +73,8 @@ NUMBERS = [0, 1, 2, 3, 4, 5, -1, 128, 129, 1000, 1001, 1_000_000, 1_000_001, 2**
 NUMBERS += [0.5, 1.0, 4.0, float("inf"), float("nan"), 1e300]
 OTHERS = [datetime.date(2026, 1, 1), [], ["A"], ["A", "B"], ["T0"], [1], ["A", 1], [["A", "B"]], [[]], [{}], {}, {"T0": 1}, {"T0": "S"}]
 OTHERS += [{"default": 2}, {"default": "2"}, {"name": "T0"}, {"": 1}, {"0": ["W"]}, [{"name": "T9", "route": ["A"]}], {"W S": 3, "A": 1}]
-KEYS = "lines switches open zones train section connection table name route start exit times limit points weight only from to".split()
+OTHERS += [{"T0": {"X": 1, "-": 2}}, {"T0": {"W": 5}}, {"T1": {}}]
+KEYS = "lines switches open zones train section connection table name route start exit times limit points weight only from to holds".split()
 KEYS += "leaves after reached default trains title via".split() + ["", "W S", "T0", "0", "15", "16"]
 
 
