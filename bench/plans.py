@@ -43,7 +43,7 @@ from = "L2"
 to = "Y"
 [[section]]
 limit = 8
-holds = { T0 = { "S#1" = 1, X = 2, "W#2" = 0, "-" = 4 }, T1 = { L2 = 3 } }
+holds = { T0 = { "S#1" = 1, X = 2, "W#2" = 0, "-" = 4 }, T1 = { start = 2, L2 = 3 } }
 [[connection]]
 train = "T1"
 leaves = "V"

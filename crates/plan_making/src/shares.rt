@@ -24,6 +24,9 @@ pub(crate) const OTHERS: &str = "default";
 // The name in a table of shares that is for behind the exit.
 const BEHIND: &str = "-";
 
+// The name in a table of shares that is for the first place.
+const START: &str = "start";
+
 // What a train takes of a section at the section's points: its weight, from one place of its route until before another.
 #[derive(Clone, Copy)]
 struct Holding {
@@ -168,6 +171,20 @@ fn mark(marks: &mut [Option<u8>], place: usize, share: u8) -> bool {
     true
 }
 
+// The place of a name of a train's route, if it is one.
+fn place_named(
+    faults: &mut Faults,
+    entry: &Entry,
+    name: &str,
+    scope: &Scope,
+    train: usize,
+) -> Option<usize> {
+    if name == START {
+        return Some(0);
+    }
+    place_if_there(faults, entry, "holds", name, scope, train)
+}
+
 // The shares that are said for places of a train's route. A place that is named twice is reported.
 fn marks_of<'x>(
     faults: &mut Faults,
@@ -182,7 +199,7 @@ fn marks_of<'x>(
             && name.as_str() != BEHIND
         {
             let name = name.as_str();
-            let place = place_if_there(faults, entry, "holds", name, scope, train);
+            let place = place_named(faults, entry, name, scope, train);
             if let Some(place) = place
                 && !mark(&mut marks, place, share(number))
             {
@@ -251,6 +268,12 @@ fn check_place<'x>(
             let parts = [Part::Name(BEHIND), Part::Name(scope.train(train))];
             let form = "{} without an exit: train {} stays where its route ends";
             faults.tell(&entry.at("holds").of(place), form, &parts);
+        }
+    } else if place == START {
+        if is_known(scope.points, START) {
+            let form =
+                "{} is for the first place, and is the name of a point too: write #1, #2 .. behind the point";
+            tell_of(faults, entry, "holds", place, form);
         }
     } else if scope.table == 0
         || !is_known(scope.points, point_of(place))

@@ -2,7 +2,7 @@
 use Rattle.std.proofs.Common.{◌≡◌, ℕ, List, [], ◌∷◌, Bool, true, false, String, Vec, None, Some, pos, codes, lit<, refl}
 use Rattle.std.specs.Fmt.{digits}
 use Rattle.std.specs.declared.alloc.Global.{Global}
-use Rattle.toml.specs.Data.{Data, no_items, item, no_members, member, string, integer, array, table}
+use Rattle.toml.specs.Data.{Data, Members, no_items, item, no_members, member, string, integer, array, table}
 use Rattle.plan_reading.specs.Held.{are_shares, has_shares, said_share, stretch_of, weight_for}
 use Rattle.plan_reading.proofs.PlaceRows.{a, b, route}
 use Rattle.plan_reading.proofs.Texts.{text_of, vec_of}
@@ -17,8 +17,11 @@ abbrev back : String Global → List (String Global)
 back s = b s ∷ a s ∷ []
 
 -- a weight of its own for RE, 3, and 2 for all others
+abbrev by_names : Data
+by_names = table (member [] (integer (pos 2)) (member (codes "RE") (integer (pos 3)) no_members))
+
 abbrev weights : Data
-weights = table (member (codes "weight") (table (member [] (integer (pos 2)) (member (codes "RE") (integer (pos 3)) no_members))) no_members)
+weights = table (member (codes "weight") by_names no_members)
 
 pub own_weight : weight_for weights (codes "RE") ≡ pos 3
 own_weight = refl
@@ -52,7 +55,7 @@ routes s v = vec_of v (route s) (lit< tt) ∷ vec_of v (back s) (lit< tt) ∷ []
 
 -- a section at B, with the weights above
 abbrev at_b : Data
-at_b = table (member (codes "points") (array (item (string (codes "B")) no_items)) (member (codes "weight") (table (member [] (integer (pos 2)) (member (codes "RE") (integer (pos 3)) no_members))) no_members))
+at_b = table (member (codes "points") (array (item (string (codes "B")) no_items)) (member (codes "weight") by_names no_members))
 
 -- IC goes from A over M to B and to M again, and exits: 2 at B, and nothing behind its exit
 pub both : (s : String Global) → has_shares at_b (ic s) (route s) true (0 ∷ 0 ∷ 2 ∷ 0 ∷ 0 ∷ []) ≡ true
@@ -68,12 +71,18 @@ too_late s = refl
 pub its_own : (s : String Global) → has_shares at_b (re s) (back s) false (3 ∷ 0 ∷ []) ≡ true
 its_own s = refl
 
+abbrev of_ic : Vec ℕ Global → Vec ℕ Global
+of_ic w = vec_of w (0 ∷ 0 ∷ 2 ∷ 0 ∷ 0 ∷ []) (lit< tt)
+
+abbrev of_re : Vec ℕ Global → Vec ℕ Global
+of_re w = vec_of w (3 ∷ 0 ∷ []) (lit< tt)
+
 pub for_both : (s : String Global) (v : Vec (String Global) Global) (w : Vec ℕ Global)
-    → are_shares at_b (ic s ∷ re s ∷ []) (routes s v) exits (vec_of w (0 ∷ 0 ∷ 2 ∷ 0 ∷ 0 ∷ []) (lit< tt) ∷ vec_of w (3 ∷ 0 ∷ []) (lit< tt) ∷ []) ≡ true
+    → are_shares at_b (ic s ∷ re s ∷ []) (routes s v) exits (of_ic w ∷ of_re w ∷ []) ≡ true
 for_both s v w = refl
 
 pub exchanged : (s : String Global) (v : Vec (String Global) Global) (w : Vec ℕ Global)
-    → are_shares at_b (ic s ∷ re s ∷ []) (routes s v) exits (vec_of w (3 ∷ 0 ∷ []) (lit< tt) ∷ vec_of w (0 ∷ 0 ∷ 2 ∷ 0 ∷ 0 ∷ []) (lit< tt) ∷ []) ≡ false
+    → are_shares at_b (ic s ∷ re s ∷ []) (routes s v) exits (of_re w ∷ of_ic w ∷ []) ≡ false
 exchanged s v w = refl
 
 pub one_short : (s : String Global) (v : Vec (String Global) Global) → are_shares at_b (ic s ∷ re s ∷ []) (routes s v) exits [] ≡ false
@@ -81,7 +90,8 @@ one_short s v = refl
 
 -- only for RE, from B on: nothing for IC
 abbrev for_one : Data
-for_one = table (member (codes "from") (string (codes "B")) (member (codes "only") (array (item (string (codes "RE")) no_items)) no_members))
+for_one =
+    table (member (codes "from") (string (codes "B")) (member (codes "only") (array (item (string (codes "RE")) no_items)) no_members))
 
 pub meant : (s : String Global) → has_shares for_one (re s) (back s) false (1 ∷ 1 ∷ []) ≡ true
 meant s = refl
@@ -122,14 +132,21 @@ whole_route s = refl
 pub no_points : (s : String Global) → has_shares (table no_members) (ic s) (route s) false (0 ∷ 0 ∷ 0 ∷ 0 ∷ []) ≡ true
 no_points s = refl
 
--- IC has 4 behind its exit, 2 from the second M on, and 1 from B until then; RE isn't named
+-- IC has 4 behind its exit, 2 from the second M on, 1 from B until then, and 3 until B; RE isn't named
+abbrev later : Members
+later = member (codes "M#2") (integer (pos 2)) (member (codes "start") (integer (pos 3)) no_members)
+
 abbrev by_places : Data
-by_places = table (member (codes "-") (integer (pos 4)) (member (codes "B") (integer (pos 1)) (member (codes "M#2") (integer (pos 2)) no_members)))
+by_places = table (member (codes "-") (integer (pos 4)) (member (codes "B") (integer (pos 1)) later))
+
+-- a section in which IC has the shares of these numbers
+abbrev held_by : Data → Data
+held_by said = table (member (codes "holds") (table (member (codes "IC") said no_members)) no_members)
 
 abbrev holds : Data
-holds = table (member (codes "holds") (table (member (codes "IC") by_places no_members)) no_members)
+holds = held_by by_places
 
-pub before_the_first_name : (s : String Global) → said_share holds (ic s) (route s) 1 ≡ pos 0
+pub before_the_first_name : (s : String Global) → said_share holds (ic s) (route s) 1 ≡ pos 3
 unfolding digits
 before_the_first_name s = refl
 
@@ -144,9 +161,12 @@ until_the_next s = refl
 pub behind_the_exit : (s : String Global) → said_share holds (ic s) (route s) 4 ≡ pos 4
 behind_the_exit s = refl
 
-pub held_in_all : (s : String Global) → has_shares holds (ic s) (route s) true (0 ∷ 0 ∷ 1 ∷ 2 ∷ 4 ∷ []) ≡ true
+pub held_in_all : (s : String Global) → has_shares holds (ic s) (route s) true (3 ∷ 3 ∷ 1 ∷ 2 ∷ 4 ∷ []) ≡ true
 unfolding digits
 held_in_all s = refl
+
+pub without_start : (s : String Global) → said_share (held_by (table no_members)) (ic s) (route s) 1 ≡ pos 0
+without_start s = refl
 
 pub not_named : (s : String Global) → has_shares holds (re s) (back s) false (0 ∷ 0 ∷ []) ≡ true
 unfolding digits

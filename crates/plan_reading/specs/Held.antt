@@ -98,18 +98,18 @@ named_in (member name d ds) route place = if is_place name route place then Some
 abbrev pub number_named : Option Data → List (String Global) → ℕ → Option ℤ
 number_named said route place = option_and_then as_integer (option_and_then (λ keys. named_in keys route place) (option_and_then as_table said))
 
--- the number that is said by the last name of the first so many places of a route; 0, if none of them is named
-abbrev pub held : Option Data → List (String Global) → ℕ → ℤ
-held said route zero = pos 0
-held said route (suc place) = unwrap_or (number_named said route place) (held said route place)
+-- the number that is said under a name that is no place's: `start`, or `-` for behind the exit; 0, if none is
+abbrev pub number_under : List ℕ → Option Data → ℤ
+number_under name said = unwrap_or (option_and_then (number_at name) said) (pos 0)
 
--- the number that is said for behind the exit; 0, if none is
-abbrev pub held_behind : Option Data → ℤ
-held_behind said = unwrap_or (option_and_then (number_in (codes "-")) said) (pos 0)
+-- the number that is said by the last name of the first so many places of a route; that at `start`, if none of them is named
+abbrev pub held : Option Data → List (String Global) → ℕ → ℤ
+held said route zero = number_under (codes "start") said
+held said route (suc place) = unwrap_or (number_named said route place) (held said route place)
 
 -- what a train has by the numbers that are said for its places: at a place of its route, or behind it
 abbrev pub held_at : Option Data → List (String Global) → ℕ → ℤ
-held_at said route place = if nat_lt place (length route) then held said route (place + 1) else held_behind said
+held_at said route place = if nat_lt place (length route) then held said route (place + 1) else number_under (codes "-") said
 
 -- the share of a train by what is said in `holds`, if anything is, or else by weights
 abbrev pub share_by : Option Data → Data → String Global → List (String Global) → ℕ → ℤ

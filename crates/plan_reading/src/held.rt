@@ -270,26 +270,26 @@ fn number_named(said: Option<&Value>, route: &[String], place: usize) -> Option<
     }
 }
 
-// The number that is said by the last name of the first so many places of a route; 0, if none of them is named.
+// The number that is said under a name that is no place's: `start`, or `-` for behind the exit; 0, if none is.
+fn number_under(said: Option<&Value>, name: &str) -> i64
+    ensures { result ≡ spec.number_under name.now (seen said.entry) }
+{
+    match said {
+        Some(said) => number_at(said, name).unwrap_or(0),
+        None => 0,
+    }
+}
+
+// The number that is said by the last name of the first so many places of a route; that at `start`, if none of them is named.
 fn held(said: Option<&Value>, route: &[String], places: usize) -> i64
     ensures { result ≡ spec.held (seen said.entry) route.now places }
 {
     if places == 0 {
-        return 0;
+        return number_under(said, "start");
     }
     match number_named(said, route, places - 1) {
         Some(number) => number,
         None => held(said, route, places - 1),
-    }
-}
-
-// The number that is said for behind the exit; 0, if none is.
-fn held_behind(said: Option<&Value>) -> i64
-    ensures { result ≡ spec.held_behind (seen said.entry) }
-{
-    match said {
-        Some(said) => number_at(said, "-").unwrap_or(0),
-        None => 0,
     }
 }
 
@@ -300,7 +300,7 @@ fn held_at(said: Option<&Value>, route: &[String], place: usize) -> i64
     if place < route.len() {
         held(said, route, place + 1)
     } else {
-        held_behind(said)
+        number_under(said, "-")
     }
 }
 
