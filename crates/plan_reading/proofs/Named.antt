@@ -1,17 +1,15 @@
 -- Entries and names among values: how many there are, the one at an index, and the first of a name.
 use Rattle.std.proofs.Common.{◌≡◌, ◌<◌, ◌≤◌, ℕ, List, [], ◌∷◌, ◌||◌, String, Global, Some, None, get_or, length, refl, inl, inr, ap, ◌∙◌, suc}
-use Rattle.std.specs.Prelude.{Option, string_bytes, option_map, slice_get, IfSome, MatchOption}
+use Rattle.std.specs.Prelude.{Option, option_map, slice_get, IfSome, MatchOption}
 use Rattle.std.specs.Borrow.{Bor}
 use Rattle.std.specs.List.{find, list_any, HoldsAt}
 use Rattle.std.proofs.lemmas.Bool.{cases_Bool}
 use Rattle.std.proofs.lemmas.Option.{slice_get_read}
 use Rattle.toml.specs.Data.{get_item}
-use Rattle.toml.specs.View.{view, items_view, members_view}
+use Rattle.toml.specs.View.{view, items_view}
 use Rattle.toml.specs.declared.value.Value.{Value}
 use Rattle.toml.proofs.Views.{get_item_within, get_item_past}
 use Rattle.plan_reading.specs.Agreeing.{has_name, is_name, is_named, seen}
-use Rattle.plan_reading.specs.Held.{named_in}
-use Rattle.plan_reading.specs.Places.{is_place}
 use Rattle.plan_reading.specs.Said.{count_of, first_named}
 
 pub item_is : (vs : List Value) (i : ℕ) (r : Option (Bor Value)) → IfSome r (λ x. x.now ≡ get_or vs i x.now)
@@ -34,9 +32,3 @@ first_is name (v ∷ vs) = elim (cases_Bool (is_named (view v) name)) [ inl is �
 pub any_is : (vs : List Value) (name : String Global) → list_any (λ v. is_name (view v) name) vs ≡ has_name (items_view vs) name
 any_is [] name = refl
 any_is (v ∷ vs) name = ap (λ rest. is_name (view v) name || rest) (any_is vs name)
-
--- the first of some entries that names a place of a route
-pub named_is : (route : List (String Global)) (place : ℕ) (es : List (String Global × Value))
-    → option_map (λ e. view e.1) (find (λ e. is_place (string_bytes e.0) route place) es) ≡ named_in (members_view es) route place
-named_is route place [] = refl
-named_is route place (e ∷ es) = elim (cases_Bool (is_place (string_bytes e.0) route place)) [ inl is ↦ rw is refl | inr is ↦ rw is (named_is route place es) ]

@@ -1,11 +1,10 @@
 // Whether a section of a plan is what its entry in the text says.
-ghost use Rattle.std.specs.Prelude.{◌≡◌, pos, codes, find, string_bytes, option_and_then, option_copied, option_map};
+ghost use Rattle.std.specs.Prelude.{◌≡◌, pos, codes, option_and_then, option_copied, option_map};
 ghost use Rattle.std.specs.Ordering.{int_eq};
 ghost use Rattle.toml.specs.Data.{as_table};
 ghost use Rattle.toml.specs.View.{items_view, table_view, view};
 ghost use Rattle.plan_reading.specs.Agreeing.{is_number as is_number_of, number_at as number_of, seen};
 ghost use Rattle.plan_reading.specs.Held as spec;
-ghost use Rattle.plan_reading.specs.Places.{is_place as is_place_of};
 
 use crate::matching::{has_name, number_at};
 use crate::placed::{is_place, place_of};
@@ -224,27 +223,16 @@ fn are_weighed(entry: &Value, train: &String, route: &[String], shares: &[u8]) -
     are_by_weight(entry, weight, stretch, route, shares)
 }
 
-// The first of these keys that names a place of a route, with its value.
-fn entry_named<'t>(
-    keys: &'t Table,
-    route: &[String],
-    place: usize,
-) -> Option<(&'t String, &'t Value)>
-    ensures { option_map (λ e. (e.0.now, e.1.now)) result ≡ find (λ e. is_place_of (string_bytes e.0) route.now place) keys.now.entries }
-{
-    keys.iter()
-        .find(|(name, _)| is_place(name.as_str(), route, place))
-}
-
 // What keys have at the first name of a place of a route.
-#[tactic(auto, using(crate::proofs::Named::named_is))]
 fn named_in<'t>(keys: &'t Table, route: &[String], place: usize) -> Option<&'t Value>
     ensures { seen result ≡ spec.named_in (table_view keys.now) route.now place }
 {
-    match entry_named(keys, route, place) {
-        Some((_, value)) => Some(value),
-        None => None,
+    for (name, value) in keys.iter() {
+        if is_place(name.as_str(), route, place) {
+            return Some(value);
+        }
     }
+    None
 }
 
 // The keys of a table that is said.
