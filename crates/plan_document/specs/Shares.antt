@@ -8,7 +8,7 @@ use Rattle.rail_model.specs.Checks.{below}
 abbrev pub is_among : List (String Global) → List ℕ → Bool
 is_among names name = list_any (λ known. bytes_eq name (string_bytes known)) names
 
--- the share at a place; nothing behind the last
+-- the share at a place; nothing after the last
 abbrev pub share_at : List ℕ → ℕ → ℕ
 share_at shares place = slice_index_or shares place 0
 

@@ -29,7 +29,7 @@ pub struct TablePlan {
     pub after: u32,
 }
 
-/// A section of a plan: its limit, and for each train the shares that it has of it: at each place of its route, and behind its exit.
+/// A section of a plan: its limit, and for each train its share at each place of its route, and after its exit, if it has one.
 #[derive(Drop)]
 pub struct SectionPlan {
     pub limit: u32,

@@ -19,7 +19,7 @@ pub fn is_among(names: &[String], name: &str) -> bool
     names.iter().any(|known| is_called(known, name))
 }
 
-/// The share at a place; nothing behind the last.
+/// The share at a place; nothing after the last.
 pub fn share_at(shares: &[u8], place: usize) -> u8
     ensures { result ≡ spec.share_at shares.now place }
 {

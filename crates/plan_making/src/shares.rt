@@ -21,8 +21,8 @@ const SHARES: Range = Range {
 /// The name in a table of weights that is for all other trains, as an empty one is.
 pub(crate) const OTHERS: &str = "default";
 
-// The name in a table of shares that is for behind the exit.
-const BEHIND: &str = "-";
+// The name in a table of shares that is for after the exit.
+const AFTER_EXIT: &str = "-";
 
 // The name in a table of shares that is for the first place.
 const START: &str = "start";
@@ -129,7 +129,7 @@ fn weighed(entry: &Entry, holding: Holding, place: usize, point: &str) -> u8 {
     }
 }
 
-// The shares of a train by its weight, with the one behind its exit.
+// The shares of a train by its weight, with the one after its exit.
 fn weighed_shares(faults: &mut Faults, entry: &Entry, scope: &Scope, train: usize) -> Vec<u8> {
     let holding = holding_of(faults, entry, scope, train);
     let mut shares = Vec::new(faults.alloc());
@@ -196,7 +196,7 @@ fn marks_of<'x>(
     let mut marks = no_marks(faults, scope, train);
     for (name, value) in said {
         if let Some(number) = value.as_integer()
-            && name.as_str() != BEHIND
+            && name.as_str() != AFTER_EXIT
         {
             let name = name.as_str();
             let place = place_named(faults, entry, name, scope, train);
@@ -211,7 +211,7 @@ fn marks_of<'x>(
     marks
 }
 
-// The shares of a train as `holds` says, with the one behind its exit.
+// The shares of a train as `holds` says, with the one after its exit.
 fn held_shares(
     faults: &mut Faults,
     entry: &Entry,
@@ -226,13 +226,13 @@ fn held_shares(
         push(faults, &mut shares, now);
     }
     if scope.plan.exits_at(train) {
-        let behind = said.get(BEHIND).and_then(Value::as_integer);
+        let behind = said.get(AFTER_EXIT).and_then(Value::as_integer);
         push(faults, &mut shares, share(behind.unwrap_or(0)));
     }
     shares
 }
 
-// No share at any place of a train's route, and none behind its exit.
+// No share at any place of a train's route, and none after its exit.
 fn no_shares(faults: &mut Faults, scope: &Scope, train: usize) -> Vec<u8> {
     let mut shares = Vec::new(faults.alloc());
     for _ in scope.plan.route(train) {
@@ -244,7 +244,7 @@ fn no_shares(faults: &mut Faults, scope: &Scope, train: usize) -> Vec<u8> {
     shares
 }
 
-/// The shares that a train has of a section: at each place of its route, and behind its exit.
+/// The shares that a train has of a section: at each place of its route, and after its exit.
 pub(crate) fn shares(faults: &mut Faults, entry: &Entry, scope: &Scope, train: usize) -> Vec<u8> {
     if entry.value("holds").is_none() {
         return weighed_shares(faults, entry, scope, train);
@@ -263,9 +263,9 @@ fn check_place<'x>(
     scope: &Scope,
     train: usize,
 ) {
-    if place == BEHIND {
+    if place == AFTER_EXIT {
         if scope.table == 0 && !scope.plan.exits_at(train) {
-            let parts = [Part::Name(BEHIND), Part::Name(scope.train(train))];
+            let parts = [Part::Name(AFTER_EXIT), Part::Name(scope.train(train))];
             let form = "{} without an exit: train {} stays where its route ends";
             faults.tell(&entry.at("holds").of(place), form, &parts);
         }

@@ -57,7 +57,7 @@ routes s v = vec_of v (route s) (lit< tt) ∷ vec_of v (back s) (lit< tt) ∷ []
 abbrev at_b : Data
 at_b = table (member (codes "points") (array (item (string (codes "B")) no_items)) (member (codes "weight") by_names no_members))
 
--- IC goes from A over M to B and to M again, and exits: 2 at B, and nothing behind its exit
+-- IC goes from A over M to B and to M again, and exits: 2 at B, and nothing after its exit
 pub both : (s : String Global) → has_shares at_b (ic s) (route s) true (0 ∷ 0 ∷ 2 ∷ 0 ∷ 0 ∷ []) ≡ true
 both s = refl
 
@@ -132,7 +132,7 @@ whole_route s = refl
 pub no_points : (s : String Global) → has_shares (table no_members) (ic s) (route s) false (0 ∷ 0 ∷ 0 ∷ 0 ∷ []) ≡ true
 no_points s = refl
 
--- IC has 4 behind its exit, 2 from the second M on, 1 from B until then, and 3 until B; RE isn't named
+-- IC has 4 after its exit, 2 from the second M on, 1 from B until then, and 3 until B; RE isn't named
 abbrev later : Members
 later = member (codes "M#2") (integer (pos 2)) (member (codes "start") (integer (pos 3)) no_members)
 
@@ -158,8 +158,8 @@ pub until_the_next : (s : String Global) → said_share holds (ic s) (route s) 3
 unfolding digits
 until_the_next s = refl
 
-pub behind_the_exit : (s : String Global) → said_share holds (ic s) (route s) 4 ≡ pos 4
-behind_the_exit s = refl
+pub after_the_exit : (s : String Global) → said_share holds (ic s) (route s) 4 ≡ pos 4
+after_the_exit s = refl
 
 pub held_in_all : (s : String Global) → has_shares holds (ic s) (route s) true (3 ∷ 3 ∷ 1 ∷ 2 ∷ 4 ∷ []) ≡ true
 unfolding digits

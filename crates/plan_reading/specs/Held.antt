@@ -82,32 +82,34 @@ abbrev pub is_there : Data → Option (String Global) → Bool
 is_there entry None = false
 is_there entry (Some point) = has_point (names_at (codes "points") entry) entry point
 
--- what a train takes of a section at a place: its weight exactly where the point of that place is one of the section's, within its stretch
+-- what a train with this weight takes of a section at a place: its weight exactly where the point of that place is one of the section's,
+-- within its stretch
 abbrev pub weighed_at : Data → ℤ → Stretch → List (String Global) → ℕ → ℤ
 weighed_at entry weight stretch route place = if lies_in stretch place && is_there entry (slice_get route place) then weight else pos 0
 
+-- what a train takes of a section at a place, by its weight
 abbrev pub weighed : Data → String Global → List (String Global) → ℕ → ℤ
 weighed entry train route place = weighed_at entry (weight_taken entry train) (stretch_of entry (string_bytes train) route) route place
 
--- what members have at the first name of a place of a route
+-- what a table of shares has at the first of its names that names this place of a route
 abbrev pub named_in : Members → List (String Global) → ℕ → Option Data
 named_in no_members route place = None
 named_in (member name d ds) route place = if is_place name route place then Some d else named_in ds route place
 
--- the number that is said by a name of a place of a route
+-- the number that is said for this place of a route, if its name is there
 abbrev pub number_named : Option Data → List (String Global) → ℕ → Option ℤ
 number_named said route place = option_and_then as_integer (option_and_then (λ keys. named_in keys route place) (option_and_then as_table said))
 
--- the number that is said under a name that is no place's: `start`, or `-` for behind the exit; 0, if none is
+-- the number that is said under a name that is no place's: `start`, or `-` for after the exit; 0, if none is
 abbrev pub number_under : List ℕ → Option Data → ℤ
 number_under name said = unwrap_or (option_and_then (number_at name) said) (pos 0)
 
--- the number that is said by the last name of the first so many places of a route; that at `start`, if none of them is named
+-- the number that is said for the last of the first so many places of a route that is named; that at `start`, if none of them is named
 abbrev pub held : Option Data → List (String Global) → ℕ → ℤ
 held said route zero = number_under (codes "start") said
 held said route (suc place) = unwrap_or (number_named said route place) (held said route place)
 
--- what a train has by the numbers that are said for its places: at a place of its route, or behind it
+-- what a train has by the numbers that are said for its places: at a place of its route, or after it
 abbrev pub held_at : Option Data → List (String Global) → ℕ → ℤ
 held_at said route place = if nat_lt place (length route) then held said route (place + 1) else number_under (codes "-") said
 
@@ -116,7 +118,7 @@ abbrev pub share_by : Option Data → Data → String Global → List (String Gl
 share_by None entry train route place = weighed entry train route place
 share_by (Some holds) entry train route place = held_at (get (string_bytes train) holds) route place
 
--- the share of a section that an entry says for a train at a place of its route; the place after the last is behind the exit
+-- the share of a section that an entry says for a train at a place of its route; the place after the last is that after the exit
 abbrev pub said_share : Data → String Global → List (String Global) → ℕ → ℤ
 said_share entry train route place = share_by (get (codes "holds") entry) entry train route place
 
@@ -124,7 +126,7 @@ said_share entry train route place = share_by (get (codes "holds") entry) entry 
 abbrev pub are_said : (ℕ → ℤ) → List ℕ → Bool
 are_said said shares = list_all (λ place. int_eq (said place) (pos (share_at shares place))) (below (length shares))
 
--- how many places a route has, with the one behind an exit
+-- how many places a route has, with the one after an exit
 abbrev pub places : List (String Global) → Bool → ℕ
 places route exits = length route + (if exits then 1 else 0)
 

@@ -223,7 +223,7 @@ fn are_weighed(entry: &Value, train: &String, route: &[String], shares: &[u8]) -
     are_by_weight(entry, weight, stretch, route, shares)
 }
 
-// What keys have at the first name of a place of a route.
+// What a table of shares has at the first of its names that names this place of a route.
 fn named_in<'t>(keys: &'t Table, route: &[String], place: usize) -> Option<&'t Value>
     ensures { seen result ≡ spec.named_in (table_view keys.now) route.now place }
 {
@@ -245,7 +245,7 @@ fn keys_of(said: Option<&Value>) -> Option<&Table>
     }
 }
 
-// The number that is said by a name of a place of a route.
+// The number that is said for this place of a route, if its name is there.
 fn number_named(said: Option<&Value>, route: &[String], place: usize) -> Option<i64>
     ensures { result ≡ spec.number_named (seen said.entry) route.now place }
 {
@@ -258,7 +258,7 @@ fn number_named(said: Option<&Value>, route: &[String], place: usize) -> Option<
     }
 }
 
-// The number that is said under a name that is no place's: `start`, or `-` for behind the exit; 0, if none is.
+// The number that is said under a name that is no place's: `start`, or `-` for after the exit; 0, if none is.
 fn number_under(said: Option<&Value>, name: &str) -> i64
     ensures { result ≡ spec.number_under name.now (seen said.entry) }
 {
@@ -268,7 +268,7 @@ fn number_under(said: Option<&Value>, name: &str) -> i64
     }
 }
 
-// The number that is said by the last name of the first so many places of a route; that at `start`, if none of them is named.
+// The number that is said for the last of the first so many places of a route that is named; that at `start`, if none of them is named.
 fn held(said: Option<&Value>, route: &[String], places: usize) -> i64
     ensures { result ≡ spec.held (seen said.entry) route.now places }
 {
@@ -281,7 +281,7 @@ fn held(said: Option<&Value>, route: &[String], places: usize) -> i64
     }
 }
 
-// What a train has by the numbers that are said for its places: at a place of its route, or behind it.
+// What a train has by the numbers that are said for its places: at a place of its route, or after it.
 fn held_at(said: Option<&Value>, route: &[String], place: usize) -> i64
     ensures { result ≡ spec.held_at (seen said.entry) route.now place }
 {
@@ -315,7 +315,7 @@ fn are_by(
     }
 }
 
-// How many places a route has, with the one behind an exit.
+// How many places a route has, with the one after an exit.
 fn places(route: &[String], exits: bool) -> usize
     ensures { result ≡ spec.places route.now exits }
 {
