@@ -57,7 +57,10 @@ end_of (Some said) route = place_of said route
 
 -- the stretch of a train's route that an entry says
 abbrev pub stretch_of : Data → List ℕ → List (String Global) → Stretch
-stretch_of entry train route = record { from = begin_of (place_for (codes "from") entry train) route; until = end_of (place_for (codes "to") entry train) route }
+stretch_of entry train route = record {
+  from = begin_of (place_for (codes "from") entry train) route;
+  until = end_of (place_for (codes "to") entry train) route;
+}
 
 -- whether there is a place to come to, and a train at this place has come to it
 abbrev pub has_come : Option ℕ → ℕ → Bool
@@ -98,7 +101,8 @@ named_in (member name d ds) route place = if is_place name route place then Some
 
 -- the number that is said for this place of a route, if its name is there
 abbrev pub number_named : Option Data → List (String Global) → ℕ → Option ℤ
-number_named said route place = option_and_then as_integer (option_and_then (λ keys. named_in keys route place) (option_and_then as_table said))
+number_named said route place =
+    option_and_then as_integer (option_and_then (λ keys. named_in keys route place) (option_and_then as_table said))
 
 -- the number that is said under a name that is no place's: `start`, or `-` for after the exit; 0, if none is
 abbrev pub number_under : List ℕ → Option Data → ℤ
@@ -137,7 +141,8 @@ has_shares entry train route exits shares = (length shares == places route exits
 -- whether there are shares for each train, and they are what an entry says of it, for the trains' routes and exits
 abbrev pub are_shares : Data → List (String Global) → List (Vec (String Global) Global) → List Bool → List (Vec ℕ Global) → Bool
 are_shares entry trains routes exits shares =
-    (length shares == length trains) && list_all (λ p. has_shares entry p.0 p.1.0.items p.1.1.0 p.1.1.1.items) (zip trains (zip routes (zip exits shares)))
+    (length shares == length trains)
+    && list_all (λ p. has_shares entry p.0 p.1.0.items p.1.1.0 p.1.1.1.items) (zip trains (zip routes (zip exits shares)))
 
 -- whether a section has the limit and the shares of an entry, in a plan with these trains, and a table with these routes and exits
 abbrev pub is_section : List (String Global) → List (Vec (String Global) Global) → List Bool → Data → SectionPlan → Bool
