@@ -41,6 +41,9 @@ limit = 2
 weight = 0
 from = "L2"
 to = "Y"
+[[section]]
+limit = 8
+holds = { T0 = { "S#1" = 1, X = 2, "W#2" = 0, "-" = 4 }, T1 = { start = 2, L2 = 3 } }
 [[connection]]
 train = "T1"
 leaves = "V"
@@ -70,7 +73,8 @@ NUMBERS = [0, 1, 2, 3, 4, 5, -1, 128, 129, 1000, 1001, 1_000_000, 1_000_001, 2**
 NUMBERS += [0.5, 1.0, 4.0, float("inf"), float("nan"), 1e300]
 OTHERS = [datetime.date(2026, 1, 1), [], ["A"], ["A", "B"], ["T0"], [1], ["A", 1], [["A", "B"]], [[]], [{}], {}, {"T0": 1}, {"T0": "S"}]
 OTHERS += [{"default": 2}, {"default": "2"}, {"name": "T0"}, {"": 1}, {"0": ["W"]}, [{"name": "T9", "route": ["A"]}], {"W S": 3, "A": 1}]
-KEYS = "lines switches open zones train section connection table name route start exit times limit points weight only from to".split()
+OTHERS += [{"T0": {"X": 1, "-": 2}}, {"T0": {"W": 5}}, {"T1": {}}]
+KEYS = "lines switches open zones train section connection table name route start exit times limit points weight only from to holds".split()
 KEYS += "leaves after reached default trains title via".split() + ["", "W S", "T0", "0", "15", "16"]
 
 
@@ -157,13 +161,14 @@ def numbers():
     plan = tomllib.loads(EVERY_KEY)
     plan["section"].append({"limit": 4, "points": []})
     zoned = {"train": [{"name": "T0", "route": [f"P{k}" for k in range(16)]}], "zones": {str(k): [f"P{k}"] for k in range(16)}}
-    ranges = [(("section", 3, "limit"), 0, 128), (("section", 3, "weight"), 0, 4), (("section", 3, "weight", "T0"), 0, 4)]
-    ranges += [(("section", 3, "weight", ""), 0, 4), (("train", 1, "times"), 1, 1000), (("train", 0, "times", "default"), 1, 1000)]
+    ranges = [(("section", 4, "limit"), 0, 128), (("section", 4, "weight"), 0, 4), (("section", 4, "weight", "T0"), 0, 4)]
+    ranges += [(("section", 4, "weight", ""), 0, 4), (("train", 1, "times"), 1, 1000), (("train", 0, "times", "default"), 1, 1000)]
+    ranges += [(("section", 3, "holds", train, place), 0, 4) for train, place in (("T0", "S#1"), ("T0", "-"), ("T1", "start"))]
     ranges += [(("train", 0, "times", "L1 S"), 1, 1000), (("table", 0, "train", 0, "times"), 1, 1000)]
     ranges += [(("table", 0, "after"), 0, 1_000_000)]
     for path, least, most in ranges:
-        if path[:3] == ("section", 3, "weight"):
-            plan["section"][3]["weight"] = {}
+        if path[:3] == ("section", 4, "weight"):
+            plan["section"][4]["weight"] = {}
         for number in (least - 1, least, most, most + 1):
             yield with_value(plan, path, number), least <= number <= most
     yield zoned, True
@@ -174,6 +179,7 @@ def numbers():
         if place != "S#1":  # a switch
             yield with_value(plan, ("train", 0, "start"), place), place == "W#1"
         yield with_value(plan, ("connection", 0, "reached"), place), place in ("W#1", "S#1")
+        yield with_value(plan, ("section", 3, "holds", "T0", place), 1), place in ("W#1", "S#1")
     for name in ("a", "A_9", "sixteen_letters_", "", "seventeen_letters", "T-1", "T 1", "Ä", "T#1"):
         is_right = re.fullmatch("[A-Za-z0-9_]{1,16}", name) is not None
         yield {"train": [{"name": name, "route": ["A"]}]}, is_right

@@ -31,10 +31,10 @@ SECTION = {"limit": 1, "changes": [[0, 1, -1]]}
 # What planner says of a shape, and of a meaning.
 SHAPE = re.compile(
     r'" takes .*, and this is of type |"(zones|ways)" takes a table|(?<!"route)" is missing$|: no key "|: this is no table of keys$|'
-    r": the route is empty$|a (time|limit|weight) is \d+ to \d+, and this is |a table is due after 0 to 1000000 moves, and this is |"
+    r": the route is empty$|a (time|limit|weight|share) is \d+ to \d+, and this is |a table is due after 0 to 1000000 moves, and this is |"
     r'(?<!\})" is no (name: 1 to 16|zone: they are|link: two points)|^line \d+: train .*: the route has \d+ places|: there is no train$|'
     r'"count" goes from 1 to 32, and this is |one (train|section|connection|table|pattern) too many|: there are \d+ ways; |'
-    r"the weight for all others is said twice, "
+    r'"holds" says all of it; leave out "|the weight for all others is said twice, '
 )
 # A route and a count may be in a pattern, which a schema doesn't look up.
 MEANING = re.compile(
@@ -43,9 +43,10 @@ MEANING = re.compile(
     r", so its name needs \{\} for the number$|: with these there are more than 32 trains$|: these are \d+ points; |"
     r'" is no step of the route$|" is not on the route of train "|" comes more than once on the route of train "|'
     r'" comes twice in a row$|" is the name of an earlier train too$|: starts at "|: without an exit it ends at "|" is never left: |'
-    r': ends at "|: its route begins at "|is for all others, and is the name of a train too|'
+    r': ends at "|: its route begins at "|is for all others, and is the name of a train too|"-" without an exit: train "|'
     r'" is changed twice by this table$|: a train doesn\'t wait for itself$|: no train of this section comes to "| alone takes \d+ of \d+$|'
     r": at the start \d+ of \d+ are taken, |: no line goes from \"|\" is in a zone already$|: zone \d+ has no point, and zone \d+ has$|"
+    r'" is a place that has another name here too$|"start" is for the first place, and is the name of a point too: |'
     r"table \d+, train .*: the route has \d+ places|: there are more faults than these$"
 )
 # What it says of a plan that it takes.

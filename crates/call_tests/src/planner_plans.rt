@@ -156,7 +156,7 @@ const CHANGES: &str =
 3: start = "M" / route = ["A", "M", "N", "B"]; 6: name = "T\n{}"; 7: start = "N" / route = ["C", "N", "M", "D"] => line 7: train "T?{}": "T?{}" is no name: 1 to 16 of A-Z, a-z, 0-9 and _ / line 13: section "corridor": at the start 2 of 1 are taken, "T0" 1, "T?{}" 1
 7: start = "Q7" / route = ["C", "N", "M", "D"] => line 7: train "T1": no point "Q7"; the points are A, M, N, B, C, D
 7: times = { default = 2, "C Nn" = 3 } / route = ["C", "N", "M", "D"] => line 7: train "T1": no point "Nn"; did you mean "N"?
-6: name = "T-1"; 12: points = ["Mm", "N"] / only = ["T7"] / width = 3 => line 6: train "T-1": "T-1" is no name: 1 to 16 of A-Z, a-z, 0-9 and _ / line 12: section "corridor": no point "Mm"; did you mean "M"? / line 13: section "corridor": no train "T7"; did you mean "T0"? / line 14: section "corridor": no key "width"; the keys are name, limit, points, weight, only, from, to
+6: name = "T-1"; 12: points = ["Mm", "N"] / only = ["T7"] / width = 3 => line 6: train "T-1": "T-1" is no name: 1 to 16 of A-Z, a-z, 0-9 and _ / line 12: section "corridor": no point "Mm"; did you mean "M"? / line 13: section "corridor": no train "T7"; did you mean "T0"? / line 14: section "corridor": no key "width"; the keys are name, limit, points, weight, only, from, to, holds
 7: start = "A" / route = ["C", "N", "M", "D"] => line 7: train "T1": "A" is not on the route of train "T1"
 7: start = "M#3" / route = ["C", "N", "M", "D"] => line 7: train "T1": "M#3" is not on the route of train "T1"
 7: start = "M#01" / route = ["C", "N", "M", "D"] => line 7: train "T1": "M#01" is not on the route of train "T1"
@@ -170,7 +170,7 @@ const CHANGES: &str =
 13: / [[connection]] / train = "T1" / leaves = "C" / after = "T1" / reached = "N" => line 17: connection 0: a train doesn't wait for itself
 7: route = [] => line 7: train "T1": the route is empty
 13: / [[connection]] / train = "T1" / leave = "C" / leaves = "C" / after = "T0" / reached = "N" => line 16: connection 0: no key "leave"; the keys are train, leaves, after, reached
-13: weights = 2 => line 13: section "corridor": no key "weights"; the keys are name, limit, points, weight, only, from, to
+13: weights = 2 => line 13: section "corridor": no key "weights"; the keys are name, limit, points, weight, only, from, to, holds
 13: / [[table]] / after = 4 / zones = 2 => line 16: table 1: no key "zones"; the keys are after, train, section, connection
 13: / [[table]] / after = 4 / [[table.train]] / name = "T1" / start = "C" => line 18: table 1, train "T1": no key "start"; the keys are name, pattern, count, route, exit, times
 9: [[sections]] => line 9: no key "sections"; the keys are lines, open, switches, zones, ways, pattern, train, section, connection, table
@@ -193,6 +193,22 @@ const CHANGES: &str =
 13: only = ["T0", "express"] => line 13: section "corridor": no train "express"; the trains are T0, T1
 13: / [[table]] / after = 4 / [[table.train]] / name = "t1" / exit = true => line 17: table 1, train "t1": no train "t1"; did you mean "T1"?
 11: limit = 4; 12: points = ["N"]; 13: weight = { default = 2, T1 = 1 } => {"links":[["A","M"],["M","N"],["N","B"],["C","N"],["M","D"]],"points":[["A",0],["M",0],["N",0],["B",0],["C",0],["D",0]],"start":[0,0],"tables":[{"after":0,"certificate":[],"connections":[],"exits":[false,false],"missions":[["A","M","N","B"],["C","N","M","D"]],"sections":[{"changes":[[0,0,2,-2],[0,1,-1,0]],"limit":4}],"times":[[1,1,1],[1,1,1]]}],"trains":["T0","T1"],"version":3,"zones":1}
+3: route = ["A", "M", "N", "M", "B"] / exit = true; 11: limit = 4; 12: holds = { T0 = { M = 1 } } => line 13: section "corridor": "M" comes more than once on the route of train "T0": write #1, #2 .. behind it
+3: route = ["A", "M", "N", "M", "B"] / exit = true; 11: limit = 8; 12: holds = { T0 = { N = 1, "M#2" = 2, B = 0, "-" = 4 }, T1 = { C = 3, M = 0 } } => {"links":[["A","M"],["M","N"],["M","B"],["C","N"],["M","D"]],"points":[["A",0],["M",0],["N",0],["B",0],["C",0],["D",0]],"start":[0,0],"tables":[{"after":0,"certificate":[],"connections":[],"exits":[true,false],"missions":[["A","M","N","M","B"],["C","N","M","D"]],"sections":[{"changes":[[0,0,1,1,-2,4],[3,0,-3,0]],"limit":8}],"times":[[1,1,1,1,1],[1,1,1]]}],"trains":["T0","T1"],"version":3,"zones":1}
+13: holds = { T0 = { M = 1 } } => line 12: section "corridor": "holds" says all of it; leave out "points"
+12: holds = { T7 = { M = 1 } } / weight = 2 => line 12: section "corridor": no train "T7"; did you mean "T0"? / line 13: section "corridor": "holds" says all of it; leave out "weight"
+12: holds = { T0 = { Mm = 1, C = 1, M = 5, N = -1 } } => line 12: section "corridor": "C" is not on the route of train "T0" / line 12: section "corridor": a share is 0 to 4, and this is 5 / line 12: section "corridor": no point "Mm"; did you mean "M"? / line 12: section "corridor": a share is 0 to 4, and this is -1
+12: holds = { T0 = { "-" = 1 } } => line 12: section "corridor": "-" without an exit: train "T0" stays where its route ends
+12: holds = { T0 = { M = 1, "M#1" = 1 } } => line 12: section "corridor": "M#1" is a place that has another name here too
+12: holds = { T0 = { M = 2 } } => line 11: section "corridor": train "T0" alone takes 2 of 1
+12: holds = { T0 = { A = 1 }, T1 = { C = 1 } } => line 11: section "corridor": at the start 2 of 1 are taken, "T0" 1, "T1" 1
+12: holds = { T0 = 1 } => line 12: section "corridor": "holds" takes a table of tables of whole numbers, and this is of type integer
+12: holds = { T0 = { M = "1" } } => line 12: section "corridor": "holds" takes whole numbers, and this is of type string
+11: limit = 4; 12: holds = { T0 = { start = 1, N = 0 }, T1 = { start = 2 } } => {"links":[["A","M"],["M","N"],["N","B"],["C","N"],["M","D"]],"points":[["A",0],["M",0],["N",0],["B",0],["C",0],["D",0]],"start":[0,0],"tables":[{"after":0,"certificate":[],"connections":[],"exits":[false,false],"missions":[["A","M","N","B"],["C","N","M","D"]],"sections":[{"changes":[[1,0,-1,0],[2,0,0,0]],"limit":4}],"times":[[1,1,1],[1,1,1]]}],"trains":["T0","T1"],"version":3,"zones":1}
+11: limit = 4; 12: holds = { T0 = { start = 1, A = 2 } } => line 12: section "corridor": "start" is a place that has another name here too
+3: route = ["start", "M", "N", "B"]; 12: holds = { T0 = { start = 1 } } => line 12: section "corridor": "start" is for the first place, and is the name of a point too: write #1, #2 .. behind the point
+11: limit = 4; 12: holds = { T0 = { A = 1, M = 0 }, T1 = { start = 3, D = 0 } }; 13: / [[table]] / after = 4 / [[table.train]] / name = "T1" / route = ["C", "N", "M", "A"] / exit = true => {"links":[["A","M"],["M","N"],["N","B"],["C","N"],["M","D"]],"points":[["A",0],["M",0],["N",0],["B",0],["C",0],["D",0]],"start":[0,0],"tables":[{"after":0,"certificate":[],"connections":[],"exits":[false,false],"missions":[["A","M","N","B"],["C","N","M","D"]],"sections":[{"changes":[[1,-1,0,0],[3,0,0,-3]],"limit":4}],"times":[[1,1,1],[1,1,1]]},{"after":4,"certificate":[],"connections":[],"exits":[false,true],"missions":[["A","M","N","B"],["C","N","M","A"]],"sections":[{"changes":[[1,-1,0,0],[3,0,0,0,-3]],"limit":4}],"times":[[1,1,1],[1,1,1,1]]}],"trains":["T0","T1"],"version":3,"zones":1}
+11: limit = 4; 12: holds = {} => {"links":[["A","M"],["M","N"],["N","B"],["C","N"],["M","D"]],"points":[["A",0],["M",0],["N",0],["B",0],["C",0],["D",0]],"start":[0,0],"tables":[{"after":0,"certificate":[],"connections":[],"exits":[false,false],"missions":[["A","M","N","B"],["C","N","M","D"]],"sections":[{"changes":[[0,0,0,0],[0,0,0,0]],"limit":4}],"times":[[1,1,1],[1,1,1]]}],"trains":["T0","T1"],"version":3,"zones":1}
 13: weight = { default = 1, "" = 1 } => line 13: section "corridor": the weight for all others is said twice, as "default" and as ""
 6: name = "default"; 13: weight = { default = 1 } => line 13: section "corridor": "default" is for all others, and is the name of a train too: write "" for all others
 13: weight = { T9 = 1 } => line 13: section "corridor": no train "T9"; did you mean "T0"?

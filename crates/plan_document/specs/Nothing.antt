@@ -1,11 +1,6 @@
 -- What a plan says of a train that it hasn't.
 use Rattle.std.specs.Prelude.{List, [], Option, Some, None, String, Vec}
 use Rattle.std.specs.declared.alloc.Global.{Global}
-use Rattle.plan_document.specs.declared.plan.Holding.{Holding}
-
--- what a train holds of a section that doesn't concern it
-abbrev pub nothing : Holding
-nothing = record { weight = 0; from = 0; until = 0 }
 
 -- the points of a route, if there is one
 abbrev pub points_of : Option (Vec (String Global) Global) → List (String Global)

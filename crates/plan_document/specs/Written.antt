@@ -1,24 +1,17 @@
 -- The document of a plan.
-use Rattle.std.specs.Prelude.{ℕ, ℤ, List, [], length, map, false, string_bytes, Some, slice_get, slice_index_or}
-use Rattle.rail_model.specs.Checks.{below}
+use Rattle.std.specs.Prelude.{[], map, string_bytes, Some}
 use Rattle.rail_model.specs.Table.{Section, Connection}
 use Rattle.document_shapes.specs.Raw.{TableMembers, DocMembers}
 use Rattle.document_shapes.specs.Seen.{names_seen}
-use Rattle.plan_document.specs.Nothing.{nothing, points_of}
 use Rattle.plan_document.specs.Shares.{changes}
 use Rattle.plan_document.specs.declared.plan.Plan.{Plan}
 use Rattle.plan_document.specs.declared.plan.TablePlan.{TablePlan}
 use Rattle.plan_document.specs.declared.plan.SectionPlan.{SectionPlan}
 use Rattle.plan_document.specs.declared.plan.Wait.{Wait}
 
--- the changes of a train for a section: those that make its shares
-abbrev pub changes_in : TablePlan → SectionPlan → ℕ → List ℤ
-changes_in t s i =
-    changes s.points.items (slice_index_or s.holdings.items i nothing) (points_of (slice_get t.routes.items i)) (slice_index_or t.exits.items i false)
-
 -- a section of the document: the limit, and for each train the changes that make its shares
-abbrev pub section_of : TablePlan → SectionPlan → Section
-section_of t s = record { limit = s.limit; changes = map (changes_in t s) (below (length t.routes.items)) }
+abbrev pub section_of : SectionPlan → Section
+section_of s = record { limit = s.limit; changes = map (λ shares. changes shares.items) s.shares.items }
 
 -- a connection of the document: the train may not leave its place before the other has reached its own
 abbrev pub connection_of : Wait → Connection
@@ -29,7 +22,7 @@ abbrev pub table_of : TablePlan → TableMembers
 table_of t = record {
   missions = map names_seen t.routes.items;
   exits = Some t.exits.items;
-  sections = Some (map (section_of t) t.sections.items);
+  sections = Some (map section_of t.sections.items);
   connections = Some (map connection_of t.waits.items);
   certificate = Some [];
   times = Some t.times.items;

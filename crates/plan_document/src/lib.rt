@@ -9,7 +9,7 @@ mod tracks;
 mod writing;
 
 pub use laws::changes_add_up_to_shares;
-pub use plan::{Holding, Plan, SectionPlan, TablePlan, Wait};
+pub use plan::{Plan, SectionPlan, TablePlan, Wait};
 pub use shares::{is_among, share_at};
 pub use tracks::{before, behind, goes, has_free_ends, is_linked, is_no_switch, keeps, point_at};
 pub use writing::written;

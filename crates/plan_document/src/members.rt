@@ -11,25 +11,23 @@ use rail_model::{Connection, Section};
 use std::alloc::{AllocError, Global};
 
 // A section, as a document has it.
-fn section(alloc: Global, table: &TablePlan, section: &SectionPlan) -> Result<Section, AllocError>
-    ensures { IfOk result (λ s. s ≡ spec.section_of table.now section.now) }
+fn section(alloc: Global, section: &SectionPlan) -> Result<Section, AllocError>
+    ensures { IfOk result (λ s. s ≡ spec.section_of section.now) }
 {
     let mut found = Vec::new(alloc);
-    for train in 0..table.routes.len() {
-        let holding = section.holding(train);
-        let exits = table.exits_at(train);
-        found.push(changes(alloc, &section.points, &holding, table.route(train), exits)?)?;
+    for shares in &section.shares {
+        found.push(changes(alloc, shares)?)?;
     }
     Ok(Section::new(section.limit, found))
 }
 
 // The sections of a table.
-fn sections(alloc: Global, table: &TablePlan) -> Result<Vec<Section>, AllocError>
-    ensures { IfOk result (λ v. v.items ≡ map (spec.section_of table.now) table.now.sections.items) }
+fn sections(alloc: Global, plans: &[SectionPlan]) -> Result<Vec<Section>, AllocError>
+    ensures { IfOk result (λ v. v.items ≡ map spec.section_of plans.now) }
 {
     let mut found = Vec::new(alloc);
-    for plan in &table.sections {
-        found.push(section(alloc, table, plan)?)?;
+    for plan in plans {
+        found.push(section(alloc, plan)?)?;
     }
     Ok(found)
 }
@@ -52,7 +50,7 @@ fn connections(alloc: Global, waits: &[Wait]) -> Result<Vec<Connection>, AllocEr
 fn table(alloc: Global, plan: TablePlan) -> Result<TableMembers, AllocError>
     ensures { IfOk result (λ t. seen_table t ≡ table_of plan) }
 {
-    let sections = sections(alloc, &plan)?;
+    let sections = sections(alloc, &plan.sections)?;
     let connections = connections(alloc, &plan.waits)?;
     Ok(TableMembers {
         missions: plan.routes,

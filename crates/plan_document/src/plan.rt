@@ -29,20 +29,11 @@ pub struct TablePlan {
     pub after: u32,
 }
 
-/// A section of a plan: the names of its points, and what each train holds of it there.
+/// A section of a plan: its limit, and for each train its share at each place of its route, and after its exit, if it has one.
 #[derive(Drop)]
 pub struct SectionPlan {
     pub limit: u32,
-    pub points: Vec<String>,
-    pub holdings: Vec<Holding>,
-}
-
-/// What a train holds of a section at the section's points: its weight, from one place of its route until before another.
-#[derive(Clone, Copy)]
-pub struct Holding {
-    pub weight: u8,
-    pub from: usize,
-    pub until: usize,
+    pub shares: Vec<Vec<u8>>,
 }
 
 impl TablePlan {
@@ -65,24 +56,6 @@ impl TablePlan {
         match self.exits.get(train) {
             Some(exits) => *exits,
             None => false,
-        }
-    }
-}
-
-impl SectionPlan {
-    ghost use Rattle.plan_document.specs.Nothing.{nothing};
-
-    /// What a train holds of the section; nothing for a train that isn't there.
-    pub fn holding(&self, train: usize) -> Holding
-        ensures { result ≡ slice_index_or self.now.holdings.items train nothing }
-    {
-        match self.holdings.get(train) {
-            Some(holding) => *holding,
-            None => Holding {
-                weight: 0,
-                from: 0,
-                until: 0,
-            },
         }
     }
 }

@@ -16,6 +16,8 @@ enum Takes {
     Numbers,
     // A name for all, or a table of them by names.
     Places,
+    // A table of tables of numbers.
+    Shares,
 }
 
 impl Takes {
@@ -28,6 +30,7 @@ impl Takes {
             Takes::Names => "a list of names",
             Takes::Numbers => "a whole number, or a table of them",
             Takes::Places => "a name, or a table of them",
+            Takes::Shares => "a table of tables of whole numbers",
         }
     }
 
@@ -37,7 +40,7 @@ impl Takes {
             Takes::Name | Takes::Places => value.is_str(),
             Takes::Number | Takes::Numbers => value.is_integer(),
             Takes::Flag => value.is_bool(),
-            Takes::Names => false,
+            Takes::Names | Takes::Shares => false,
         }
     }
 }
@@ -101,6 +104,16 @@ fn check_each(faults: &mut Faults, at: &Entry, takes: Takes, table: &Table) {
     }
 }
 
+// Tells each value of a table that isn't a table of numbers, and each that isn't a number in one that is.
+fn check_shares(faults: &mut Faults, at: &Entry, table: &Table) {
+    for (_, value) in table {
+        match value.as_table() {
+            Some(numbers) => check_each(faults, at, Takes::Numbers, numbers),
+            None => tell_type(faults, at, Takes::Shares.words(), value),
+        }
+    }
+}
+
 // Tells the first value of a list that is no name, or what isn't a list.
 fn check_names(faults: &mut Faults, at: &Entry, value: &Value) {
     let other = match value.as_array() {
@@ -118,6 +131,9 @@ fn check_value(faults: &mut Faults, at: &Entry, takes: Takes, value: &Value) {
         Takes::Names => return check_names(faults, at, value),
         Takes::Numbers | Takes::Places => if let Some(table) = value.as_table() {
             return check_each(faults, at, takes, table);
+        },
+        Takes::Shares => if let Some(table) = value.as_table() {
+            return check_shares(faults, at, table);
         },
         _ => {}
     }
@@ -145,7 +161,9 @@ fn known_keys(kind: Kind, is_further: bool) -> &'static [&'static str] {
         Kind::Train | Kind::Pattern => &[
             "name", "pattern", "count", "route", "start", "exit", "times",
         ],
-        Kind::Section => &["name", "limit", "points", "weight", "only", "from", "to"],
+        Kind::Section => &[
+            "name", "limit", "points", "weight", "only", "from", "to", "holds",
+        ],
         Kind::Connection => &["train", "leaves", "after", "reached"],
         Kind::Table => &["after", "train", "section", "connection"],
     }
@@ -161,6 +179,7 @@ fn taken_by(kind: Kind, key: &str) -> Takes {
             "exit" | "open" => Takes::Flag,
             "times" | "weight" => Takes::Numbers,
             "from" | "to" => Takes::Places,
+            "holds" => Takes::Shares,
             _ => Takes::Names,
         },
     }
@@ -199,6 +218,7 @@ fn check_points(faults: &mut Faults, entry: &Entry) {
             if entry.value("points").is_none()
                 && entry.value("from").is_none()
                 && entry.value("to").is_none()
+                && entry.value("holds").is_none()
             {
                 tell_missing(faults, entry, "points");
             }

@@ -10,6 +10,7 @@ mod names;
 mod ranges;
 mod routes;
 mod sections;
+mod shares;
 mod tables;
 mod timed;
 mod times;

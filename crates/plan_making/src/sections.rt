@@ -1,11 +1,10 @@
 // The sections of a table.
-use crate::lists::{owned, push, push_all, push_names};
-use crate::names::{check_count, check_names, find, is_known, tell_of, text_of};
+use crate::lists::{owned, push};
+use crate::names::{check_count, check_names, find, is_known, tell_of};
 use crate::ranges::Range;
-use crate::routes::{
-    Scope, Spot, check_comes, find_place, is_place_name, place_if_there, point_of,
-};
-use plan_document::{Holding, SectionPlan, share_at};
+use crate::routes::{Scope, Spot, check_comes, find_place, is_place_name, point_of};
+use crate::shares::{OTHERS, WEIGHTS, check_holds, is_concerned, shares};
+use plan_document::{SectionPlan, share_at};
 use plan_entries::{Entries, Entry, Faults, Part};
 use toml::{Table, Value};
 
@@ -17,32 +16,8 @@ const LIMITS: Range = Range {
     form: "a limit is 0 to 128, and this is {}",
 };
 
-const WEIGHTS: Range = Range {
-    least: 0,
-    most: 4,
-    form: "a weight is 0 to 4, and this is {}",
-};
-
-// The name in a table of weights that is for all other trains, as an empty one is.
-const OTHERS: &str = "default";
-
-// What a train holds of a section that doesn't concern it.
-const NOTHING: Holding = Holding {
-    weight: 0,
-    from: 0,
-    until: 0,
-};
-
-// Adds the points of a section: all, if only its stretch is given.
-fn add_points(faults: &mut Faults, entry: &Entry, scope: &Scope, plan: &mut SectionPlan) {
-    check_names(faults, entry, "points", "point", scope.points);
-    match entry.names("points") {
-        Some(points) => push_names(faults, &mut plan.points, points),
-        None => if entry.has_places("from") || entry.has_places("to") {
-            push_all(faults, &mut plan.points, scope.points);
-        },
-    }
-}
+// The keys of a section whose shares are said by weights.
+const WEIGHING: [&str; 5] = ["points", "weight", "only", "from", "to"];
 
 // Tells a weight for all other trains that is said twice, or whose name is that of a train.
 fn check_others(faults: &mut Faults, entry: &Entry, weights: &Table, trains: &[&str]) {
@@ -82,42 +57,6 @@ fn check_section_weight(faults: &mut Faults, entry: &Entry, trains: &[&str]) {
         Some(Value::Table(weights)) => check_weights(faults, entry, weights, trains),
         _ => {}
     }
-}
-
-// Whether a section concerns a train.
-fn is_concerned(entry: &Entry, train: &str) -> bool {
-    let Some(only) = entry.names("only") else {
-        return true;
-    };
-    for name in only {
-        if text_of(name) == train {
-            return true;
-        }
-    }
-    false
-}
-
-// The weight for all other trains in a table of weights: 1, if none is given.
-fn other_weight(entry: &Entry) -> i64 {
-    match entry.number_for("weight", OTHERS) {
-        Some(number) => number,
-        None => entry.number_for("weight", "").unwrap_or(1),
-    }
-}
-
-// The weight for all trains that have none of their own.
-fn usual_weight(entry: &Entry) -> i64 {
-    match entry.number("weight") {
-        Some(number) => number,
-        None => other_weight(entry),
-    }
-}
-
-// The weight of a train: its own, or that for all.
-fn weight_of(entry: &Entry, train: &str) -> u8 {
-    let own = entry.number_for("weight", train);
-    let number = own.unwrap_or(usual_weight(entry));
-    u8::try_from(WEIGHTS.number(number).unwrap_or(0)).unwrap_or(0)
 }
 
 // Whether a train of the section comes to a place.
@@ -192,46 +131,33 @@ fn check_ends(faults: &mut Faults, entry: &Entry, key: &'static str, scope: &Sco
     }
 }
 
-// Where an end of a stretch is on a train's route, if one is given for the train and is there.
-fn end_of(
-    faults: &mut Faults,
-    entry: &Entry,
-    key: &'static str,
-    scope: &Scope,
-    train: usize,
-) -> Option<usize> {
-    match entry.place_for(key, scope.train(train)) {
-        Some(place) => place_if_there(faults, entry, key, place, scope, train),
-        None => None,
+// Tells each key that has no use beside `holds`.
+fn check_alone_holds(faults: &mut Faults, entry: &Entry) {
+    if entry.value("holds").is_none() {
+        return;
+    }
+    for key in WEIGHING {
+        if entry.value(key).is_some() {
+            let form = "{} says all of it; leave out {}";
+            let parts = [Part::Name("holds"), Part::Name(key)];
+            faults.tell(&entry.at(key), form, &parts);
+        }
     }
 }
 
-// What a train holds of a section. Its stretch goes from its place at `from` until before its place at
-// `to`: without a `from` it begins with the route, and without a `to`, or where the train doesn't come to it, it ends with
-// the route. A train that the section doesn't concern, or that doesn't come to `from`, holds nothing.
-fn holding(faults: &mut Faults, entry: &Entry, scope: &Scope, train: usize) -> Holding {
-    let name = scope.train(train);
-    if !is_concerned(entry, name) {
-        return NOTHING;
-    }
-    let from = end_of(faults, entry, "from", scope, train);
-    let until = end_of(faults, entry, "to", scope, train);
-    if from.is_none() && entry.place_for("from", name).is_some() {
-        return NOTHING;
-    }
-    Holding {
-        weight: weight_of(entry, name),
-        from: from.unwrap_or(0),
-        until: until.unwrap_or(scope.plan.route(train).len()),
+// The shares of a train; none, if there are none.
+fn shares_of(section: &SectionPlan, train: usize) -> &[u8] {
+    match section.shares.get(train) {
+        Some(shares) => shares.as_slice(),
+        None => &[],
     }
 }
 
-// The most that a train takes of a section at a place of its route.
-fn most_share(section: &SectionPlan, route: &[String], train: usize) -> u8 {
-    let holding = section.holding(train);
+// The greatest share of a train.
+fn most_share(section: &SectionPlan, train: usize) -> u8 {
     let mut most = 0u8;
-    for place in 0..route.len() {
-        most = most.max(share_at(&section.points, &holding, route, place));
+    for share in shares_of(section, train) {
+        most = most.max(*share);
     }
     most
 }
@@ -239,7 +165,7 @@ fn most_share(section: &SectionPlan, route: &[String], train: usize) -> u8 {
 // Tells each train that alone takes more of a section than its limit.
 fn check_alone(faults: &mut Faults, entry: &Entry, section: &SectionPlan, scope: &Scope) {
     for train in 0..scope.trains.len() {
-        let share = most_share(section, scope.plan.route(train), train) as u32;
+        let share = most_share(section, train) as u32;
         if section.limit < share {
             let parts = [
                 Part::Name(scope.train(train)),
@@ -258,11 +184,13 @@ fn fill(faults: &mut Faults, entry: &Entry, scope: &Scope, section: &mut Section
     check_names(faults, entry, "only", "train", scope.trains);
     check_ends(faults, entry, "from", scope);
     check_ends(faults, entry, "to", scope);
+    check_names(faults, entry, "points", "point", scope.points);
+    check_alone_holds(faults, entry);
+    check_holds(faults, entry, scope);
     section.limit = LIMITS.number_or(faults, entry, "limit", 128);
-    add_points(faults, entry, scope, section);
     for train in 0..scope.trains.len() {
-        let holding = holding(faults, entry, scope, train);
-        push(faults, &mut section.holdings, holding);
+        let shares = shares(faults, entry, scope, train);
+        push(faults, &mut section.shares, shares);
     }
     check_alone(faults, entry, section, scope);
 }
@@ -271,8 +199,7 @@ fn fill(faults: &mut Faults, entry: &Entry, scope: &Scope, section: &mut Section
 fn section(faults: &mut Faults, entry: &Entry, scope: &Scope) -> SectionPlan {
     let mut section = SectionPlan {
         limit: 0,
-        points: Vec::new(faults.alloc()),
-        holdings: Vec::new(faults.alloc()),
+        shares: Vec::new(faults.alloc()),
     };
     fill(faults, entry, scope, &mut section);
     section
@@ -295,12 +222,9 @@ pub(crate) fn sections_of(
 }
 
 // What a train takes of a section at its start.
-fn share_of(section: &SectionPlan, scope: &Scope, train: usize, starts: &[Option<usize>]) -> u8 {
+fn share_of(section: &SectionPlan, train: usize, starts: &[Option<usize>]) -> u8 {
     match starts.get(train) {
-        Some(Some(start)) => {
-            let route = scope.plan.route(train);
-            share_at(&section.points, &section.holding(train), route, *start)
-        }
+        Some(Some(start)) => share_at(shares_of(section, train), *start),
         _ => 0,
     }
 }
@@ -309,7 +233,7 @@ fn share_of(section: &SectionPlan, scope: &Scope, train: usize, starts: &[Option
 fn taken_at(section: &SectionPlan, scope: &Scope, starts: &[Option<usize>]) -> u32 {
     let mut taken = 0u32;
     for train in 0..scope.trains.len() {
-        let share = share_of(section, scope, train, starts);
+        let share = share_of(section, train, starts);
         taken = taken.saturating_add(u32::from(share));
     }
     taken
@@ -325,7 +249,7 @@ fn push_taken<'x>(
     starts: &[Option<usize>],
 ) {
     for train in 0..scope.trains.len() {
-        let share = share_of(section, scope, train, starts);
+        let share = share_of(section, train, starts);
         if 0 < share {
             if form.push_str(", {} {}").is_err() {
                 faults.lose();

@@ -31,6 +31,3 @@ counted t vs xs r same is = is ∙ sym (ap (λ b. b && agree_beside t vs xs) (eq
 -- where two numbers are the same, it is enough that the rest is right
 pub as_many : (m n : ℕ) (all r : Bool) → m ≡ n → r ≡ all → r ≡ ((m == n) && all)
 as_many m n all r same is = is ∙ sym (ap (λ b. b && all) (eq-eqb m n same))
-
-pub both_as_many : (m k n : ℕ) (all r : Bool) → m ≡ n → k ≡ n → r ≡ all → r ≡ (((m == n) && (k == n)) && all)
-both_as_many m k n all r same also is = is ∙ sym (ap (λ b. (b && (k == n)) && all) (eq-eqb m n same) ∙ ap (λ b. (true && b) && all) (eq-eqb k n also))

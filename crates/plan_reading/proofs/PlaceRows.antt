@@ -1,8 +1,8 @@
 -- Worked rows: which texts name a place of a route that goes from A over M to B, and to M again.
-use Rattle.std.proofs.Common.{◌≡◌, List, [], ◌∷◌, true, false, String, codes, lit<, refl}
+use Rattle.std.proofs.Common.{◌≡◌, List, [], ◌∷◌, true, false, String, Some, None, codes, lit<, refl}
 use Rattle.std.specs.Fmt.{digits}
 use Rattle.std.specs.declared.alloc.Global.{Global}
-use Rattle.plan_reading.specs.Places.{comes, is_place}
+use Rattle.plan_reading.specs.Places.{is_place, place_of}
 use Rattle.plan_reading.proofs.Texts.{text_of}
 
 -- the points, each made of some string
@@ -49,18 +49,18 @@ pub past_the_end : (s : String Global) → is_place (codes "M#2") (route s) 4 �
 past_the_end s = refl
 
 -- M comes a second time, but no third, and C doesn't come
-pub comes_again : (s : String Global) → comes (codes "M#2") (route s) ≡ true
+pub comes_again : (s : String Global) → place_of (codes "M#2") (route s) ≡ Some 3
 unfolding digits
 comes_again s = refl
 
-pub no_third : (s : String Global) → comes (codes "M#3") (route s) ≡ false
+pub no_third : (s : String Global) → place_of (codes "M#3") (route s) ≡ None
 unfolding digits
 no_third s = refl
 
-pub unclear : (s : String Global) → comes (codes "M") (route s) ≡ false
+pub unclear : (s : String Global) → place_of (codes "M") (route s) ≡ None
 unfolding digits
 unclear s = refl
 
-pub elsewhere : (s : String Global) → comes (codes "C") (route s) ≡ false
+pub elsewhere : (s : String Global) → place_of (codes "C") (route s) ≡ None
 unfolding digits
 elsewhere s = refl

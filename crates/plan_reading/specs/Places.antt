@@ -1,6 +1,5 @@
 -- Which texts name a place of a route.
-use Rattle.std.specs.Prelude.{◌+◌, ◌==◌, ◌&&◌, ◌||◌, ℕ, List, ◌∷◌, ◌++◌, length, take, count_by, decimal, bytes_eq, Bool, false, String, string_bytes, Option, Some, None, slice_get}
-use Rattle.std.specs.List.{list_any}
+use Rattle.std.specs.Prelude.{◌+◌, ◌==◌, ◌&&◌, ◌||◌, ℕ, List, ◌∷◌, ◌++◌, length, take, find, count_by, decimal, bytes_eq, Bool, false, String, string_bytes, Option, Some, None, slice_get}
 use Rattle.std.specs.declared.alloc.Global.{Global}
 use Rattle.rail_model.specs.Checks.{below}
 
@@ -33,6 +32,6 @@ names_there said route place (Some point) = is_single said route (string_bytes p
 abbrev pub is_place : List ℕ → List (String Global) → ℕ → Bool
 is_place said route place = names_there said route place (slice_get route place)
 
--- whether a text names a place of a route
-abbrev pub comes : List ℕ → List (String Global) → Bool
-comes said route = list_any (is_place said route) (below (length route))
+-- the place of a route that a text names, if it names one
+abbrev pub place_of : List ℕ → List (String Global) → Option ℕ
+place_of said route = find (is_place said route) (below (length route))

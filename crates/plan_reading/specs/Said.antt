@@ -102,7 +102,7 @@ keep_to lines switches routes = (length lines == 0) || all_keep lines switches r
 pub record AgreesIn (text : Members) (own : Option Data) (plan : Plan) (t : TablePlan) : Type 0 where
   pub complete : is_complete plan t ≡ true
   pub trains : EachTrain plan (goes_right (entries_at (codes "train") text) own plan t)
-  pub sections : agree_all (is_section plan.points.items plan.trains.items t.routes.items) (entries_in (codes "section") text own) t.sections.items ≡ true
+  pub sections : agree_all (is_section plan.trains.items t.routes.items t.exits.items) (entries_in (codes "section") text own) t.sections.items ≡ true
   pub connections : agree_all (is_wait plan.trains.items t.routes.items) (entries_in (codes "connection") text own) t.waits.items ≡ true
   pub due : is_due own t.after ≡ true
   pub laid : keep_to plan.lines.items plan.switches.items t.routes.items ≡ true

@@ -168,10 +168,10 @@ fn are_named(entries: &[Value], names: &[String]) -> bool
 
 // Whether the sections of a table are those of the entries, in order.
 fn are_sections(entries: &[Value], plan: &Plan, table: &TablePlan) -> bool
-    ensures { result ≡ agree_values (is_section_of plan.now.points.items plan.now.trains.items table.now.routes.items) entries.now table.now.sections.items }
+    ensures { result ≡ agree_values (is_section_of plan.now.trains.items table.now.routes.items table.now.exits.items) entries.now table.now.sections.items }
 {
     agree(entries, &table.sections, |entry, section| {
-        is_section(&plan.points, &plan.trains, &table.routes, entry, section)
+        is_section(&plan.trains, table, entry, section)
     })
 }
 

@@ -75,9 +75,9 @@ pub(crate) fn is_place(said: &str, route: &[String], place: usize) -> bool
     }
 }
 
-/// Whether a text names a place of a route.
-pub(crate) fn comes(said: &str, route: &[String]) -> bool
-    ensures { result ≡ spec.comes said.now route.now }
+/// The place of a route that a text names, if it names one.
+pub(crate) fn place_of(said: &str, route: &[String]) -> Option<usize>
+    ensures { result ≡ spec.place_of said.now route.now }
 {
-    (0..route.len()).any(|place| is_place(said, route, place))
+    (0..route.len()).find(|place| is_place(said, route, *place))
 }

@@ -4,5 +4,5 @@ use Rattle.plan_reading.proofs.agreement.are_sections.Goals as goal
 
 pub returns : goal.returns
 returns c =
-    let test = is_section c.args.plan.now.points.items c.args.plan.now.trains.items c.args.table.now.routes.items in
+    let test = is_section c.args.plan.now.trains.items c.args.table.now.routes.items c.args.table.now.exits.items in
     rw c.deref.ensures.value at (c.agree.ensures test (λ v x b says. search (rules, tests, says)))
