@@ -36,9 +36,11 @@ pub no_weight : weight_for (table no_members) (codes "IC") ≡ pos 1
 no_weight = refl
 
 -- the same, where `default` is for all others
+abbrev beside_default : Data
+beside_default = table (member (codes "RE") (integer (pos 3)) (member (codes "default") (integer (pos 2)) no_members))
+
 abbrev with_default : Data
-with_default =
-    table (member (codes "weight") (table (member (codes "RE") (integer (pos 3)) (member (codes "default") (integer (pos 2)) no_members))) no_members)
+with_default = table (member (codes "weight") beside_default no_members)
 
 pub own_beside_default : weight_for with_default (codes "RE") ≡ pos 3
 own_beside_default = refl
@@ -118,9 +120,11 @@ unfolding digits
 not_there s = refl
 
 -- from B for RE, and until before a third M, to which no train comes: to the end of the route
+abbrev from_b : Data
+from_b = table (member (codes "RE") (string (codes "B")) no_members)
+
 abbrev to_the_end : Data
-to_the_end =
-    table (member (codes "from") (table (member (codes "RE") (string (codes "B")) no_members)) (member (codes "to") (string (codes "M#3")) no_members))
+to_the_end = table (member (codes "from") from_b (member (codes "to") (string (codes "M#3")) no_members))
 
 pub end_of_its_route : (s : String Global) → stretch_of to_the_end (codes "RE") (back s) ≡ record { from = Some 0; until = None }
 unfolding digits

@@ -13,5 +13,7 @@ returns-then-shares-trains c =
     let last = YieldsList-from_zip (YieldsList-from_slice c.args.table.now.exits.items cc) (YieldsList-from_slice shares cc) in
     let later = YieldsList-from_zip (YieldsList-from_slice c.args.table.now.routes.items cc) last in
     let rows = YieldsList-from_zip (YieldsList-from_slice trains cc) later in
-    let beside = all_from_yields_List (λ p. has_shares (view c.args.entry.now) p.0 p.1.0.items p.1.1.0 p.1.1.1.items) c.all.new.self _ c.all.result c.all.ensures.ran rows (λ x b q k. search (rules, tests)) in
+    let beside =
+    all_from_yields_List (λ p. has_shares (view c.args.entry.now) p.0 p.1.0.items p.1.1.0 p.1.1.1.items) c.all.new.self _ c.all.result
+    c.all.ensures.ran rows (λ x b q k. search (rules, tests)) in
     as_many (length shares) (length trains) _ c.all.result (omega (arith, c.if-shares-trains.true)) beside
