@@ -3,7 +3,7 @@ use crate::laying::lines_of;
 use crate::lists::push;
 use crate::names::{check_count, is_known, is_name, number_of, tell_of, text_of};
 use crate::routes::count_of;
-use plan_entries::{Entries, Entry, Faults, Kind, Part, names_of};
+use plan_entries::{Entries, Entry, Faults, Kind, Part, names_of, tell_no};
 use std::alloc::Global;
 use toml::Value;
 
