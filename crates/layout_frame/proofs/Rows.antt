@@ -1,5 +1,5 @@
 -- Worked rows: the words of a legend.
-use Rattle.std.proofs.Common.{◌≡◌, ◌∷◌, [], List, ℕ, refl}
+use Rattle.std.proofs.Common.{◌≡◌, ◌∷◌, [], refl}
 use Rattle.std.specs.Prelude.{codes}
 use Rattle.std.specs.Fmt.{digits}
 use Rattle.rail_model.specs.Table.{Table}
