@@ -6,7 +6,7 @@ _planner() {
     return
   fi
   case ${COMP_WORDS[COMP_CWORD-1]} in
-    --before|--journal)
+    --before|--journal|--plan)
       COMPREPLY=($(compgen -f -- "$word"))
       return ;;
   esac
@@ -15,14 +15,14 @@ _planner() {
     return
   fi
   case ${COMP_WORDS[1]} in
-    explain) options="--at --table --run --line" ;;
-    lint) options="--before" ;;
+    explain) options="--at --table --run --line --plan" ;;
+    lint) options="--before --plan" ;;
     certify) options="--budget --effort" ;;
     protect) options="--budget --effort --rounds" ;;
     order) options="--of-run --journal" ;;
     timetable) options="--csv --journal" ;;
     graph) options="--train --journal" ;;
-    layout) options="--at --table" ;;
+    layout) options="--at --table --plan" ;;
   esac
   COMPREPLY=($(compgen -W "$options --help" -- "$word"))
 }

@@ -15,6 +15,7 @@ complete -c planner -f -n '__fish_seen_subcommand_from explain layout' -l table 
 complete -c planner -f -n '__fish_seen_subcommand_from explain' -l run -d 'add a run from the start that leads there'
 complete -c planner -f -n '__fish_seen_subcommand_from explain' -l line -x -d 'a line that ats wrote to standard error'
 complete -c planner -n '__fish_seen_subcommand_from lint' -l before -r -d 'a former document'
+complete -c planner -n '__fish_seen_subcommand_from explain lint layout' -l plan -r -d 'the plan that the document was made of'
 complete -c planner -f -n '__fish_seen_subcommand_from certify protect' -l budget -x -d 'the most nodes of a certificate'
 complete -c planner -f -n '__fish_seen_subcommand_from certify protect' -l effort -x -a 'small usual great' -d 'how many ways of searching are tried'
 complete -c planner -f -n '__fish_seen_subcommand_from protect' -l rounds -x -d 'the most sections that are made for a table'

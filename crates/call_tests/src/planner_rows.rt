@@ -5,7 +5,7 @@ use crate::planner_documents::DOCUMENTS;
 use crate::planner_orders::ORDERED;
 use crate::planner_plans::PLANS;
 use crate::planner_runs::RUNS;
-use planner_run::{Answer, Silent, answer_to};
+use planner_run::{Answer, PlanFile, Silent, answer_to};
 use planner_words::words;
 use std::alloc::{AllocError, Global};
 use std::str::from_utf8;
@@ -19,12 +19,17 @@ fn parts(alloc: Global, line: &str) -> Result<Vec<String>, AllocError> {
     Ok(parts)
 }
 
-// What words are answered on an input.
-fn answer_of(alloc: Global, line: &[String], input: &str) -> Option<Answer> {
+// What words are answered on an input, with a plan in a file beside it or without.
+fn answer_of(
+    alloc: Global,
+    line: &[String],
+    plan: Option<&PlanFile<'_>>,
+    input: &str,
+) -> Option<Answer> {
     let Ok(order) = words(alloc, line) else {
         return None;
     };
-    match answer_to(alloc, &order, input.as_bytes(), None, &Silent) {
+    match answer_to(alloc, &order, input.as_bytes(), None, plan, &Silent) {
         Ok(answer) => Some(answer),
         Err(_) => None,
     }
@@ -42,7 +47,10 @@ fn is_text(text: &str, says: &str) -> bool {
     match says.strip_prefix("its certificate's nodes are at most ") {
         Some(most) =>
             matches!((nodes_of(text), most.parse::<usize>()), (Some(count), Ok(most)) if count <= most),
-        None => text.trim_end() == says,
+        None => match says.strip_prefix("a text with ") {
+            Some(part) => text.contains(part),
+            None => text.trim_end() == says,
+        },
     }
 }
 
@@ -65,10 +73,21 @@ fn is_said(answer: &Answer, says: &str) -> bool {
 
 /// Whether words are answered so on an input.
 pub(crate) fn is_answered(alloc: Global, line: &str, input: &str, says: &str) -> bool {
+    is_answered_beside(alloc, line, None, input, says)
+}
+
+/// Whether words are answered so on an input, with a plan in a file beside it or without.
+pub(crate) fn is_answered_beside(
+    alloc: Global,
+    line: &str,
+    plan: Option<&PlanFile<'_>>,
+    input: &str,
+    says: &str,
+) -> bool {
     let Ok(line) = parts(alloc, line) else {
         return false;
     };
-    match answer_of(alloc, &line, input) {
+    match answer_of(alloc, &line, plan, input) {
         Some(answer) => is_said(&answer, says.trim()),
         None => false,
     }

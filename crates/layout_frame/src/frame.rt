@@ -50,6 +50,8 @@ pub struct View<'a> {
     pub alloc: Global,
     pub layout: &'a Layout,
     pub scene: &'a Scene<'a>,
+    /// The names of the table's sections; an empty one, or none, for a section without a name.
+    pub sections: &'a [String],
     pub knot: &'a Group,
     pub looks: &'a [Look],
     /// For each point the sections that it is in, a bit for each.
@@ -208,11 +210,12 @@ fn cells_of(layout: &Layout, table: &Table) -> Cells {
     cells
 }
 
-/// A frame for a layout with the trains and the sections of a scene.
+/// A frame for a layout with the trains and the sections of a scene, which have these names.
 pub fn frame_of(
     alloc: Global,
     layout: &Layout,
     scene: &Scene,
+    sections: &[String],
     looks: &[Look],
 ) -> Result<Frame, AllocError>
     ensures each { IfOk result (λ frame. length frame.spots.items ≡ length layout.now.points) }
@@ -225,7 +228,7 @@ pub fn frame_of(
     Ok(Frame {
         spots: spots_of(alloc, layout, &cells, edges, &grid)?,
         grid,
-        height: legend_end(scene, looks, grid.foot),
+        height: legend_end(scene, sections, looks, grid.foot),
     })
 }
 

@@ -1,14 +1,17 @@
-// The legend below a picture: entries in three columns, each with a mark in a colour, and words.
-ghost use Rattle.std.specs.Prelude.{◌<◌, ◌≤◌, length};
+// The legend below a picture: entries in columns, each with a mark in a colour, and words.
+ghost use Rattle.std.specs.Prelude.{◌≡◌, ◌++◌, ◌∷◌, [], ◌<◌, ◌≤◌, IfOk, OnOk, length, string_bytes};
 ghost use Rattle.rail_model.specs.Table.{trains};
+ghost use Rattle.state_sentences.specs.Sections.{name_among};
+ghost use Rattle.layout_frame.specs.Legend.{AddsLegend, Extends, entry_words, number_before, section_entries};
+ghost use Rattle.layout_frame.specs.Spots.{words_of};
 
 use crate::frame::{View, shifted, train_name};
 use crate::looks::{Look, look_of};
 use crate::shapes::{push_label, push_painted};
-use rail_model::{limit_of, point_of, sections_of};
+use rail_model::{Table, limit_of, point_of, sections_of};
 use state_core::Keeper;
-use state_sentences::Scene;
-use std::alloc::AllocError;
+use state_sentences::{Scene, push_section};
+use std::alloc::{AllocError, Global};
 use svg_text::{Shape, Spot, circle};
 
 const COLOURS: [&str; 8] = [
@@ -38,6 +41,13 @@ fn train_entries(scene: &Scene, looks: &[Look]) -> u64 {
     entries
 }
 
+// How many columns a legend has: fewer where sections have names, which are longer than numbers.
+fn columns_of(sections: &[String]) -> u64
+    ensures { 0 < result }
+{
+    if sections.is_empty() { 3 } else { 2 }
+}
+
 // How far down a row of entries is in a legend that begins so far from the top.
 fn row_at(top: u64, row: u64) -> u64
     ensures { top ≤ result }
@@ -46,12 +56,12 @@ fn row_at(top: u64, row: u64) -> u64
 }
 
 /// Where the legend of a scene ends that begins so far from the top.
-pub(crate) fn legend_end(scene: &Scene, looks: &[Look], top: u64) -> u64
+pub(crate) fn legend_end(scene: &Scene, names: &[String], looks: &[Look], top: u64) -> u64
     ensures { top ≤ result }
 {
     let sections = u64::from(sections_of(scene.table));
     let entries = train_entries(scene, looks).saturating_add(sections);
-    row_at(top, entries.div_ceil(3))
+    row_at(top, entries.div_ceil(columns_of(names)))
 }
 
 // Adds an entry to a legend, whose entries have two shapes each.
@@ -60,11 +70,14 @@ fn push_entry(
     view: &View,
     colour: &str,
     words: &str,
-) -> Result<(), AllocError> {
+) -> Result<(), AllocError>
+    ensures { OnOk result (words_of shapes.new.items ≡ words_of shapes.old.items ++ [] ∷ words.now ∷ []) }
+{
     let entries = shapes.len() as u64 / 2;
+    let columns = columns_of(view.sections);
     let at = Spot {
-        x: entries % 3 * 255 + 28,
-        y: row_at(view.frame.grid.foot, entries / 3),
+        x: entries % columns * (765 / columns) + 28,
+        y: row_at(view.frame.grid.foot, entries / columns),
     };
     push_painted(
         shapes,
@@ -80,7 +93,7 @@ fn push_entry(
 fn write_keeper(words: &mut String, view: &View, keeper: Keeper) -> Result<(), AllocError> {
     match keeper {
         Keeper::Train { train } => words.push_str(train_name(view.scene.names, train)),
-        Keeper::Section { section } => write!(words, "section {section}"),
+        Keeper::Section { section } => push_section(words, view.sections, section),
         Keeper::Connection { other, reached } => {
             let other = train_name(view.scene.names, other);
             write!(words, "{other} to come to place {reached}")
@@ -112,6 +125,7 @@ fn push_train(
     gone: bool,
 ) -> Result<(), AllocError>
     requires { train < trains view.now.scene.now.table.now }
+    ensures { OnOk result (Extends (words_of shapes.old.items) (words_of shapes.new.items)) }
 {
     let mut words = String::new(view.alloc);
     write_entry(&mut words, view, train, gone)?;
@@ -127,34 +141,69 @@ fn push_train(
 }
 
 // Adds the red trains that wait, or those that are gone.
-fn push_trains(shapes: &mut Vec<Shape>, view: &View, gone: bool) -> Result<(), AllocError> {
+fn push_trains(shapes: &mut Vec<Shape>, view: &View, gone: bool) -> Result<(), AllocError>
+    ensures { OnOk result (Extends (words_of shapes.old.items) (words_of shapes.new.items)) }
+{
     for train in 0..view.scene.trains() {
         push_train(shapes, view, train, gone)?;
     }
     Ok(())
 }
 
-// Adds a section with its limit.
-fn push_section(shapes: &mut Vec<Shape>, view: &View, section: u32) -> Result<(), AllocError>
-    requires { section < length view.now.scene.now.table.now.sections }
+// Adds the number of a section that has a name, as it stands in the picture.
+fn push_number(words: &mut String, names: &[String], section: u32) -> Result<(), AllocError>
+    ensures { OnOk result (string_bytes words.new ≡ string_bytes words.old ++ number_before section (name_among names.now section)) }
 {
-    let alloc = view.alloc;
-    let limit = limit_of(view.scene.table, section);
-    let words = format!(in alloc; "section {section}, limit {limit}")?;
+    match names.get(section as usize) {
+        Some(name) if !name.is_empty() => write!(words, "{section}: "),
+        _ => Ok(()),
+    }
+}
+
+// The words of a section's entry: what it is called, and its limit.
+fn entry_of(
+    alloc: Global,
+    names: &[String],
+    table: &Table,
+    section: u32,
+) -> Result<String, AllocError>
+    requires { section < length table.now.sections }
+    ensures { IfOk result (λ words. string_bytes words ≡ entry_words names.now table.now section) }
+{
+    let mut words = String::new(alloc);
+    push_number(&mut words, names, section)?;
+    push_section(&mut words, names, section)?;
+    let limit = limit_of(table, section);
+    write!(words, ", limit {limit}")?;
+    Ok(words)
+}
+
+// Adds a section with its limit.
+fn push_area(shapes: &mut Vec<Shape>, view: &View, section: u32) -> Result<(), AllocError>
+    requires { section < length view.now.scene.now.table.now.sections }
+    ensures { OnOk result (words_of shapes.new.items
+        ≡ words_of shapes.old.items ++ [] ∷ entry_words view.now.sections.now view.now.scene.now.table.now section ∷ []) }
+{
+    let words = entry_of(view.alloc, view.sections, view.scene.table, section)?;
     push_entry(shapes, view, area_colour(section), words.as_str())
 }
 
 // Adds the sections.
-fn push_sections(shapes: &mut Vec<Shape>, view: &View) -> Result<(), AllocError> {
+fn push_areas(shapes: &mut Vec<Shape>, view: &View) -> Result<(), AllocError>
+    ensures { OnOk result (words_of shapes.new.items
+        ≡ words_of shapes.old.items ++ section_entries view.now.sections.now view.now.scene.now.table.now) }
+{
     for section in 0..sections_of(view.scene.table) {
-        push_section(shapes, view, section)?;
+        push_area(shapes, view, section)?;
     }
     Ok(())
 }
 
 /// Adds the entries of a legend: the red trains that wait, the sections, and the trains that have left the layout.
-pub fn push_legend(shapes: &mut Vec<Shape>, view: &View) -> Result<(), AllocError> {
+pub fn push_legend(shapes: &mut Vec<Shape>, view: &View) -> Result<(), AllocError>
+    ensures { OnOk result (AddsLegend view.now.sections.now view.now.scene.now.table.now (words_of shapes.old.items) (words_of shapes.new.items)) }
+{
     push_trains(shapes, view, false)?;
-    push_sections(shapes, view)?;
+    push_areas(shapes, view)?;
     push_trains(shapes, view, true)
 }

@@ -1,5 +1,6 @@
 // Shapes that are added to others.
 ghost use Rattle.std.specs.Prelude.{◌≡◌, ◌++◌, ◌∷◌, [], OnOk};
+ghost use Rattle.svg_text.specs.Shapes.{label_of};
 ghost use Rattle.layout_frame.specs.Spots.{painted};
 
 use std::alloc::{AllocError, Global};
@@ -32,6 +33,8 @@ pub fn push_label(
     alloc: Global,
     at: Spot,
     words: &str,
-) -> Result<(), AllocError> {
+) -> Result<(), AllocError>
+    ensures { OnOk result (shapes.new.items ≡ shapes.old.items ++ label_of at words.now ∷ []) }
+{
     push_shape(shapes, label(alloc, at, words)?)
 }

@@ -114,7 +114,7 @@ unfolding digits
 ground_row = refl
 
 abbrev subject : Subject
-subject = record { layout = line; table = trains; places = 0 ∷ 1 ∷ []; knot = []; spots = spots; width = 800; height = 400 }
+subject = record { layout = line; names = []; table = trains; places = 0 ∷ 1 ∷ []; knot = []; spots = spots; width = 800; height = 400 }
 
 -- the group of the ground
 ground_group_row : IsLayer subject Ground (record { class = codes "background"; attributes = []; title = codes "ground"; shapes = ground_of 800 400 ∷ [] })

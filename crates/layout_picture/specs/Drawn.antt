@@ -1,5 +1,6 @@
 -- What a picture of a layout shows.
-use Rattle.std.specs.Prelude.{◌≡◌, ℕ, zero, suc, ◌+◌, ◌<◌, Bool, Decides, List, [], ◌∷◌, ◌++◌, length, map, codes, decimal, Option, Some, None, if◌then◌else◌}
+use Rattle.std.specs.Prelude.{◌≡◌, ℕ, zero, suc, ◌+◌, ◌<◌, Bool, Decides, List, [], ◌∷◌, ◌++◌, length, map, codes, decimal, Option, Some, None, String, if◌then◌else◌}
+use Rattle.std.specs.declared.alloc.Global.{Global}
 use Rattle.std.specs.List.{AllZip}
 use Rattle.svg_text.specs.Tree.{Shape, Group}
 use Rattle.svg_text.specs.declared.shapes.Spot.{Spot}
@@ -7,6 +8,7 @@ use Rattle.rail_model.specs.Layout.{Layout, Link, point_names}
 use Rattle.rail_model.specs.Table.{Table, trains, point, place}
 use Rattle.rail_model.specs.Checks.{below}
 use Rattle.layout_picture.specs.declared.tracks.Way.{Way}
+use Rattle.layout_frame.specs.Legend.{AddsLegend}
 use Rattle.layout_frame.specs.Spots.{words_of}
 use Rattle.layout_frame.specs.declared.frame.View.{View}
 use Rattle.layout_picture.specs.declared.layers.Layer.{Layer}
@@ -87,9 +89,11 @@ class_name Trains = codes "trains"
 class_name Legend = codes "legend"
 class_name Heading = codes "heading"
 
--- What is drawn: a layout, and a table with trains at their places, some of them in a knot; with spots for the points, in this size.
+-- What is drawn: a layout, and a table, whose sections have names, with trains at their places, some of them in a knot; with spots for the
+-- points, in this size.
 pub record Subject : Type 0 where
   pub layout : Layout
+  pub names : List (String Global)
   pub table : Table
   pub places : List ℕ
   pub knot : List ℕ
@@ -100,6 +104,7 @@ pub record Subject : Type 0 where
 abbrev pub subject_of : View → Subject
 subject_of v = record {
   layout = v.layout.now;
+  names = v.sections.now;
   table = v.scene.now.table.now;
   places = v.scene.now.state.now;
   knot = v.knot.now;
@@ -109,7 +114,8 @@ subject_of v = record {
 }
 
 -- Ground: as large as the picture. Sections: an area for each. Links: a line for each. Circle: a broad line from each red train.
--- Points: a dot for each spot. Arrows: one for each train. Names: the name of each point, in order. Of other words nothing is said.
+-- Points: a dot for each spot. Arrows: one for each train. Names: the name of each point, in order. Legend: the words of each section among
+-- those of trains. Of other words nothing is said.
 abbrev pub Shows : Subject → Layer → List Shape → Type 0
 Shows S Ground shapes = shapes ≡ ground_of S.width S.height ∷ []
 Shows S Sections shapes = AreAreas S.layout S.table S.spots (below (length S.table.sections)) shapes
@@ -120,7 +126,7 @@ Shows S Numbers shapes = Unit {0}
 Shows S Arrows shapes = AreOfTrains (IsArrow S.table S.places S.knot S.spots) (trains S.table) shapes
 Shows S Names shapes = words_of shapes ≡ point_names S.layout
 Shows S Trains shapes = Unit {0}
-Shows S Legend shapes = Unit {0}
+Shows S Legend shapes = AddsLegend S.names S.table [] (words_of shapes)
 Shows S Heading shapes = Unit {0}
 
 -- The group is that of the layer: it has its class and no other attribute, so that nothing hides or moves it, and shows what it should.
@@ -130,7 +136,7 @@ pub record IsLayer (S : Subject) (layer : Layer) (g : Group) : Type 0 where
   pub shows : Shows S layer g.shapes
 
 -- The picture has a size, a spot for each point, a knot exactly if the state has one, and exactly one group for each layer, in order.
-pub record IsDrawn (L : Layout) (T : Table) (p : List ℕ) (width height : ℕ) (groups : List Group) : Type 0 where
+pub record IsDrawn (L : Layout) (names : List (String Global)) (T : Table) (p : List ℕ) (width height : ℕ) (groups : List Group) : Type 0 where
   pub spots : List Spot
   pub knot : List ℕ
   pub wide : 0 < width
@@ -138,5 +144,5 @@ pub record IsDrawn (L : Layout) (T : Table) (p : List ℕ) (width height : ℕ) 
   pub spot_for_each : length spots ≡ length L.points
   pub is_knot : IsKnotOrNone T p knot
   pub layered : AllZip
-      (IsLayer (record { layout = L; table = T; places = p; knot = knot; spots = spots; width = width; height = height }))
+      (IsLayer (record { layout = L; names = names; table = T; places = p; knot = knot; spots = spots; width = width; height = height }))
       layers groups

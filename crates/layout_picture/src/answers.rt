@@ -1,5 +1,7 @@
 // The picture of a document, or why there is none.
 ghost use Rattle.std.specs.Prelude.{ℕ, ◌<◌, ◌≤◌, List, IfOk, length};
+ghost use Rattle.std.specs.Prelude.{String as StringValue};
+ghost use Rattle.std.specs.declared.alloc.Global.{Global};
 ghost use Rattle.rail_model.specs.State.{Legal};
 ghost use Rattle.document_json.specs.Doc.{table_at};
 ghost use Rattle.legal_state.specs.Illegal.{IsIllegal};
@@ -24,7 +26,7 @@ pub enum Drawn {
 // That there is no such table.
 fn no_table(alloc: Global, doc: &Doc, table: u32) -> Result<Drawn, AllocError>
     requires { length doc.now.tables ≤ table }
-    ensures { (p : List ℕ) → IfOk result (IsPictureOrWords doc.now table p) }
+    ensures { (names : List (StringValue Global)) (p : List ℕ) → IfOk result (IsPictureOrWords doc.now names table p) }
 {
     let tables = tables_of(doc);
     let words = format!(in alloc; "there is no table {table}: the document has {tables}")?;
@@ -41,7 +43,7 @@ fn refused(
 ) -> Result<Drawn, AllocError>
     requires table { table < length doc.now.tables }
     requires illegal { IsIllegal (table_at doc.now table) state.now illegal }
-    ensures { IfOk result (λ drawn. IsPictureOrWords doc.now table state.now drawn) }
+    ensures { (names : List (StringValue Global)) → IfOk result (λ drawn. IsPictureOrWords doc.now names table state.now drawn) }
 {
     let table = table_of(doc, table);
     let words = cause_of(alloc, layout_of(doc), names_of(doc), table, state, illegal)?;
@@ -49,10 +51,16 @@ fn refused(
 }
 
 // The picture of a legal state.
-fn pictured(alloc: Global, doc: &Doc, table: u32, state: &State) -> Result<Drawn, AllocError>
+fn pictured(
+    alloc: Global,
+    doc: &Doc,
+    names: &[String],
+    table: u32,
+    state: &State,
+) -> Result<Drawn, AllocError>
     requires table { table < length doc.now.tables }
     requires legal { Legal (table_at doc.now table) state.now }
-    ensures { IfOk result (λ drawn. IsPictureOrWords doc.now table state.now drawn) }
+    ensures { IfOk result (λ drawn. IsPictureOrWords doc.now names.now table state.now drawn) }
 {
     let title = title_of(alloc, table, state, start_of(doc))?;
     let scene = Scene {
@@ -60,25 +68,26 @@ fn pictured(alloc: Global, doc: &Doc, table: u32, state: &State) -> Result<Drawn
         table: table_of(doc, table),
         state,
     };
-    let picture = drawing(alloc, layout_of(doc), &scene, title.as_str())?;
+    let picture = drawing(alloc, layout_of(doc), &scene, names, title.as_str())?;
     Ok(Drawn::Picture { picture })
 }
 
-/// The layout of a document with the sections of a table, and the trains at their places in a state; or why there is no
-/// such picture: there is no such table, or the state isn't legal.
+/// The layout of a document with the sections of a table, which have these names, and the trains at their places in a state; or
+/// why there is no such picture: there is no such table, or the state isn't legal.
 pub fn layout_picture(
     alloc: Global,
     doc: &Doc,
+    names: &[String],
     table: u32,
     state: &State,
 ) -> Result<Drawn, AllocError>
-    ensures { IfOk result (λ drawn. IsPictureOrWords doc.now table state.now drawn) }
+    ensures { IfOk result (λ drawn. IsPictureOrWords doc.now names.now table state.now drawn) }
 {
     if tables_of(doc) <= table {
         return no_table(alloc, doc, table);
     }
     match judge(table_of(doc, table), state) {
-        Ok(()) => pictured(alloc, doc, table, state),
+        Ok(()) => pictured(alloc, doc, names, table, state),
         Err(illegal) => refused(alloc, doc, table, state, illegal),
     }
 }

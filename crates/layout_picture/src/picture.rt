@@ -89,7 +89,7 @@ fn drawn(view: &View) -> Result<Picture, AllocError>
     requires high { 0 < view.now.frame.now.height }
     requires each { length view.now.frame.now.spots.items ≡ length view.now.layout.now.points }
     requires knot { IsKnotOrNone view.now.scene.now.table.now view.now.scene.now.state.now view.now.knot.now }
-    ensures { IfOk result (λ picture. IsDrawn view.now.layout.now view.now.scene.now.table.now view.now.scene.now.state.now
+    ensures { IfOk result (λ picture. IsDrawn view.now.layout.now view.now.sections.now view.now.scene.now.table.now view.now.scene.now.state.now
         picture.width picture.height picture.groups) }
 {
     let groups = groups_of(view)?;
@@ -98,23 +98,26 @@ fn drawn(view: &View) -> Result<Picture, AllocError>
     Picture::new(view.alloc, width, height, view.title, STYLE, groups)
 }
 
-/// A picture of a layout and of the trains of a scene.
+/// A picture of a layout, of the sections of a scene, which have these names, and of its trains.
 pub(crate) fn drawing(
     alloc: Global,
     layout: &Layout,
     scene: &Scene,
+    sections: &[String],
     title: &str,
 ) -> Result<Picture, AllocError>
-    ensures { IfOk result (λ picture. IsDrawn layout.now scene.now.table.now scene.now.state.now picture.width picture.height picture.groups) }
+    ensures { IfOk result (λ picture. IsDrawn layout.now sections.now scene.now.table.now scene.now.state.now
+        picture.width picture.height picture.groups) }
 {
     let knot = knot_of(alloc, scene, circles_of(alloc, scene)?)?;
     let looks = looks_of(scene, &knot);
     let inside = inside_of(layout, scene.table);
-    let frame = frame_of(alloc, layout, scene, &looks)?;
+    let frame = frame_of(alloc, layout, scene, sections, &looks)?;
     let view = View {
         alloc,
         layout,
         scene,
+        sections,
         knot: &knot,
         looks: &looks,
         inside: &inside,

@@ -1,2 +1,4 @@
+mod AddedNames
+mod Mistakes
 mod Names
 mod Rows

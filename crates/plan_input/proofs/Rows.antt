@@ -2,6 +2,8 @@
 use Rattle.std.proofs.Common.{◌≡◌, List, ℕ, [], ◌∷◌, true, false, refl, subst, String, Vec, Global}
 use Rattle.std.specs.Prelude.{Some, codes, MatchBool}
 use Rattle.toml.specs.Data.{Data, Items, no_items, item, Members, no_members, member, array, string, table}
+use Rattle.std.specs.Fmt.{digits}
+use Rattle.plan_input.specs.Added.{with_added}
 use Rattle.plan_input.specs.Named.{names_in, section_names}
 use Rattle.plan_input.specs.Standing.{IsOfPlan, StandsFor, begins_as_document, first_sign}
 
@@ -52,3 +54,12 @@ in_tables = member (codes "section") (array two) (member (codes "table")
 names_by_tables : section_names in_tables
     ≡ (codes "corridor" ∷ [] ∷ []) ∷ (codes "loop" ∷ []) ∷ (codes "corridor" ∷ [] ∷ []) ∷ []
 names_by_tables = refl
+
+-- sections behind the plan's are counted from 1
+added_names : with_added (codes "corridor" ∷ []) 3 ≡ codes "corridor" ∷ codes "added 1" ∷ codes "added 2" ∷ []
+unfolding digits
+added_names = refl
+
+none_added : with_added (codes "corridor" ∷ []) 1 ≡ codes "corridor" ∷ []
+unfolding digits
+none_added = refl

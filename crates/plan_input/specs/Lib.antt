@@ -1,2 +1,5 @@
 pub mod Named
+pub mod Added
+pub mod Origin
+pub mod Reached
 pub mod Standing

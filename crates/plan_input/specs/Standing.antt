@@ -1,5 +1,5 @@
--- What stands for a document in an input: a document, or a plan.
-use Rattle.std.specs.Prelude.{◌≡◌, ◌⊎◌, ℕ, ◌++◌, ◌==◌, ◌||◌, not, Bool, false, List, [], MatchBool, Ok, Option, Some, None, String, Vec, find}
+-- What stands for a document in an input: a document, or a plan; or a document with a plan beside it.
+use Rattle.std.specs.Prelude.{◌≡◌, ◌⊎◌, ℕ, ◌++◌, ◌==◌, ◌||◌, not, Bool, false, List, [], MatchBool, Ok, Option, Some, None, String, Vec, find, string_bytes}
 use Rattle.std.specs.declared.alloc.Global.{Global}
 use Rattle.document_json.specs.Doc.{Doc}
 use Rattle.document_json.specs.Reading.{doc_of}
@@ -10,10 +10,13 @@ use Rattle.plan_reading.specs.Said.{IsPlanRead}
 use Rattle.plan_reading.specs.declared.reading.PlanRead.TheVariants.{Plan as AsPlan}
 use Rattle.timed_reading.specs.Reads.{mark}
 use Rattle.plan_input.specs.Named.{AreNames}
+use Rattle.plan_input.specs.Origin.{AreNamesOf, SayWrong}
+use Rattle.plan_input.specs.declared.origin.PlanFile.{PlanFile}
 use Rattle.plan_input.specs.declared.compiling.Compiled.{Compiled}
 use Rattle.plan_input.specs.declared.compiling.Compiled.TheVariants.{Document, Refused}
 use Rattle.plan_input.specs.declared.standing.Standing.{Standing}
-use Rattle.plan_input.specs.declared.standing.Standing.TheVariants.{Itself, Plan as OfPlan, Wrong}
+use Rattle.plan_input.specs.declared.standing.Standing.TheVariants.{Itself, Named as ByPlan, Plan as OfPlan, Wrong}
+use denote.Ref.{Bor}
 
 -- The text reads as a document.
 abbrev pub ReadsAsDocument : List ℕ → Type 0
@@ -72,14 +75,43 @@ pub record IsOfPlan (input text : List ℕ) (names : List (Vec (String Global) G
 abbrev pub StandsFor : List ℕ → List ℕ → List (Vec (String Global) Global) → Type 0
 StandsFor input text names = MatchBool (begins_as_document input) ((text ≡ input) × (names ≡ [])) (IsOfPlan input text names)
 
--- This stands for an input; or the input is a plan, and these lines say what is wrong with it.
-abbrev pub IsStanding : List ℕ → Standing → Type 0
-IsStanding input Itself = StandsFor input input []
-IsStanding input (OfPlan text names) = StandsFor input text.items names.items
-IsStanding input (Wrong lines) = begins_as_document input ≡ false
+-- The text stands for an input beside the plan in a file, with names of sections: the input stands for itself, with the names by the plan.
+abbrev pub StandsBeside : PlanFile → List ℕ → List ℕ → List (Vec (String Global) Global) → Type 0
+StandsBeside file input text names = (text ≡ input) × AreNamesOf file.text.now (doc_of input) names
+
+-- The same with a plan beside the input or without.
+abbrev pub Stands : Option (Bor PlanFile) → List ℕ → List ℕ → List (Vec (String Global) Global) → Type 0
+Stands None input text names = StandsFor input text names
+Stands (Some file) input text names = StandsBeside file.now input text names
+
+-- The lines say why nothing stands for an input beside a plan: the input doesn't begin as a document does, the plan has mistakes, or the input
+-- isn't of the plan.
+abbrev pub AreWrongBeside : PlanFile → List ℕ → List ℕ → Type 0
+AreWrongBeside file input lines = (begins_as_document input ≡ false) ⊎ SayWrong file input lines
+
+-- The same with a plan beside the input or without: without one, the input is a plan with mistakes.
+abbrev pub AreFaultsOf : Option (Bor PlanFile) → List ℕ → List ℕ → Type 0
+AreFaultsOf None input lines = begins_as_document input ≡ false
+AreFaultsOf (Some file) input lines = AreWrongBeside file.now input lines
+
+-- A text that stands for an input with names is of the first kind; or lines are of the second kind.
+abbrev pub IsStandingAs : (List ℕ → List (Vec (String Global) Global) → Type 0) → (List ℕ → Type 0) → List ℕ → Standing → Type 0
+IsStandingAs Holds Says input Itself = Holds input []
+IsStandingAs Holds Says input (ByPlan names) = Holds input names.items
+IsStandingAs Holds Says input (OfPlan text names) = Holds text.items names.items
+IsStandingAs Holds Says input (Wrong lines) = Says (string_bytes lines)
+
+-- This stands for an input beside a plan; or these lines say why nothing does.
+abbrev pub IsStandingBeside : PlanFile → List ℕ → Standing → Type 0
+IsStandingBeside file input standing = IsStandingAs (StandsBeside file input) (AreWrongBeside file input) input standing
+
+-- This stands for an input, with a plan beside it or without; or these lines say why nothing does.
+abbrev pub IsStanding : Option (Bor PlanFile) → List ℕ → Standing → Type 0
+IsStanding plan input standing = IsStandingAs (Stands plan input) (AreFaultsOf plan input) input standing
 
 -- This stands for a plan with something behind it; or these lines say what is wrong with the plan.
 abbrev pub IsPlanBefore : List ℕ → List ℕ → Standing → Type 0
 IsPlanBefore plan behind Itself = ⊥
+IsPlanBefore plan behind (ByPlan names) = ⊥
 IsPlanBefore plan behind (OfPlan text names) = IsDocumentOf plan behind text.items names.items
 IsPlanBefore plan behind (Wrong lines) = Unit {0}

@@ -53,7 +53,8 @@ fn refusal_of(alloc: Global, text: &[u8]) -> Result<Option<String>, AllocError>
     }
 }
 
-fn line_of(alloc: Global, refused: &DocRefused) -> Result<String, AllocError> {
+/// That `ats` refuses the document of a plan.
+pub(crate) fn line_of(alloc: Global, refused: &DocRefused) -> Result<String, AllocError> {
     let mut line = String::from_str(alloc, "ats refuses the document of this plan: ")?;
     push_document(&mut line, refused)?;
     line.push_str("\n")?;

@@ -1,10 +1,14 @@
-//! Plans in place of documents: what an input says by a document, or by a plan, with the lines of a run behind either or without them.
+//! Plans in place of documents: what an input says by a document, or by a plan, with the lines of a run behind either or without them; and plans
+//! beside documents: what the sections of a document are called in the plan that it was made of, if it was.
 #![tactic(auto)]
 
+mod added;
 mod compiling;
 mod naming;
+mod origin;
 mod standing;
 
 pub use compiling::{Compiled, compile, fault_lines};
 pub use naming::section_names;
-pub use standing::{Standing, document_in};
+pub use origin::PlanFile;
+pub use standing::{Standing, document_for};

@@ -1,11 +1,14 @@
 // What stands for a document in an input.
-ghost use Rattle.std.specs.Prelude.{◌≡◌, ◌++◌, IfOk};
+ghost use Rattle.std.specs.Prelude.{◌≡◌, ◌++◌, IfOk, None, Ok};
+ghost use Rattle.document_json.specs.Reading.{doc_of};
 ghost use Rattle.plan_reading.specs.Said.{IsPlanRead};
 ghost use Rattle.plan_reading.specs.declared.reading.PlanRead.TheVariants.{Plan as AsPlan};
-ghost use Rattle.plan_input.specs.Standing.{IsBehind, IsPlanBefore, IsStanding, begins_as_document, first_sign as first_sign_of, is_space as is_space_of};
+ghost use Rattle.plan_input.specs.Standing.{IsBehind, IsPlanBefore, IsStanding, IsStandingBeside, begins_as_document, first_sign as first_sign_of, is_space as is_space_of};
 
 use crate::compiling::{Compiled, compile, fault_lines};
 use crate::naming::section_names;
+use crate::origin::{NamesFound, PlanFile, naming};
+use document_json::{Doc, DocRefused, document};
 use plan_document::Plan;
 use plan_reading::{PlanRead, read_plan};
 use std::alloc::{AllocError, Global};
@@ -16,12 +19,17 @@ use timed_reading::cut;
 pub enum Standing {
     /// The input itself: it begins as a document does.
     Itself,
+    /// The input itself, and the names of the sections of each table, by a plan beside it.
+    Named {
+        names: Vec<Vec<String>>,
+    },
     /// A plan: the text of its document, with what stands behind the plan, and the names of the sections of each table.
     Plan {
         text: Vec<u8>,
         names: Vec<Vec<String>>,
     },
-    /// A plan with mistakes, or one whose document is refused: a line for each.
+    /// A plan with mistakes, or one whose document is refused: a line for each. Beside a plan, an input that doesn't begin as a document does, or
+    /// that isn't of the plan.
     Wrong(String),
 }
 
@@ -60,10 +68,56 @@ fn parts(input: &[u8]) -> (&[u8], &[u8])
     }
 }
 
-/// What stands for a document in an input. An input that begins as a document does, with a brace, is one; any other is a plan, or a plan
-/// with the lines of a run behind a line `journal`.
-pub fn document_in(alloc: Global, input: &[u8]) -> Result<Standing, AllocError>
-    ensures { IfOk result (IsStanding input.now) }
+/// What stands for a document in an input, with a plan in a file beside it or without. An input beside a plan is a document: it stands for itself,
+/// with the plan's names if it is of the plan, and with none if it is refused.
+pub fn document_for(
+    alloc: Global,
+    input: &[u8],
+    plan: Option<&PlanFile<'_>>,
+) -> Result<Standing, AllocError>
+    ensures { IfOk result (IsStanding plan.entry input.now) }
+{
+    match plan {
+        Some(file) => beside(alloc, input, file),
+        None => document_in(alloc, input),
+    }
+}
+
+// What an input stands for beside a plan.
+fn beside(alloc: Global, input: &[u8], file: &PlanFile<'_>) -> Result<Standing, AllocError>
+    ensures { IfOk result (IsStandingBeside file.now input.now) }
+{
+    if !is_document(input) {
+        let line = "with --plan the input is a document, which begins with a brace\n";
+        return Ok(Standing::Wrong(String::from_str(alloc, line)?));
+    }
+    match document(alloc, input) {
+        Ok(doc) => named(alloc, input, &doc, file),
+        Err(DocRefused::Memory) => Err(AllocError),
+        Err(_) => Ok(Standing::Itself),
+    }
+}
+
+// What a document stands for beside a plan.
+fn named(
+    alloc: Global,
+    input: &[u8],
+    doc: &Doc,
+    file: &PlanFile<'_>,
+) -> Result<Standing, AllocError>
+    requires { doc_of input.now ≡ Ok doc.now }
+    ensures { IfOk result (IsStandingBeside file.now input.now) }
+{
+    match naming(alloc, input, doc, file)? {
+        NamesFound::Names(names) => Ok(Standing::Named { names }),
+        NamesFound::Wrong(lines) => Ok(Standing::Wrong(lines)),
+    }
+}
+
+// What stands for a document in an input. An input that begins as a document does, with a brace, is one; any other is a plan, or a plan
+// with the lines of a run behind a line `journal`.
+fn document_in(alloc: Global, input: &[u8]) -> Result<Standing, AllocError>
+    ensures { IfOk result (IsStanding None input.now) }
 {
     if is_document(input) {
         return Ok(Standing::Itself);

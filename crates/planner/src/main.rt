@@ -1,12 +1,12 @@
-//! The program `planner`: its words, the standard streams, the file of `--before` or `--journal`, and progress on a terminal,
-//! handed to the calls of `planner_run`.
+//! The program `planner`: its words, the standard streams, the files of `--before`, `--plan` and `--journal`, and progress on a
+//! terminal, handed to the calls of `planner_run`.
 #![tactic(auto)]
 
 mod progress;
 
 use crate::progress::Progress;
 use ats_io::{Reading, Writing, read_all};
-use planner_run::{MOST_BYTES, Status, Stop, code, end_unread, serve, turn_down};
+use planner_run::{MOST_BYTES, PlanFile, Status, Stop, code, end_unread, serve, turn_down};
 use planner_words::{Order, words};
 use std::fs::File;
 use std::io::Read;
@@ -28,11 +28,12 @@ fn content(rt: &HostRuntime, path: &str) -> Option<Vec<u8>> {
     read_all(rt.alloc(), &mut Reading::new(file), MOST_BYTES).ok()
 }
 
-// Answers an order on what a reader has, and on a former document if there is one.
+// Answers an order on what a reader has, and on a former document and a plan if there are any.
 fn answer<R: Read + Drop>(
     rt: &HostRuntime,
     order: &Order<'_>,
     former: Option<&[u8]>,
+    plan: Option<&PlanFile<'_>>,
     input: R,
 ) -> Status {
     let mut source = Reading::new(input);
@@ -43,6 +44,7 @@ fn answer<R: Read + Drop>(
         rt.alloc(),
         order,
         former,
+        plan,
         &mut source,
         &mut out,
         &mut err,
@@ -53,10 +55,34 @@ fn answer<R: Read + Drop>(
 // What is written between a document and the lines of a run.
 const JOURNAL: &[u8] = b"\njournal\n";
 
-// Answers an order that names a file with a former document.
-fn answer_with_former(rt: &HostRuntime, order: &Order<'_>, path: &str) -> Status {
+// Answers an order that names a file with a plan, or none.
+fn answer_with_plan(
+    rt: &HostRuntime,
+    order: &Order<'_>,
+    former: Option<&[u8]>,
+    path: Option<&str>,
+) -> Status {
+    let Some(name) = path else {
+        return answer(rt, order, former, None, rt.stdin());
+    };
+    match content(rt, name) {
+        Some(text) => {
+            let file = PlanFile { name, text: &text };
+            answer(rt, order, former, Some(&file), rt.stdin())
+        }
+        None => end_unread(Stop::Plan, &mut Writing::new(rt.stderr())),
+    }
+}
+
+// Answers an order that names a file with a former document, and one with a plan or none.
+fn answer_with_former(
+    rt: &HostRuntime,
+    order: &Order<'_>,
+    path: &str,
+    plan: Option<&str>,
+) -> Status {
     match content(rt, path) {
-        Some(former) => answer(rt, order, Some(&former), rt.stdin()),
+        Some(former) => answer_with_plan(rt, order, Some(&former), plan),
         None => end_unread(Stop::Former, &mut Writing::new(rt.stderr())),
     }
 }
@@ -66,16 +92,23 @@ fn answer_with_journal(rt: &HostRuntime, order: &Order<'_>, path: &str) -> Statu
     match content(rt, path) {
         Some(lines) => {
             let input = rt.stdin().chain(JOURNAL).chain(lines.as_slice());
-            answer(rt, order, None, input)
+            answer(rt, order, None, None, input)
         }
         None => end_unread(Stop::Journal, &mut Writing::new(rt.stderr())),
     }
 }
 
-// Answers an order, with the file that it names.
+// Answers an order, with the files that it names.
 fn answer_order(rt: &HostRuntime, order: &Order<'_>) -> Status {
     match *order {
-        Order::Lint { before: Some(path) } => answer_with_former(rt, order, path),
+        Order::Lint {
+            before: Some(path),
+            plan,
+        } => answer_with_former(rt, order, path, plan),
+        Order::Lint { before: None, plan }
+        | Order::ExplainState { plan, .. }
+        | Order::ExplainLine { plan, .. }
+        | Order::Layout { plan, .. } => answer_with_plan(rt, order, None, plan),
         Order::OrderByRun {
             journal: Some(path),
             ..
@@ -88,7 +121,7 @@ fn answer_order(rt: &HostRuntime, order: &Order<'_>) -> Status {
             journal: Some(path),
             ..
         } => answer_with_journal(rt, order, path),
-        _ => answer(rt, order, None, rt.stdin()),
+        _ => answer(rt, order, None, None, rt.stdin()),
     }
 }
 

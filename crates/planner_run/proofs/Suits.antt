@@ -28,11 +28,11 @@ certifying_answers budget effort former input names (Remarks lines) holds = absu
 certifying_answers budget effort former input names (Noted text lines) holds = absurd holds
 certifying_answers budget effort former input names (Wrong lines) holds = holds
 
-pub lint_answers : (before former : Option (Bor (List ℕ))) (input : List ℕ) (names : List (Vec (String Global) Global)) (a : Answer) → IsLinted former input a → IsAnswerFor (Lint before) former input names a
-lint_answers before former input names (Text text) linted = linted
-lint_answers before former input names (Remarks lines) linted = tt
-lint_answers before former input names (Noted text lines) linted = absurd linted
-lint_answers before former input names (Wrong lines) linted = tt
+pub lint_answers : (before file former : Option (Bor (List ℕ))) (input : List ℕ) (names : List (Vec (String Global) Global)) (a : Answer) → IsLinted former input a → IsAnswerFor (Lint before file) former input names a
+lint_answers before file former input names (Text text) linted = linted
+lint_answers before file former input names (Remarks lines) linted = tt
+lint_answers before file former input names (Noted text lines) linted = absurd linted
+lint_answers before file former input names (Wrong lines) linted = tt
 
 pub ordering_answers : (former : Option (Bor (List ℕ))) (input : List ℕ) (names : List (Vec (String Global) Global)) (a : Answer) → IsOrdering input a → IsAnswerFor AddOrders former input names a
 ordering_answers former input names (Text text) holds = absurd holds
@@ -73,13 +73,13 @@ notes_of_read OfPlan None input is notes = tt
 notes_of_read (Protect budget effort rounds) left input is notes = tt
 notes_of_read AddOrders left input is notes = tt
 notes_of_read (OrderByRun seed journal) left input is notes = tt
-notes_of_read (ExplainState table at run) left input is notes = absurd notes
-notes_of_read (ExplainLine line) left input is notes = absurd notes
-notes_of_read (Lint before) left input is notes = absurd notes
+notes_of_read (ExplainState table at run file) left input is notes = absurd notes
+notes_of_read (ExplainLine line file) left input is notes = absurd notes
+notes_of_read (Lint before file) left input is notes = absurd notes
 notes_of_read (Certify budget effort) left input is notes = absurd notes
 notes_of_read (Timetable csv journal) left input is notes = absurd notes
 notes_of_read (Graph train journal) left input is notes = absurd notes
-notes_of_read (Layout table at) left input is notes = absurd notes
+notes_of_read (Layout table at file) left input is notes = absurd notes
 
 pub quiet_as_read : (Quiet : Type 0) (order : Order) (left : Option (List ℕ)) (input : List ℕ) → IfSome left (λ all. input ≡ all) →
     HasNotes order (Some input) ⊎ Quiet → HasNotes order left ⊎ Quiet

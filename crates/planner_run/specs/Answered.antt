@@ -11,11 +11,11 @@ use Rattle.document_json.specs.Doc.{Doc, names_of, table_at}
 use Rattle.plan_document.specs.declared.plan.Plan.{Plan}
 use Rattle.plan_reading.specs.Said.{IsPlanRead}
 use Rattle.plan_reading.specs.declared.reading.PlanRead.TheVariants.{Plan as AsPlan}
-use Rattle.plan_input.specs.Standing.{IsPlanned, ReadsAsDocument, StandsFor, begins_as_document}
+use Rattle.plan_input.specs.Standing.{AreFaultsOf, IsPlanned, IsStandingAs, ReadsAsDocument, Stands}
+use Rattle.plan_input.specs.declared.origin.PlanFile.{PlanFile}
 use Rattle.plan_input.specs.declared.standing.Standing.{Standing}
-use Rattle.plan_input.specs.declared.standing.Standing.TheVariants.{Itself, Plan as AsDocument, Wrong as Mistaken}
 use Rattle.plan_suspects.specs.Suspects.{has_suspects}
-use Rattle.refusal_sentences.specs.Explains.{ExplainsIn}
+use Rattle.refusal_sentences.specs.Explains.{ExplainsIn, sections_named}
 use Rattle.refusal_sentences.specs.ExplainedLines.{ExplainsLine}
 use Rattle.refusal_sentences.specs.declared.explained.Explained.{Explained}
 use Rattle.refusal_sentences.specs.declared.explained.Explained.TheVariants.{State, Refusal, NotLegal, NoTable, NoDocument, NoLine}
@@ -124,26 +124,27 @@ abbrev pub AreAsked : Doc → Option (Bor (List ℕ)) → List ℕ → Type 0
 AreAsked D (Some words) places = words.now ≡ places_words places
 AreAsked D None places = places ≡ D.start
 
--- The text is a picture of a document's layout under its table t, and of its trains at these places, which are legal there.
-pub record IsLayoutAt (D : Doc) (t : ℕ) (places text : List ℕ) : Type 0 where
+-- The text is a picture of a document's layout under its table t, by these names of sections, and of its trains at these places, which are legal
+-- there.
+pub record IsLayoutAt (D : Doc) (names : List (Vec (String Global) Global)) (t : ℕ) (places text : List ℕ) : Type 0 where
   pub picture : Picture
   pub legal : Legal (table_at D t) places
-  pub is_drawn : IsDrawn D.layout (table_at D t) places picture.width picture.height picture.groups
+  pub is_drawn : IsDrawn D.layout (sections_named names t) (table_at D t) places picture.width picture.height picture.groups
   pub is_text : text ≡ svg_text picture
 
 -- The text is such a picture with the trains at the places asked for.
-pub record IsLayoutOf (D : Doc) (t : ℕ) (asked : Option (Bor (List ℕ))) (text : List ℕ) : Type 0 where
+pub record IsLayoutOf (D : Doc) (names : List (Vec (String Global) Global)) (t : ℕ) (asked : Option (Bor (List ℕ))) (text : List ℕ) : Type 0 where
   pub places : List ℕ
   pub are_asked : AreAsked D asked places
-  pub is_layout : IsLayoutAt D t places text
+  pub is_layout : IsLayoutAt D names t places text
 
--- The input is a document, and the text is a picture of its layout under the table that the words name.
-pub record IsLayoutText (input table_words : List ℕ) (asked : Option (Bor (List ℕ))) (text : List ℕ) : Type 0 where
+-- The input is a document, and the text is a picture of its layout under the table that the words name, by these names of sections.
+pub record IsLayoutText (input : List ℕ) (names : List (Vec (String Global) Global)) (table_words : List ℕ) (asked : Option (Bor (List ℕ))) (text : List ℕ) : Type 0 where
   pub document : Doc
   pub table : ℕ
   pub is_read : doc_of input ≡ Ok document
   pub is_table : number_of table_words ≡ Some table
-  pub is_layout : IsLayoutOf document table asked text
+  pub is_layout : IsLayoutOf document names table asked text
 
 -- No section of the former document is gone, if there is a former one.
 abbrev pub LosesNone : Option (Bor (List ℕ)) → List ℕ → Type 0
@@ -158,46 +159,44 @@ NeedsNoRemark former input = ReadsAsDocument input × LosesNone former input
 abbrev pub HasNoRemarks : Option (Bor (List ℕ)) → List ℕ → List ℕ → Type 0
 HasNoRemarks former input text = (text ≡ []) × NeedsNoRemark former input
 
--- The order works on this text, with these names of sections, if its input is that: `plan` on the input itself, any other on the document that
--- stands for it.
-abbrev pub WorksOn : Order → List ℕ → List ℕ → List (Vec (String Global) Global) → Type 0
-WorksOn OfPlan input text names = (text ≡ input) × (names ≡ [])
-WorksOn (ExplainState table at run) input text names = StandsFor input text names
-WorksOn (ExplainLine line) input text names = StandsFor input text names
-WorksOn (Lint before) input text names = StandsFor input text names
-WorksOn (Certify budget effort) input text names = StandsFor input text names
-WorksOn (Protect budget effort rounds) input text names = StandsFor input text names
-WorksOn AddOrders input text names = StandsFor input text names
-WorksOn (OrderByRun seed journal) input text names = StandsFor input text names
-WorksOn (Timetable csv journal) input text names = StandsFor input text names
-WorksOn (Graph train journal) input text names = StandsFor input text names
-WorksOn (Layout table at) input text names = StandsFor input text names
+-- The order works on this text, with these names of sections, if its input is that, with a plan in a file beside it or without: `plan` on the
+-- input itself, any other on the document that stands for it.
+abbrev pub WorksOn : Order → Option (Bor PlanFile) → List ℕ → List ℕ → List (Vec (String Global) Global) → Type 0
+WorksOn OfPlan plan input text names = (text ≡ input) × (names ≡ [])
+WorksOn (ExplainState table at run file) plan input text names = Stands plan input text names
+WorksOn (ExplainLine line file) plan input text names = Stands plan input text names
+WorksOn (Lint before file) plan input text names = Stands plan input text names
+WorksOn (Certify budget effort) plan input text names = Stands plan input text names
+WorksOn (Protect budget effort rounds) plan input text names = Stands plan input text names
+WorksOn AddOrders plan input text names = Stands plan input text names
+WorksOn (OrderByRun seed journal) plan input text names = Stands plan input text names
+WorksOn (Timetable csv journal) plan input text names = Stands plan input text names
+WorksOn (Graph train journal) plan input text names = Stands plan input text names
+WorksOn (Layout table at file) plan input text names = Stands plan input text names
 
--- The order works on this; or its input is a plan, and these lines say what is wrong with it.
-abbrev pub IsWorkedOn : Order → List ℕ → Standing → Type 0
-IsWorkedOn order input Itself = WorksOn order input input []
-IsWorkedOn order input (AsDocument text names) = WorksOn order input text.items names.items
-IsWorkedOn order input (Mistaken lines) = begins_as_document input ≡ false
+-- The order works on this; or these lines say what is wrong with its input, or with the plan beside it.
+abbrev pub IsWorkedOn : Order → Option (Bor PlanFile) → List ℕ → Standing → Type 0
+IsWorkedOn order plan input standing = IsStandingAs (WorksOn order plan input) (AreFaultsOf plan input) input standing
 
 -- The text is what an order comes to on a document, with a former one for remarks, and with names of sections for explanations.
 abbrev pub IsTextFor : Order → Option (Bor (List ℕ)) → List ℕ → List (Vec (String Global) Global) → List ℕ → Type 0
 IsTextFor OfPlan former input names text = IsPlanned input text
-IsTextFor (ExplainState table at run) former input names text = ExplainsPlaces input names table.now at.now run text
-IsTextFor (ExplainLine line) former input names text = ExplainsWords input names line.now text
-IsTextFor (Lint before) former input names text = HasNoRemarks former input text
+IsTextFor (ExplainState table at run file) former input names text = ExplainsPlaces input names table.now at.now run text
+IsTextFor (ExplainLine line file) former input names text = ExplainsWords input names line.now text
+IsTextFor (Lint before file) former input names text = HasNoRemarks former input text
 IsTextFor (Certify budget effort) former input names text = IsCertifiedInput input budget text
 IsTextFor (Protect budget effort rounds) former input names text = IsProtectedInput input text
 IsTextFor AddOrders former input names text = IsOrderedInput input text
 IsTextFor (OrderByRun seed journal) former input names text = IsInputByRun input text
 IsTextFor (Timetable csv journal) former input names text = IsTimetableText input csv text
 IsTextFor (Graph train journal) former input names text = IsGraphText input text
-IsTextFor (Layout table at) former input names text = IsLayoutText input table.now at text
+IsTextFor (Layout table at file) former input names text = IsLayoutText input names table.now at text
 
--- The text is what an order comes to on an input: on what it works on.
-pub record IsTextOn (order : Order) (former : Option (Bor (List ℕ))) (input text : List ℕ) : Type 0 where
+-- The text is what an order comes to on an input, with a plan beside it or without: on what it works on.
+pub record IsTextOn (order : Order) (former : Option (Bor (List ℕ))) (plan : Option (Bor PlanFile)) (input text : List ℕ) : Type 0 where
   pub document : List ℕ
   pub names : List (Vec (String Global) Global)
-  pub works : WorksOn order input document names
+  pub works : WorksOn order plan input document names
   pub is_text : IsTextFor order former document names text
 
 -- The lines are what is wrong with a document for an order. Only of those of `certify` and `protect` anything is said.
@@ -205,46 +204,46 @@ abbrev pub AreWrongFor : Order → List ℕ → List ℕ → Type 0
 AreWrongFor (Certify budget effort) input lines = IsCertifyingFault input budget lines
 AreWrongFor (Protect budget effort rounds) input lines = IsProtectingFault input lines
 AreWrongFor OfPlan input lines = Unit {0}
-AreWrongFor (ExplainState table at run) input lines = Unit {0}
-AreWrongFor (ExplainLine line) input lines = Unit {0}
-AreWrongFor (Lint before) input lines = Unit {0}
+AreWrongFor (ExplainState table at run file) input lines = Unit {0}
+AreWrongFor (ExplainLine line file) input lines = Unit {0}
+AreWrongFor (Lint before file) input lines = Unit {0}
 AreWrongFor AddOrders input lines = Unit {0}
 AreWrongFor (OrderByRun seed journal) input lines = Unit {0}
 AreWrongFor (Timetable csv journal) input lines = Unit {0}
 AreWrongFor (Graph train journal) input lines = Unit {0}
-AreWrongFor (Layout table at) input lines = Unit {0}
+AreWrongFor (Layout table at file) input lines = Unit {0}
 
 -- The lines are what is wrong with what an order works on.
-pub record AreWrongThere (order : Order) (input lines : List ℕ) : Type 0 where
+pub record AreWrongThere (order : Order) (plan : Option (Bor PlanFile)) (input lines : List ℕ) : Type 0 where
   pub document : List ℕ
   pub names : List (Vec (String Global) Global)
-  pub works : WorksOn order input document names
+  pub works : WorksOn order plan input document names
   pub are_wrong : AreWrongFor order document lines
 
--- The lines are what is wrong with an input for an order: with what it works on; or the input is no document, and the lines are the mistakes
--- of a plan.
-abbrev pub AreWrongOn : Order → List ℕ → List ℕ → Type 0
-AreWrongOn order input lines = (begins_as_document input ≡ false) ⊎ AreWrongThere order input lines
+-- The lines are what is wrong with an input for an order: with what it works on; or the mistakes of a plan, or that an input isn't of the plan
+-- beside it.
+abbrev pub AreWrongOn : Order → Option (Bor PlanFile) → List ℕ → List ℕ → Type 0
+AreWrongOn order plan input lines = AreFaultsOf plan input lines ⊎ AreWrongThere order plan input lines
 
 -- What a sink took is the beginning of lines that say what is wrong with an input for an order.
-pub record Tells (order : Order) (input : List ℕ) (old new : Option (List ℕ)) : Type 0 where
+pub record Tells (order : Order) (plan : Option (Bor PlanFile)) (input : List ℕ) (old new : Option (List ℕ)) : Type 0 where
   pub lines : List ℕ
-  pub are_wrong : AreWrongOn order input lines
+  pub are_wrong : AreWrongOn order plan input lines
   pub are_told : AddsPrefix old new lines
 
 -- The order asks for remarks.
 abbrev pub AsksForRemarks : Order → Type 0
-AsksForRemarks (Lint before) = Unit {0}
+AsksForRemarks (Lint before file) = Unit {0}
 AsksForRemarks OfPlan = ⊥
-AsksForRemarks (ExplainState table at run) = ⊥
-AsksForRemarks (ExplainLine line) = ⊥
+AsksForRemarks (ExplainState table at run file) = ⊥
+AsksForRemarks (ExplainLine line file) = ⊥
 AsksForRemarks (Certify budget effort) = ⊥
 AsksForRemarks (Protect budget effort rounds) = ⊥
 AsksForRemarks AddOrders = ⊥
 AsksForRemarks (OrderByRun seed journal) = ⊥
 AsksForRemarks (Timetable csv journal) = ⊥
 AsksForRemarks (Graph train journal) = ⊥
-AsksForRemarks (Layout table at) = ⊥
+AsksForRemarks (Layout table at file) = ⊥
 
 -- The input is a plan, and a point of it is probably mistyped.
 pub record IsSuspected (input : List ℕ) : Type 0 where
@@ -259,13 +258,13 @@ HasNotes OfPlan read = IfSome read IsSuspected
 HasNotes (Protect budget effort rounds) read = Unit {0}
 HasNotes AddOrders read = Unit {0}
 HasNotes (OrderByRun seed journal) read = Unit {0}
-HasNotes (ExplainState table at run) read = ⊥
-HasNotes (ExplainLine line) read = ⊥
-HasNotes (Lint before) read = ⊥
+HasNotes (ExplainState table at run file) read = ⊥
+HasNotes (ExplainLine line file) read = ⊥
+HasNotes (Lint before file) read = ⊥
 HasNotes (Certify budget effort) read = ⊥
 HasNotes (Timetable csv journal) read = ⊥
 HasNotes (Graph train journal) read = ⊥
-HasNotes (Layout table at) read = ⊥
+HasNotes (Layout table at file) read = ⊥
 
 -- The answer has no remarks and no notes, and where it is a text, this holds of it.
 abbrev pub IfText : (List ℕ → Type 0) → Answer → Type 0
@@ -296,12 +295,12 @@ IsAnswerFor order former document names (Remarks lines) = AsksForRemarks order
 IsAnswerFor order former document names (Noted text lines) = HasNotes order (Some document) × IsTextFor order former document names text.items
 IsAnswerFor order former document names (Wrong lines) = AreWrongFor order document (string_bytes lines)
 
--- The same of an input, which is a document or a plan.
-abbrev pub IsAnswerTo : Order → Option (Bor (List ℕ)) → List ℕ → Answer → Type 0
-IsAnswerTo order former input (Text text) = IsTextOn order former input text.items
-IsAnswerTo order former input (Remarks lines) = AsksForRemarks order
-IsAnswerTo order former input (Noted text lines) = HasNotes order (Some input) × IsTextOn order former input text.items
-IsAnswerTo order former input (Wrong lines) = AreWrongOn order input (string_bytes lines)
+-- The same of an input, which is a document or a plan, with a plan beside it or without.
+abbrev pub IsAnswerTo : Order → Option (Bor (List ℕ)) → Option (Bor PlanFile) → List ℕ → Answer → Type 0
+IsAnswerTo order former plan input (Text text) = IsTextOn order former plan input text.items
+IsAnswerTo order former plan input (Remarks lines) = AsksForRemarks order
+IsAnswerTo order former plan input (Noted text lines) = HasNotes order (Some input) × IsTextOn order former plan input text.items
+IsAnswerTo order former plan input (Wrong lines) = AreWrongOn order plan input (string_bytes lines)
 
 -- The answer is the document of a plan, with notes only if a point of the plan is probably mistyped, or what is wrong.
 abbrev pub IsPlanning : List ℕ → Answer → Type 0

@@ -11,7 +11,7 @@ use crate::planning::plan;
 use crate::protecting::protect;
 use crate::timing::{graph, timetable};
 use cert_search::Watcher;
-use plan_input::{Standing, document_in};
+use plan_input::{PlanFile, Standing, document_for};
 use planner_words::Order;
 use std::alloc::{AllocError, Global};
 
@@ -29,28 +29,35 @@ pub enum Answer {
 }
 
 // What an order works on: `plan` on the input itself, and the others on the document that stands for it.
-fn standing_for(alloc: Global, order: &Order<'_>, input: &[u8]) -> Result<Standing, AllocError>
-    ensures { IfOk result (IsWorkedOn order.now input.now) }
+fn standing_for(
+    alloc: Global,
+    order: &Order<'_>,
+    plan: Option<&PlanFile<'_>>,
+    input: &[u8],
+) -> Result<Standing, AllocError>
+    ensures { IfOk result (IsWorkedOn order.now plan.entry input.now) }
 {
     match order {
         Order::Plan => Ok(Standing::Itself),
-        _ => document_in(alloc, input),
+        _ => document_for(alloc, input, plan),
     }
 }
 
-/// What an order comes to on this input, which is a document, or a plan in place of it. `former` is the former document, where the order
-/// names one. The watcher sees how far searches for certificates are.
+/// What an order comes to on this input, which is a document, or a plan in place of it. `former` is the former document, and `plan` the file of
+/// the plan that the document was made of, where the order names them. The watcher sees how far searches for certificates are.
 pub fn answer_to<W: Watcher>(
     alloc: Global,
     order: &Order<'_>,
     input: &[u8],
     former: Option<&[u8]>,
+    plan: Option<&PlanFile<'_>>,
     watcher: &W,
 ) -> Result<Answer, AllocError>
-    ensures { IfOk result (IsAnswerTo order.now former.entry input.now) }
+    ensures { IfOk result (IsAnswerTo order.now former.entry plan.entry input.now) }
 {
-    match standing_for(alloc, order, input)? {
+    match standing_for(alloc, order, plan, input)? {
         Standing::Itself => answer_for(alloc, order, input, &[], former, watcher),
+        Standing::Named { names } => answer_for(alloc, order, input, &names, former, watcher),
         Standing::Plan { text, names } => answer_for(alloc, order, &text, &names, former, watcher),
         Standing::Wrong(lines) => Ok(Answer::Wrong(lines)),
     }
@@ -70,10 +77,10 @@ fn answer_for<W: Watcher>(
 {
     match order {
         Order::Plan => plan(alloc, document),
-        Order::ExplainState { table, at, run } => explain_state(
+        Order::ExplainState { table, at, run, .. } => explain_state(
             alloc, document, names, table, at, *run,
         ),
-        Order::ExplainLine { line } => explain_line(alloc, document, names, line),
+        Order::ExplainLine { line, .. } => explain_line(alloc, document, names, line),
         Order::Lint { .. } => remarks(alloc, document, former),
         Order::Certify { budget, effort } => certify(alloc, document, *budget, *effort, watcher),
         Order::Protect {
@@ -85,6 +92,6 @@ fn answer_for<W: Watcher>(
         Order::OrderByRun { seed, .. } => order_by_run(alloc, document, *seed),
         Order::Timetable { csv, .. } => timetable(alloc, document, *csv),
         Order::Graph { train, .. } => graph(alloc, document, *train),
-        Order::Layout { table, at } => layout(alloc, document, table, *at),
+        Order::Layout { table, at, .. } => layout(alloc, document, names, table, *at),
     }
 }

@@ -14,4 +14,5 @@ mod top;
 
 pub use answer::{Answer, answer_to};
 pub use cert_search::{Silent, Watcher};
+pub use plan_input::PlanFile;
 pub use top::{MOST_BYTES, Status, Stop, code, end_unread, serve, turn_down};

@@ -8,6 +8,7 @@ use crate::Answer;
 use crate::answer::answer_to;
 use ats_io::{ReadAll, Sink, Source, WriteFault, read_all, write_all};
 use cert_search::Watcher;
+use plan_input::PlanFile;
 use planner_words::{Order, WordsAnswered};
 use std::alloc::{AllocError, Global};
 
@@ -36,6 +37,8 @@ pub enum Stop {
     Former,
     /// The file of a run can't be read, or is too long.
     Journal,
+    /// The file of a plan can't be read, or is too long.
+    Plan,
 }
 
 /// The exit code of a status.
@@ -92,13 +95,14 @@ fn print_noted<K: Sink, E: Sink>(text: &[u8], notes: &str, out: &mut K, err: &mu
 }
 
 /// Answers an order: it reads the source to its end, and writes to `out` what the order asks for, or to `err` what is wrong.
-/// `former` is the former document, where the order names one. The watcher sees how far searches for certificates are; what
-/// it writes then, by a handle of its own, no clause says.
+/// `former` is the former document, and `plan` the file of the plan that the document was made of, where the order names them. The watcher
+/// sees how far searches for certificates are; what it writes then, by a handle of its own, no clause says.
 #[tactic(auto, using(crate::proofs::Suits::quiet_as_read))]
 pub fn serve<S: Source, K: Sink, E: Sink, W: Watcher>(
     alloc: Global,
     order: &Order<'_>,
     former: Option<&[u8]>,
+    plan: Option<&PlanFile<'_>>,
     source: &mut S,
     out: &mut K,
     err: &mut E,
@@ -106,17 +110,17 @@ pub fn serve<S: Source, K: Sink, E: Sink, W: Watcher>(
 ) -> Status
     // What is written is what the order comes to on all that the source had left.
     ensures done { result ≡ Status.Done → IfSome (S.left source.old) (λ all.
-        (text : List ℕ) × IsTextOn order.now former.entry all text × Adds (K.taken out.old) (K.taken out.new) text) }
+        (text : List ℕ) × IsTextOn order.now former.entry plan.entry all text × Adds (K.taken out.old) (K.taken out.new) text) }
     // Notes are written to `err`, and nothing else.
     ensures quiet { result ≡ Status.Done → HasNotes order.now (S.left source.old) ⊎ (E.taken err.new ≡ E.taken err.old) }
     // Where the input has faults, nothing is written to `out`, except remarks that were asked for.
     ensures faulty { result ≡ Status.Faulty → AsksForRemarks order.now ⊎ (K.taken out.new ≡ K.taken out.old) }
     // And what is written to `err` is the beginning of lines that say what is wrong: all of them, unless `err` fails.
     ensures told { result ≡ Status.Faulty → IfSome (S.left source.old) (λ all.
-        AsksForRemarks order.now ⊎ Tells order.now all (E.taken err.old) (E.taken err.new)) }
+        AsksForRemarks order.now ⊎ Tells order.now plan.entry all (E.taken err.old) (E.taken err.new)) }
 {
     match read_all(alloc, source, MOST_BYTES) {
-        Ok(input) => respond(alloc, order, &input, former, out, err, watcher),
+        Ok(input) => respond(alloc, order, &input, former, plan, out, err, watcher),
         Err(ReadAll::Memory) => failed(err, NO_MEMORY),
         Err(ReadAll::ReadFault) => failed(err, "planner: standard input can't be read\n"),
         Err(ReadAll::TooLong { .. }) => failed(
@@ -132,16 +136,17 @@ fn respond<K: Sink, E: Sink, W: Watcher>(
     order: &Order<'_>,
     input: &[u8],
     former: Option<&[u8]>,
+    plan: Option<&PlanFile<'_>>,
     out: &mut K,
     err: &mut E,
     watcher: &W,
 ) -> Status
-    ensures done { result ≡ Status.Done → (text : List ℕ) × IsTextOn order.now former.entry input.now text × Adds (K.taken out.old) (K.taken out.new) text }
+    ensures done { result ≡ Status.Done → (text : List ℕ) × IsTextOn order.now former.entry plan.entry input.now text × Adds (K.taken out.old) (K.taken out.new) text }
     ensures quiet { result ≡ Status.Done → HasNotes order.now (Some input.now) ⊎ (E.taken err.new ≡ E.taken err.old) }
     ensures faulty { result ≡ Status.Faulty → AsksForRemarks order.now ⊎ (K.taken out.new ≡ K.taken out.old) }
-    ensures told { result ≡ Status.Faulty → AsksForRemarks order.now ⊎ Tells order.now input.now (E.taken err.old) (E.taken err.new) }
+    ensures told { result ≡ Status.Faulty → AsksForRemarks order.now ⊎ Tells order.now plan.entry input.now (E.taken err.old) (E.taken err.new) }
 {
-    match answer_to(alloc, order, input, former, watcher) {
+    match answer_to(alloc, order, input, former, plan, watcher) {
         Ok(Answer::Text(text)) => print(&text, Status::Done, out, err),
         Ok(Answer::Remarks(text)) => print(text.as_bytes(), Status::Faulty, out, err),
         Ok(Answer::Noted(text, lines)) => print_noted(&text, lines.as_str(), out, err),
@@ -180,5 +185,6 @@ pub fn end_unread<E: Sink>(why: Stop, err: &mut E) -> Status
         ),
         Stop::Former => failed(err, "planner: the file of --before can't be read\n"),
         Stop::Journal => failed(err, "planner: the file of --journal can't be read\n"),
+        Stop::Plan => failed(err, "planner: the file of --plan can't be read\n"),
     }
 }

@@ -54,30 +54,30 @@ record IsProtecting (given : List Row) (order : Order) : Type 0 where
 -- the command `explain` asks for nothing without places and without a line
 pub none_explained : (given : List Row) → None ≡ first_of (codes "at") given → None ≡ first_of (codes "line") given → AsksForNone (Some (codes "explain", given))
 none_explained given no_places no_line Plan asked = differ _ _ refl asked.0
-none_explained given no_places no_line (ExplainState table at run) asked = let found : Some at.now ≡ None = asked.1.1 ∙ sym no_places in cc
-none_explained given no_places no_line (ExplainLine line) asked = let found : Some line.now ≡ None = asked.1.1 ∙ sym no_line in cc
-none_explained given no_places no_line (Lint before) asked = differ _ _ refl asked.0
+none_explained given no_places no_line (ExplainState table at run plan) asked = let found : Some at.now ≡ None = asked.1.1 ∙ sym no_places in cc
+none_explained given no_places no_line (ExplainLine line plan) asked = let found : Some line.now ≡ None = asked.1.1 ∙ sym no_line in cc
+none_explained given no_places no_line (Lint before plan) asked = differ _ _ refl asked.0
 none_explained given no_places no_line (Certify budget effort) asked = differ _ _ refl asked.0
 none_explained given no_places no_line (Protect budget effort rounds) asked = differ _ _ refl asked.0
 none_explained given no_places no_line AddOrders asked = differ _ _ refl asked.0
 none_explained given no_places no_line (OrderByRun seed journal) asked = differ _ _ refl asked.0
 none_explained given no_places no_line (Timetable csv journal) asked = differ _ _ refl asked.0
 none_explained given no_places no_line (Graph train journal) asked = differ _ _ refl asked.0
-none_explained given no_places no_line (Layout table at) asked = differ _ _ refl asked.0
+none_explained given no_places no_line (Layout table at plan) asked = differ _ _ refl asked.0
 
 -- an order of the command `certify` has its values
 asks_to_certify : (given : List Row) (order : Order) → AsksFor order (codes "certify", given) → IsCertifying given order
 asks_to_certify given Plan asked = absurd (differ _ _ refl asked.0)
-asks_to_certify given (ExplainState table at run) asked = absurd (differ _ _ refl asked.0)
-asks_to_certify given (ExplainLine line) asked = absurd (differ _ _ refl asked.0)
-asks_to_certify given (Lint before) asked = absurd (differ _ _ refl asked.0)
+asks_to_certify given (ExplainState table at run plan) asked = absurd (differ _ _ refl asked.0)
+asks_to_certify given (ExplainLine line plan) asked = absurd (differ _ _ refl asked.0)
+asks_to_certify given (Lint before plan) asked = absurd (differ _ _ refl asked.0)
 asks_to_certify given (Certify budget effort) asked = record { nodes = budget; effort = effort; nodes_are = asked.1.0; effort_is = asked.1.1 }
 asks_to_certify given (Protect budget effort rounds) asked = absurd (differ _ _ refl asked.0)
 asks_to_certify given AddOrders asked = absurd (differ _ _ refl asked.0)
 asks_to_certify given (OrderByRun seed journal) asked = absurd (differ _ _ refl asked.0)
 asks_to_certify given (Timetable csv journal) asked = absurd (differ _ _ refl asked.0)
 asks_to_certify given (Graph train journal) asked = absurd (differ _ _ refl asked.0)
-asks_to_certify given (Layout table at) asked = absurd (differ _ _ refl asked.0)
+asks_to_certify given (Layout table at plan) asked = absurd (differ _ _ refl asked.0)
 
 -- the command `certify` asks for nothing with a number that is no budget
 pub none_certified : (given : List Row) → budget_in given ≡ None → AsksForNone (Some (codes "certify", given))
@@ -92,9 +92,9 @@ none_tried given no_effort order asked = let has = asks_to_certify given order a
 -- an order of the command `protect` has its values
 asks_to_protect : (given : List Row) (order : Order) → AsksFor order (codes "protect", given) → IsProtecting given order
 asks_to_protect given Plan asked = absurd (differ _ _ refl asked.0)
-asks_to_protect given (ExplainState table at run) asked = absurd (differ _ _ refl asked.0)
-asks_to_protect given (ExplainLine line) asked = absurd (differ _ _ refl asked.0)
-asks_to_protect given (Lint before) asked = absurd (differ _ _ refl asked.0)
+asks_to_protect given (ExplainState table at run plan) asked = absurd (differ _ _ refl asked.0)
+asks_to_protect given (ExplainLine line plan) asked = absurd (differ _ _ refl asked.0)
+asks_to_protect given (Lint before plan) asked = absurd (differ _ _ refl asked.0)
 asks_to_protect given (Certify budget effort) asked = absurd (differ _ _ refl asked.0)
 asks_to_protect given (Protect budget effort rounds) asked =
     record { nodes = budget; effort = effort; rounds = rounds; nodes_are = asked.1.0; rounds_are = asked.1.1; effort_is = asked.1.2 }
@@ -102,7 +102,7 @@ asks_to_protect given AddOrders asked = absurd (differ _ _ refl asked.0)
 asks_to_protect given (OrderByRun seed journal) asked = absurd (differ _ _ refl asked.0)
 asks_to_protect given (Timetable csv journal) asked = absurd (differ _ _ refl asked.0)
 asks_to_protect given (Graph train journal) asked = absurd (differ _ _ refl asked.0)
-asks_to_protect given (Layout table at) asked = absurd (differ _ _ refl asked.0)
+asks_to_protect given (Layout table at plan) asked = absurd (differ _ _ refl asked.0)
 
 -- the command `protect` asks for nothing with a number of nodes or of rounds that is out of range
 pub no_nodes_protected : (given : List Row) → nodes_in given ≡ None → AsksForNone (Some (codes "protect", given))
@@ -123,9 +123,9 @@ no_effort_protected given no_effort order asked = let has = asks_to_protect give
 -- the command `order` asks for nothing with a word that is no number
 pub none_ordered : (given : List Row) (word : Text) → Some word ≡ first_of (codes "of-run") given → number_of word ≡ None → AsksForNone (Some (codes "order", given))
 none_ordered given word found none Plan asked = differ _ _ refl asked.0
-none_ordered given word found none (ExplainState table at run) asked = differ _ _ refl asked.0
-none_ordered given word found none (ExplainLine line) asked = differ _ _ refl asked.0
-none_ordered given word found none (Lint before) asked = differ _ _ refl asked.0
+none_ordered given word found none (ExplainState table at run plan) asked = differ _ _ refl asked.0
+none_ordered given word found none (ExplainLine line plan) asked = differ _ _ refl asked.0
+none_ordered given word found none (Lint before plan) asked = differ _ _ refl asked.0
 none_ordered given word found none (Certify budget effort) asked = differ _ _ refl asked.0
 none_ordered given word found none (Protect budget effort rounds) asked = differ _ _ refl asked.0
 none_ordered given word found none AddOrders asked = let unnamed : None ≡ Some word = asked.1.0 ∙ sym found in cc
@@ -134,15 +134,15 @@ none_ordered given word found none (OrderByRun seed journal) asked =
     let both : Some seed ≡ None = sym number ∙ none in cc
 none_ordered given word found none (Timetable csv journal) asked = differ _ _ refl asked.0
 none_ordered given word found none (Graph train journal) asked = differ _ _ refl asked.0
-none_ordered given word found none (Layout table at) asked = differ _ _ refl asked.0
+none_ordered given word found none (Layout table at plan) asked = differ _ _ refl asked.0
 
 -- nor with a journal and no number
 pub none_ordered_by : (given : List Row) (file : Text) → None ≡ first_of (codes "of-run") given → Some file ≡ first_of (codes "journal") given →
     AsksForNone (Some (codes "order", given))
 none_ordered_by given file none found Plan asked = differ _ _ refl asked.0
-none_ordered_by given file none found (ExplainState table at run) asked = differ _ _ refl asked.0
-none_ordered_by given file none found (ExplainLine line) asked = differ _ _ refl asked.0
-none_ordered_by given file none found (Lint before) asked = differ _ _ refl asked.0
+none_ordered_by given file none found (ExplainState table at run plan) asked = differ _ _ refl asked.0
+none_ordered_by given file none found (ExplainLine line plan) asked = differ _ _ refl asked.0
+none_ordered_by given file none found (Lint before plan) asked = differ _ _ refl asked.0
 none_ordered_by given file none found (Certify budget effort) asked = differ _ _ refl asked.0
 none_ordered_by given file none found (Protect budget effort rounds) asked = differ _ _ refl asked.0
 none_ordered_by given file none found AddOrders asked = let unnamed : None ≡ Some file = asked.1.1 ∙ sym found in cc
@@ -150,7 +150,7 @@ none_ordered_by given file none found (OrderByRun seed journal) asked =
     subst (λ o. IsSomeAnd o (λ w. number_of w ≡ Some seed)) (sym none) asked.1.0
 none_ordered_by given file none found (Timetable csv journal) asked = differ _ _ refl asked.0
 none_ordered_by given file none found (Graph train journal) asked = differ _ _ refl asked.0
-none_ordered_by given file none found (Layout table at) asked = differ _ _ refl asked.0
+none_ordered_by given file none found (Layout table at plan) asked = differ _ _ refl asked.0
 
 -- a word that is none of the three is for no effort
 pub no_effort : (word : Text) → (word ≡ codes "small" → ⊥) → (word ≡ codes "usual" → ⊥) → (word ≡ codes "great" → ⊥) → (effort : Effort) → word ≡ word_of effort → ⊥

@@ -22,6 +22,11 @@ the_journals : map (λ line. option_map (λ found. first_of (codes "journal") fo
 unfolding clap_on_literals leaf
 the_journals = refl
 
+-- The plan of a document is in a file where one is named.
+the_plans : map (λ line. option_map (λ found. first_of (codes "plan") found.1) (subcommand_of planner (words_of line))) (codes "layout" ∷ codes "lint --before old --plan yard" ∷ []) ≡ Some None ∷ Some (Some (codes "yard")) ∷ []
+unfolding clap_on_literals leaf
+the_plans = refl
+
 -- The table is the first one where none is named.
 the_tables : map (λ line. option_map (λ found. table_in found.1) (subcommand_of planner (words_of line))) (codes "layout" ∷ codes "explain --at 0,1 --table 2" ∷ []) ≡ Some (codes "0") ∷ Some (codes "2") ∷ []
 unfolding clap_on_literals leaf

@@ -45,10 +45,10 @@ abbrev pub plan : Shape
 plan = leaf (codes "plan") []
 
 abbrev pub explain : Shape
-explain = leaf (codes "explain") (excluding (codes "at") ∷ valued (codes "table") ∷ excluding_flag (codes "run") ∷ excluding (codes "line") ∷ [])
+explain = leaf (codes "explain") (excluding (codes "at") ∷ valued (codes "table") ∷ excluding_flag (codes "run") ∷ excluding (codes "line") ∷ valued (codes "plan") ∷ [])
 
 abbrev pub lint : Shape
-lint = leaf (codes "lint") (valued (codes "before") ∷ [])
+lint = leaf (codes "lint") (valued (codes "before") ∷ valued (codes "plan") ∷ [])
 
 abbrev pub certify : Shape
 certify = leaf (codes "certify") (valued (codes "budget") ∷ valued (codes "effort") ∷ [])
@@ -63,7 +63,7 @@ abbrev pub graph : Shape
 graph = leaf (codes "graph") (valued (codes "train") ∷ valued (codes "journal") ∷ [])
 
 abbrev pub layout : Shape
-layout = leaf (codes "layout") (valued (codes "at") ∷ valued (codes "table") ∷ [])
+layout = leaf (codes "layout") (valued (codes "at") ∷ valued (codes "table") ∷ valued (codes "plan") ∷ [])
 
 -- those that make or read a document alone
 abbrev pub documents : List Shape

@@ -13,16 +13,16 @@ use Rattle.planner_words.specs.declared.orders.Order.TheVariants.{Plan, ExplainS
 -- the word that asks for an order
 abbrev pub name_of : Order → List ℕ
 name_of Plan = codes "plan"
-name_of (ExplainState table at run) = codes "explain"
-name_of (ExplainLine line) = codes "explain"
-name_of (Lint before) = codes "lint"
+name_of (ExplainState table at run plan) = codes "explain"
+name_of (ExplainLine line plan) = codes "explain"
+name_of (Lint before plan) = codes "lint"
 name_of (Certify budget effort) = codes "certify"
 name_of (Protect budget effort rounds) = codes "protect"
 name_of AddOrders = codes "order"
 name_of (OrderByRun seed journal) = codes "order"
 name_of (Timetable csv journal) = codes "timetable"
 name_of (Graph train journal) = codes "graph"
-name_of (Layout table at) = codes "layout"
+name_of (Layout table at plan) = codes "layout"
 
 -- the table that is named, or the first one
 abbrev pub table_in : List Row → Text
@@ -70,10 +70,11 @@ IsFile found file = option_map (λ s. s.now) file ≡ found
 -- The order has the values that clap found for the options of its command.
 abbrev pub HasValues : List Row → Order → Type 0
 HasValues given Plan = Unit {0}
-HasValues given (ExplainState table at run) =
-    (table.now ≡ table_in given) × (Some at.now ≡ first_of (codes "at") given) × IsFlag (one_of (codes "run") given) run
-HasValues given (ExplainLine line) = (None ≡ first_of (codes "at") given) × (Some line.now ≡ first_of (codes "line") given)
-HasValues given (Lint before) = IsFile (first_of (codes "before") given) before
+HasValues given (ExplainState table at run plan) =
+    (table.now ≡ table_in given) × (Some at.now ≡ first_of (codes "at") given) × IsFlag (one_of (codes "run") given) run × IsFile (first_of (codes "plan") given) plan
+HasValues given (ExplainLine line plan) =
+    (None ≡ first_of (codes "at") given) × (Some line.now ≡ first_of (codes "line") given) × IsFile (first_of (codes "plan") given) plan
+HasValues given (Lint before plan) = IsFile (first_of (codes "before") given) before × IsFile (first_of (codes "plan") given) plan
 HasValues given (Protect budget effort made) =
     (nodes_in given ≡ Some budget) × (rounds_in given ≡ Some made) × IsEffort (first_of (codes "effort") given) effort
 HasValues given AddOrders = (None ≡ first_of (codes "of-run") given) × (None ≡ first_of (codes "journal") given)
@@ -83,7 +84,8 @@ HasValues given (Certify budget effort) = (budget_in given ≡ Some budget) × I
 HasValues given (Timetable csv journal) = IsFlag (one_of (codes "csv") given) csv × IsFile (first_of (codes "journal") given) journal
 HasValues given (Graph train journal) =
     (option_map (λ s. s.now) train ≡ first_of (codes "train") given) × IsFile (first_of (codes "journal") given) journal
-HasValues given (Layout table at) = (table.now ≡ table_in given) × (option_map (λ s. s.now) at ≡ first_of (codes "at") given)
+HasValues given (Layout table at plan) =
+    (table.now ≡ table_in given) × (option_map (λ s. s.now) at ≡ first_of (codes "at") given) × IsFile (first_of (codes "plan") given) plan
 
 -- The subcommand of this name, with what was found for its options, asks for the order.
 abbrev pub AsksFor : Order → Text × List Row → Type 0

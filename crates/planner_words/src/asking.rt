@@ -74,6 +74,12 @@ const BEFORE: Choice = Choice::Value {
     help: "A former document: lists its sections that are gone",
 };
 
+const PLAN: Choice = Choice::Value {
+    name: "plan",
+    value: "FILE",
+    help: "The plan that the document was made of: sections are called by its names",
+};
+
 const BUDGET: Choice = Choice::Value {
     name: "budget",
     value: "NODES",
@@ -143,12 +149,12 @@ const SUBCOMMANDS: [Subcommand; 9] = [
     Subcommand {
         name: "explain",
         about: "Reads a document and explains a state, or a line of `ats`, by names",
-        choices: &[AT, TABLE, RUN, LINE],
+        choices: &[AT, TABLE, RUN, LINE, PLAN],
     },
     Subcommand {
         name: "lint",
         about: "Reads a document and lists what has no effect or is likely a mistake",
-        choices: &[BEFORE],
+        choices: &[BEFORE, PLAN],
     },
     Subcommand {
         name: "certify",
@@ -178,7 +184,7 @@ const SUBCOMMANDS: [Subcommand; 9] = [
     Subcommand {
         name: "layout",
         about: "Reads a document and writes a picture (SVG) of its tracks, sections and trains",
-        choices: &[AT_OR_START, TABLE],
+        choices: &[AT_OR_START, TABLE, PLAN],
     },
 ];
 

@@ -8,7 +8,8 @@ pub enum Effort {
     Great,
 }
 
-/// What the words ask for, with the values of its options as they were written.
+/// What the words ask for, with the values of its options as they were written. A `plan` is the file of the plan that the document was made of:
+/// sections are called by its names.
 #[derive(Clone, Copy)]
 pub enum Order<'a> {
     /// Make the document of a plan.
@@ -18,14 +19,17 @@ pub enum Order<'a> {
         table: &'a str,
         at: &'a str,
         run: bool,
+        plan: Option<&'a str>,
     },
     /// Explain a line that `ats` printed.
     ExplainLine {
         line: &'a str,
+        plan: Option<&'a str>,
     },
     /// List what a document says without effect, or what of a former document, in a file, is gone.
     Lint {
         before: Option<&'a str>,
+        plan: Option<&'a str>,
     },
     /// Find certificates for the tables of a document by search, each of at most `budget` nodes, 1 to 1,000,000.
     Certify {
@@ -60,5 +64,6 @@ pub enum Order<'a> {
     Layout {
         table: &'a str,
         at: Option<&'a str>,
+        plan: Option<&'a str>,
     },
 }

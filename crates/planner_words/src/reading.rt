@@ -98,6 +98,7 @@ fn order_called<'a>(
         "explain" => explain(alloc, matches),
         "lint" => Ok(Order::Lint {
             before: matches.get_str("before"),
+            plan: matches.get_str("plan"),
         }),
         "certify" => certify(alloc, matches),
         "protect" => protect(alloc, matches),
@@ -113,6 +114,7 @@ fn order_called<'a>(
         "layout" => Ok(Order::Layout {
             table: table_in(matches),
             at: matches.get_str("at"),
+            plan: matches.get_str("plan"),
         }),
         _ => refused(alloc, NO_COMMAND),
     }
@@ -204,8 +206,12 @@ fn explain<'a>(alloc: Global, matches: &ArgMatches<'a>) -> Result<Order<'a>, Wor
             table: table_in(matches),
             at,
             run: matches.get_flag("run"),
+            plan: matches.get_str("plan"),
         }),
-        (None, Some(line)) => Ok(Order::ExplainLine { line }),
+        (None, Some(line)) => Ok(Order::ExplainLine {
+            line,
+            plan: matches.get_str("plan"),
+        }),
         (None, None) => refused(
             alloc,
             "planner explain: it takes --at PLACES or --line LINE\n",

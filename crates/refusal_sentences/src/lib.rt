@@ -10,4 +10,4 @@ mod states;
 pub use explained::Explained;
 pub use explaining::explain_line;
 pub use places::places_of;
-pub use states::{explain_places, explain_state};
+pub use states::{explain_places, explain_state, sections_named};

@@ -16,8 +16,8 @@ use refusal_meanings::{Placed, no_document_text, no_table_text, not_legal_text};
 use state_sentences::{Scene, text_of};
 use std::alloc::{AllocError, Global};
 
-// The names of the sections of a table, of those of all tables.
-fn sections_of(names: &[Vec<String>], table: u32) -> &[String]
+/// The names of the sections of a table, of those of all tables; none, if there are none of that table.
+pub fn sections_named(names: &[Vec<String>], table: u32) -> &[String]
     ensures { result.now ≡ sections_named names.now table }
 {
     match names.get(table as usize) {
@@ -43,7 +43,7 @@ fn explain_legal(
         table: table_of(doc, table),
         state,
     };
-    let text = text_of(alloc, &scene, sections_of(names, table), table)?;
+    let text = text_of(alloc, &scene, sections_named(names, table), table)?;
     Ok(Explained::State(text))
 }
 
@@ -66,7 +66,7 @@ fn explain_positions(
                 doc,
                 table: table_of(doc, table),
                 number: table,
-                sections: sections_of(names, table),
+                sections: sections_named(names, table),
                 places,
             };
             let text = not_legal_text(alloc, &placed, cause)?;

@@ -2,6 +2,7 @@ use Rattle.std.proofs.Common.{◌∙◌, List, [], ◌∷◌, ◌++◌, map, ap,
 use Rattle.std.proofs.lemmas.Result.{on_ok_weaker}
 use Rattle.svg_text.specs.Tree.{Shape}
 use Rattle.rail_model.specs.Layout.{Link, point_names}
+use Rattle.layout_frame.specs.Legend.{AddsLegend}
 use Rattle.layout_frame.specs.Spots.{words_of}
 use Rattle.layout_picture.specs.declared.layers.Layer.TheVariants as layer
 use Rattle.layout_picture.specs.Marks.{dot_at}
@@ -62,7 +63,10 @@ returns-in-Trains c =
 
 pub returns-in-Legend : goal.returns-in-Legend
 returns-in-Legend c =
-    of_layer (subject_of c.args.view.now) c.args.layer layer.Legend _ c.push_legend.result c.in-Legend.is (of_words c.push_legend.result)
+    let view = c.args.view.now in
+    let legend = λ (shapes : List Shape). AddsLegend view.sections.now view.scene.now.table.now (words_of shapes) (words_of c.push_legend.new.shapes.items) in
+    of_layer (subject_of view) c.args.layer layer.Legend _ c.push_legend.result c.in-Legend.is
+    (on_ok_weaker c.push_legend.result (λ adds. subst legend c.requires adds) c.push_legend.ensures)
 
 pub returns-in-Heading : goal.returns-in-Heading
 returns-in-Heading c =

@@ -7,7 +7,7 @@ use Rattle.layout_picture.proofs.picture.drawn.Goals as goal
 pub returns : goal.returns
 returns c =
     let view = c.args.view.now in
-    let shows = λ (picture : Picture). IsDrawn view.layout.now view.scene.now.table.now view.scene.now.state.now picture.width picture.height picture.groups in
+    let shows = λ (picture : Picture). IsDrawn view.layout.now view.sections.now view.scene.now.table.now view.scene.now.state.now picture.width picture.height picture.groups in
     IfOk-weaker c.new.result _ shows
     (λ picture made. subst shows (sym made) (record {
       spots = view.frame.now.spots.items;

@@ -12,13 +12,20 @@ returns-in-Some-default-clause-asked c =
         c.table_in.ensures,
         c.in-Some-default.ensures ∙ first_value-rows (found_of c.args.matches.now) (codes "at"),
         (λ up. c.get_flag.ensures.value (found ∙ up), λ down. c.get_flag.ensures.other (found ∙ down)),
+        c.get_str-in-Some-default.ensures ∙ first_value-rows (found_of c.args.matches.now) (codes "plan"),
       ),
     )
 
 pub returns-in-None-Some-clause-asked : goal.returns-in-None-Some-clause-asked
 returns-in-None-Some-clause-asked c =
-    let found = first_value-rows (found_of c.args.matches.now) in
-    (refl, (c.in-None-Some.ensures ∙ found (codes "at"), c.in-None-Some.ensures' ∙ found (codes "line")))
+    let found = first_value-rows (found_of c.args.matches.now) in (
+      refl,
+      (
+        c.in-None-Some.ensures ∙ found (codes "at"),
+        c.in-None-Some.ensures' ∙ found (codes "line"),
+        c.get_str-in-None-Some.ensures ∙ found (codes "plan"),
+      ),
+    )
 
 pub returns-in-None-None-clause-answered : goal.returns-in-None-None-clause-answered
 returns-in-None-None-clause-answered c =

@@ -4,7 +4,9 @@ use Rattle.clap.proofs.WalkLemmas.{first_value-rows, one_text-rows}
 use Rattle.planner_words.proofs.reading.order_called.Goals as goal
 
 pub returns-in-lint-clause-asked : goal.returns-in-lint-clause-asked
-returns-in-lint-clause-asked c = (search rules, c.get_str.ensures ∙ first_value-rows (found_of c.args.matches.now) (codes "before"))
+returns-in-lint-clause-asked c =
+    let found = first_value-rows (found_of c.args.matches.now) in
+    (search rules, (c.get_str.ensures ∙ found (codes "before"), c.get_str-in-lint.ensures ∙ found (codes "plan")))
 
 pub returns-in-timetable-clause-asked : goal.returns-in-timetable-clause-asked
 returns-in-timetable-clause-asked c =
@@ -23,4 +25,5 @@ returns-in-graph-clause-asked c =
 
 pub returns-in-layout-clause-asked : goal.returns-in-layout-clause-asked
 returns-in-layout-clause-asked c =
-    (search rules, (c.table_in.ensures, c.get_str-in-layout.ensures ∙ first_value-rows (found_of c.args.matches.now) (codes "at")))
+    let found = first_value-rows (found_of c.args.matches.now) in
+    (search rules, (c.table_in.ensures, c.get_str-in-layout.ensures ∙ found (codes "at"), c.get_str-in-layout-2.ensures ∙ found (codes "plan")))

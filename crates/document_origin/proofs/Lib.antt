@@ -1,0 +1,5 @@
+mod SameLists
+mod Beginnings
+mod Different
+mod Alike
+mod Rows

@@ -1,0 +1,2 @@
+mod LegendWords
+mod Rows
