@@ -1,3 +1,8 @@
+pub mod Adding
+pub mod All
+pub mod AllKinds
+pub mod Bytes
+pub mod Counting
 pub mod Extremes
-mod Kept
 mod Rows
+pub mod Tests
