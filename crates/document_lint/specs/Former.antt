@@ -44,3 +44,7 @@ OfLostIn D F t = Below (λ s. Is (HoldsSince D F) (SectionLost t s)) (length (ta
 -- the same of all tables
 abbrev pub OfLost : Doc → Doc → Fact → Type 0
 OfLost D F = Below (OfLostIn D F) (length F.tables)
+
+-- Each section of the former document is in the table of the same number.
+abbrev pub KeepsSections : Doc → Doc → Type 0
+KeepsSections D F = (t s : ℕ) → IsSectionOf F t s → IsThere D t (section (table_at F t) s)

@@ -28,8 +28,9 @@ mod words;
 pub use exact::{end_together, is_overfull_at_end, is_unused, never_binds, overfills_alone};
 pub use fact::Fact;
 pub use laws::{
-    never_binding_sections_keep_nothing_out, overfilling_trains_never_come_there,
-    trains_that_end_together_never_both_arrive, trains_that_overfill_at_the_end_never_all_arrive,
+    documents_that_lose_nothing_keep_each_section, never_binding_sections_keep_nothing_out,
+    overfilling_trains_never_come_there, trains_that_end_together_never_both_arrive,
+    trains_that_overfill_at_the_end_never_all_arrive,
 };
 pub use linting::{lint, lint_after};
 pub use member::MemberFact;
