@@ -1,33 +1,22 @@
--- Sections that are kept, where nothing is told.
-use Rattle.std.proofs.Common.{◌≡◌, ◌⊎◌, ◌<◌, ◌+◌, ℕ, List, inl, inr, subst, arith}
-use Rattle.std.specs.Prelude.{Result, Ok, Err, IfOk, IfErr}
-use Rattle.std.proofs.Math.Logic.{⊎_map}
+-- A section that isn't gone is there.
+use Rattle.std.proofs.Common.{◌⊎◌, ◌<◌, ℕ, inl, inr, length, arith}
 use Rattle.std.proofs.lemmas.Bool.{cases_lt}
-use Rattle.rail_model.specs.Turns.{AnswersAs}
-use Rattle.document_json.specs.Doc.{Doc}
-use Rattle.document_json.specs.Reading.{doc_of}
-use Rattle.document_json.specs.declared.refused.DocRefused.{DocRefused}
-use Rattle.document_json.specs.declared.refused.DocRefused.TheVariants.{Memory}
-use Rattle.document_lint.specs.Told.{KeepsFormer, KeepsSections, LosesNoSection}
+use Rattle.rail_model.specs.Table.{section}
+use Rattle.document_json.specs.Doc.{Doc, table_at}
+use Rattle.document_lint.specs.Facts.{IsSectionOf}
+use Rattle.document_lint.specs.Former.{HoldsSince, IsGone, IsThere, KeepsSections}
+use Rattle.document_lint.specs.declared.fact.Fact.{Fact}
+use Rattle.document_lint.specs.declared.fact.Fact.TheVariants.{SectionLost}
+use Rattle.document_lint.proofs.Contained.{contained}
 
--- a fact of all below a number and of the number is one of all below the next, unless something is told
-pub one_more : (P : ℕ → Type 0) (before after : Type 0) (n : ℕ) → (before → after) → before ⊎ ((k : ℕ) → k < n → P k) → after ⊎ P n
-    → after ⊎ ((k : ℕ) → k < n + 1 → P k)
-one_more P before after n still (inl told) here = inl (still told)
-one_more P before after n still (inr below) (inl told) = inl told
-one_more P before after n still (inr below) (inr here) = inr (λ k lt. elim (cases_lt k n) [
-  | inl less ↦ below k less
-  | inr past ↦ let same : n ≡ k = omega (arith, lt, past) in subst P same here
-])
+there_if_not_gone : (D F : Doc) (t s : ℕ) → (IsGone D F t s → ⊥) → IsThere D t (section (table_at F t) s)
+there_if_not_gone D F t s kept = elim (cases_lt t (length D.tables)) [
+  | inl lt ↦ elim (contained (table_at D t).sections (section (table_at F t) s)) [
+    | inl is ↦ (lt, is)
+    | inr none ↦ absurd (kept (λ there. none there.1))
+  ]
+  | inr past ↦ absurd (kept (λ there. let lt = there.0 in omega (arith, lt, past)))
+]
 
--- a document keeps the sections of former bytes, if it keeps those of what was read of them
-pub keeps_former : (D : Doc) (former : List ℕ) (told : Type 0) (read : Result Doc DocRefused) → AnswersAs Memory (λ d. d) read (doc_of former)
-    → IfErr read (λ refused. told) → IfOk read (λ F. told ⊎ KeepsSections D F) → told ⊎ KeepsFormer D former
-keeps_former D former told (Ok F) is refused kept = ⊎_map (λ t. t) (λ keeps G same. let one : F ≡ G = cc in subst (KeepsSections D) one keeps) kept
-keeps_former D former told (Err e) is refused kept = inl refused
-
--- bytes lose no section of former ones, if what was read of them keeps those
-pub loses_none : (bytes former : List ℕ) (before told : Type 0) (read : Result Doc DocRefused) → AnswersAs Memory (λ d. d) read (doc_of bytes)
-    → IfErr read (λ refused. before) → (before → told) → IfOk read (λ D. told ⊎ KeepsFormer D former) → told ⊎ LosesNoSection bytes former
-loses_none bytes former before told (Ok D) is refused still kept = ⊎_map (λ t. t) (λ keeps E same. let one : D ≡ E = cc in subst (λ D. KeepsFormer D former) one keeps) kept
-loses_none bytes former before told (Err e) is refused still kept = inl (still refused)
+pub keeps_all : (D F : Doc) → ((f : Fact) → HoldsSince D F f → ⊥) → KeepsSections D F
+keeps_all D F none = λ t s is. there_if_not_gone D F t s (λ gone. none (SectionLost t s) (is, gone))

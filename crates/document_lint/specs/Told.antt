@@ -1,68 +1,40 @@
--- When something is said of a document.
-use Rattle.std.specs.Prelude.{◌≡◌, ◌≢◌, ◌⊎◌, ◌<◌, ◌≤◌, ℕ, pos, List, true, length, None, Ok, Contains}
-use Rattle.document_json.specs.Doc.{Doc, doc_table, table_at}
+-- What is said of bytes: what is so of the document that they are, or that they are none.
+use Rattle.std.specs.Prelude.{◌≡◌, ◌⊎◌, ℕ, List, map, MatchResult, Contains}
 use Rattle.document_json.specs.Reading.{doc_of}
-use Rattle.rail_model.specs.Table.{Table, Connection, last, place, section, share}
-use Rattle.rail_model.specs.State.{remaining}
-use Rattle.document_lint.specs.Sections.{EndTogether, end}
-use Rattle.document_lint.specs.declared.remark.Remarks.{Remarks}
+use Rattle.document_lint.specs.Adding.{Or}
+use Rattle.document_lint.specs.Facts.{Holds}
+use Rattle.document_lint.specs.Former.{HoldsSince}
+use Rattle.document_lint.specs.declared.fact.Fact.{Fact}
+use Rattle.document_lint.specs.declared.fact.Fact.TheVariants.{Refused, Member, FormerRefused}
+use Rattle.document_lint.specs.declared.member.MemberFact.{MemberFact}
+use Rattle.document_lint.specs.declared.remark.Remark.{Remark}
 
--- The bytes are a document.
-abbrev pub AreDocument : List ℕ → Type 0
-AreDocument bytes = (D : Doc) × (doc_of bytes ≡ Ok D)
+-- What is so of bytes: of a document, what holds of it; of others, that they are refused.
+abbrev pub HoldsOf : List ℕ → Fact → Type 0
+HoldsOf bytes f = MatchResult (doc_of bytes) (λ D. Holds D f) (λ e. Refused ≡ f)
 
--- Something is said, or there was no memory for it.
-abbrev pub IsTold : Remarks → Type 0
-IsTold remarks = (remarks.is_out_of_memory ≡ true) ⊎ (0 < length remarks.found.items)
+-- What is so of bytes after former ones: of two documents, what is gone; and of former ones that are no document, that they are refused.
+abbrev pub HoldsAfter : List ℕ → List ℕ → Fact → Type 0
+HoldsAfter bytes former f =
+    MatchResult (doc_of former) (λ F. MatchResult (doc_of bytes) (λ D. HoldsSince D F f) (λ e. ⊥)) (λ e. FormerRefused ≡ f)
 
--- More is said only where this holds.
-abbrev pub SaysOnlyWhere : Type 0 → Remarks → Remarks → Type 0
-SaysOnlyWhere Holds old new = (new ≡ old) ⊎ Holds
+-- It is said of members of the text that are ignored, or are the likely cause of a refusal.
+abbrev pub IsOfMembers : Fact → Type 0
+IsOfMembers f = (what : MemberFact) × (Member what ≡ f)
 
--- An earlier train ends at the point at which this one ends.
-abbrev pub EndsAsEarlier : Table → ℕ → Type 0
-EndsAsEarlier T i = (earlier : ℕ) × (earlier < i) × EndTogether T earlier i
+-- It is of members, or so.
+abbrev pub IsRight : (Fact → Type 0) → Fact → Type 0
+IsRight IsSo = Or IsOfMembers IsSo
 
--- An earlier section is the same as this one.
-abbrev pub IsAsEarlier : Table → ℕ → Type 0
-IsAsEarlier T s = (earlier : ℕ) × (earlier < s) × (section T earlier ≡ section T s)
+-- The facts are right, and all that is so is among them.
+pub record AreAll (IsSo : Fact → Type 0) (facts : List Fact) : Type 0 where
+  pub right : (f : Fact) → Contains facts f → IsRight IsSo f
+  pub whole : (f : Fact) → IsSo f → Contains facts f
 
--- The train leaves the layout, and still has a share of the section then.
-abbrev pub KeepsForGood : Table → ℕ → ℕ → Type 0
-KeepsForGood T s i = (end T i ≡ None) × (share T i s (last T i) ≢ pos 0)
+-- what remarks say
+abbrev pub facts_of : List Remark → List Fact
+facts_of remarks = map (λ r. r.fact) remarks
 
--- The train starts at the place or past it.
-abbrev pub StartsFrom : List ℕ → ℕ → ℕ → Type 0
-StartsFrom start i k = (i < length start) × (k ≤ place start i)
-
--- The train starts past the place.
-abbrev pub StartsPast : List ℕ → ℕ → ℕ → Type 0
-StartsPast start i k = (i < length start) × (k < place start i)
-
--- The connection holds nobody: it is met, or its train is past it, at the start.
-abbrev pub HoldsNobody : List ℕ → Connection → Type 0
-HoldsNobody start c = StartsFrom start c.other c.reached ⊎ StartsPast start c.train c.place
-
--- Table t of the document has a section like this one of the former document's table t.
-abbrev pub IsKeptSection : Doc → ℕ → Table → ℕ → Type 0
-IsKeptSection D t former s = (t < length D.tables) × Contains (table_at D t).sections (section former s)
-
--- Table t of the document has all sections of the former document's table t.
-abbrev pub KeepsTable : Doc → ℕ → Table → Type 0
-KeepsTable D t former = (s : ℕ) → s < length former.sections → IsKeptSection D t former s
-
--- Each table of the former document has its sections in the table of the same number.
-abbrev pub KeepsSections : Doc → Doc → Type 0
-KeepsSections D former = (t : ℕ) → t < length former.tables → KeepsTable D t (table_at former t)
-
--- If the former bytes are a document, the document keeps its sections.
-abbrev pub KeepsFormer : Doc → List ℕ → Type 0
-KeepsFormer D former = (F : Doc) → doc_of former ≡ Ok F → KeepsSections D F
-
--- If both are documents, no section of the former one is gone.
-abbrev pub LosesNoSection : List ℕ → List ℕ → Type 0
-LosesNoSection bytes former = (D : Doc) → doc_of bytes ≡ Ok D → KeepsFormer D former
-
--- Under each table before table t all trains have arrived after fewer moves than table t is due after.
-abbrev pub IsNeverDue : Doc → ℕ → Type 0
-IsNeverDue D t = (earlier : ℕ) → earlier < t → remaining (table_at D earlier) D.start < (doc_table D t).after
+-- Each remark says what is so, or is of members; and all that is so is said.
+abbrev pub AreRemarks : (Fact → Type 0) → List Remark → Type 0
+AreRemarks IsSo remarks = AreAll IsSo (facts_of remarks)

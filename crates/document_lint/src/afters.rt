@@ -1,47 +1,42 @@
 // Tables that are due after more moves than are ever made.
-ghost use Rattle.std.specs.Prelude.{ℕ, ◌<◌, ◌≤◌, length};
+ghost use Rattle.std.specs.Prelude.{ℕ, ◌<◌, ◌↔◌, length, IsTrue};
 ghost use Rattle.rail_model.specs.State.{remaining as moves_left};
-ghost use Rattle.document_json.specs.Doc.{table_at};
-ghost use Rattle.document_lint.specs.Told.{IsNeverDue, SaysOnlyWhere};
+ghost use Rattle.document_json.specs.Doc.{doc_table, table_at};
+ghost use Rattle.document_lint.specs.Adding.{Adds};
+ghost use Rattle.document_lint.specs.Facts.{Holds, IsNeverDue};
+ghost use Rattle.document_lint.specs.Kinds.{OfAfter};
 
-use crate::place::Object;
-use crate::remark::Remarks;
-use document_json::{Doc, after_of, start_of, table_of, tables_of};
+use crate::fact::Fact;
+use crate::found::Found;
+use document_json::{Doc, after_of, start_of, table_of};
 use legal_state::remaining;
 
-// The most moves that are made before all trains have arrived under a table before this one.
-fn most_moves(doc: &Doc, table: u32) -> u64
+// Whether under each table before this one all trains have arrived before it is due.
+fn comes_after_all(doc: &Doc, table: u32) -> bool
     requires { table < length doc.now.tables }
-    ensures { (earlier : ℕ) → earlier < table → moves_left (table_at doc.now earlier) doc.now.start ≤ result }
+    ensures { IsTrue result ↔ ((earlier : ℕ) → earlier < table → moves_left (table_at doc.now earlier) doc.now.start < (doc_table doc.now table).after) }
 {
-    let mut most: u64 = 0;
+    let after = u64::from(after_of(doc, table));
     for earlier in 0..table {
-        most = most.max(remaining(table_of(doc, earlier), start_of(doc)));
+        if after <= remaining(table_of(doc, earlier), start_of(doc)) {
+            return false;
+        }
     }
-    most
+    true
 }
 
-// Adds that a table is due only once all trains have arrived, if it is.
-fn add_after(remarks: &mut Remarks, doc: &Doc, table: u32)
+// Whether a table isn't the first, and comes after all moves.
+fn is_never_due(doc: &Doc, table: u32) -> bool
     requires { table < length doc.now.tables }
-    ensures { SaysOnlyWhere (IsNeverDue doc.now table) remarks.old remarks.new }
+    ensures { IsTrue result ↔ IsNeverDue doc.now table }
 {
-    let after = after_of(doc, table);
-    let moves = most_moves(doc, table);
-    if u64::from(after) <= moves {
-        return;
-    }
-    let written = write!(
-        remarks.words,
-        "{after} moves are never made: all trains have arrived after {moves} at most, and this table comes only then"
-    );
-    let table = table as usize;
-    remarks.add(Object::Table { table }.member("after"), written);
+    0 < table && comes_after_all(doc, table)
 }
 
-/// Adds which tables are due only once all trains have arrived.
-pub(crate) fn add_afters(remarks: &mut Remarks, doc: &Doc) {
-    for table in 1..tables_of(doc) {
-        add_after(remarks, doc, table);
-    }
+/// Finds that a table is due only once all trains have arrived, if it is.
+pub(crate) fn find_after(found: &mut Found, doc: &Doc, table: u32)
+    requires { table < length doc.now.tables }
+    ensures { Adds (Holds doc.now) (OfAfter doc.now table) found.old found.new }
+{
+    found.add_if(is_never_due(doc, table), Fact::NeverDue { table });
 }

@@ -96,7 +96,7 @@ pub fn is_overfull_at_end(table: &Table, section: u32) -> bool
 }
 
 // The point at which a train ends; none if it leaves the layout.
-fn end_of(table: &Table, train: u32) -> Option<u32>
+pub(crate) fn end_of(table: &Table, train: u32) -> Option<u32>
     requires { train < trains table.now }
     ensures { result ≡ end table.now train }
 {

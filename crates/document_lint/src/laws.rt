@@ -2,6 +2,9 @@
 ghost use Rattle.std.specs.Prelude.{◌≡◌, ◌≢◌, ◌<◌, ◌≤◌, ◌≤ℤ◌, ℕ, pos, List, length};
 ghost use Rattle.rail_model.specs.Table.{Table, IsTable, trains, last, limit, place, count};
 ghost use Rattle.rail_model.specs.State.{Legal, Arrived};
+ghost use Rattle.document_json.specs.Doc.{Doc};
+ghost use Rattle.document_lint.specs.Former.{HoldsSince, KeepsSections};
+ghost use Rattle.document_lint.specs.declared.fact.Fact.{Fact};
 ghost use Rattle.document_lint.specs.Sections.{NeverBinds, IsOverfullAtEnd, OverfillsAlone, EndTogether};
 
 /// A section that never binds is within its limit wherever the trains are: without it the same states are legal.
@@ -26,4 +29,9 @@ pub fn trains_that_overfill_at_the_end_never_all_arrive()
 pub fn trains_that_end_together_never_both_arrive()
     ensures { (T : Table) (i j : ℕ) (p : List ℕ) → i < trains T → j < trains T → i ≢ j → EndTogether T i j
         → Legal T p → place p i ≡ last T i → place p j ≡ last T j → ⊥ }
+{}
+
+/// A document after which no section of a former one is said to be gone has each of them in the table of the same number.
+pub fn documents_that_lose_nothing_keep_each_section()
+    ensures { (D F : Doc) → ((f : Fact) → HoldsSince D F f → ⊥) → KeepsSections D F }
 {}

@@ -1,13 +1,9 @@
-// Members that are ignored: of unknown names, of later versions, and given again.
-ghost use Rattle.std.specs.Prelude.{◌<◌};
-ghost use Rattle.document_lint.specs.Told.{SaysOnlyWhere};
-
+// Members that are ignored: of unknown names, of later versions, and given again; and numbers that look like shares.
+use crate::member::MemberFact;
 use crate::place::Object;
-use crate::remark::Remarks;
+use crate::shares::look_like_shares;
 use json::Value;
-use rail_model::is_name;
 use std::alloc::{AllocError, Global};
-use strsim::osa_distance;
 
 const DOCUMENT_MEMBERS: [&str; 7] = [
     "version", "points", "links", "zones", "trains", "start", "tables",
@@ -25,18 +21,20 @@ const TABLE_MEMBERS: [&str; 7] = [
 
 const SECTION_MEMBERS: [&str; 2] = ["limit", "changes"];
 
-// This many unknown members of one object are named, and this many characters of a name are shown.
+// This many unknown members of one object are named.
 const NAMED: usize = 8;
 
-const SHOWN: usize = 40;
+// More tables, sections or trains than these are refused.
+const MAX_TABLES: usize = 16;
 
-// More tables or sections than this are refused.
-pub(crate) const MAX_TABLES: usize = 16;
+const MAX_SECTIONS: usize = 64;
 
-pub(crate) const MAX_SECTIONS: usize = 64;
+const MAX_TRAINS: usize = 32;
 
-// The members of an object in the order of the text, with those that are given again; none of another value.
-fn members_of<'v, 'a>(value: &'v Value<'a>) -> &'v [(&'a str, Value<'a>)] {
+type Facts = Vec<MemberFact>;
+
+/// The members of an object in the order of the text, with those that are given again; none of another value.
+pub(crate) fn members_of<'v, 'a>(value: &'v Value<'a>) -> &'v [(&'a str, Value<'a>)] {
     match value {
         Value::Object(members) => members.as_slice(),
         _ => &[],
@@ -51,6 +49,15 @@ pub(crate) fn items_of<'v, 'a>(value: &'v Value<'a>) -> &'v [Value<'a>] {
     }
 }
 
+/// The names of the members that are read of an object.
+pub(crate) fn known_of(object: Object) -> &'static [&'static str] {
+    match object {
+        Object::Document => &DOCUMENT_MEMBERS,
+        Object::Table { .. } => &TABLE_MEMBERS,
+        Object::Section { .. } => &SECTION_MEMBERS,
+    }
+}
+
 // Whether a name is among these.
 fn is_known(known: &[&str], name: &str) -> bool {
     for candidate in known {
@@ -61,80 +68,31 @@ fn is_known(known: &[&str], name: &str) -> bool {
     false
 }
 
-// The known name that a name is like: at most one edit away for every three letters.
-fn nearest<'k>(
-    alloc: Global,
-    name: &str,
-    known: &[&'k str],
-) -> Result<Option<&'k str>, AllocError> {
-    let mut found = None;
-    let mut most = name.len() / 3;
-    if SHOWN < name.len() {
-        return Ok(None);
-    }
-    for candidate in known {
-        let edits = osa_distance(alloc, name, candidate)?;
-        if edits <= most {
-            most = edits.saturating_sub(1);
-            found = Some(*candidate);
-        }
-    }
-    Ok(found)
-}
-
-// Adds the name of a member, in quotes where it isn't a plain word.
-fn write_name(text: &mut String, name: &str) -> Result<(), AllocError> {
-    if is_name(name) {
-        return text.push_str(name);
-    }
-    let shown: String = name.chars().take(SHOWN).collect(*text.allocator())?;
-    write!(text, "{shown:?}")
-}
-
-// Adds that a member is unknown, and which known name its name is like.
-fn write_unknown(words: &mut String, name: &str, known: &[&str]) -> Result<(), AllocError> {
-    words.push_str("unknown, so it is ignored")?;
-    match nearest(*words.allocator(), name, known)? {
-        Some(meant) => write!(words, "; did you mean \"{meant}\"?"),
-        None => Ok(()),
-    }
-}
-
-// Adds that an object has a member of an unknown name.
-fn add_unknown(remarks: &mut Remarks, object: Object, name: &str, known: &[&str]) {
-    let written = object.write(&mut remarks.place);
-    remarks.note(written);
-    let written = write_name(&mut remarks.place, name);
-    remarks.note(written);
-    let written = write_unknown(&mut remarks.words, name, known);
-    remarks.note(written);
-    remarks.end();
-}
-
-// Adds which members of an object have unknown names.
-fn add_unknowns(remarks: &mut Remarks, object: Object, members: &[(&str, Value)], known: &[&str]) {
+// Finds which members of an object have unknown names.
+fn find_unknown(
+    facts: &mut Facts,
+    object: Object,
+    members: &[(&str, Value)],
+) -> Result<(), AllocError> {
     let mut count: usize = 0;
-    for member in members {
-        if !is_known(known, member.0) {
+    for number in 0..members.len() {
+        if !is_known(known_of(object), members[number].0) {
             count = count.saturating_add(1);
             if count <= NAMED {
-                add_unknown(remarks, object, member.0, known);
+                facts.push(MemberFact::Unknown { object, number })?;
             }
         }
     }
     if count <= NAMED {
-        return;
+        return Ok(());
     }
     let more = count - NAMED;
-    let written = write!(
-        remarks.words,
-        "{more} more unknown members, which are ignored too"
-    );
-    remarks.add(object.member("*"), written);
+    facts.push(MemberFact::MoreUnknown { object, more })?;
+    Ok(())
 }
 
-// How often an object has a member.
-fn times_given(members: &[(&str, Value)], name: &str) -> usize {
+/// How often an object has a member.
+pub(crate) fn times_given(members: &[(&str, Value)], name: &str) -> usize {
     let mut count: usize = 0;
     for member in members {
         if member.0 == name {
@@ -144,71 +102,76 @@ fn times_given(members: &[(&str, Value)], name: &str) -> usize {
     count
 }
 
-// Adds which known members an object has more than once.
-fn add_repeated(remarks: &mut Remarks, object: Object, members: &[(&str, Value)], known: &[&str]) {
-    for name in known {
-        let count = times_given(members, name);
-        if 1 < count {
-            let written = write!(remarks.words, "given {count} times; the last one counts");
-            remarks.add(object.member(name), written);
+// Finds which known members an object has more than once.
+fn find_repeated(
+    facts: &mut Facts,
+    object: Object,
+    members: &[(&str, Value)],
+) -> Result<(), AllocError> {
+    let names = known_of(object);
+    for known in 0..names.len() {
+        if 1 < times_given(members, names[known]) {
+            facts.push(MemberFact::Repeated { object, known })?;
         }
     }
+    Ok(())
 }
 
-// Adds which members of an object are unknown or repeated.
-fn add_of_object(remarks: &mut Remarks, object: Object, value: &Value, known: &[&str]) {
+// Finds which members of an object are unknown or repeated.
+fn find_of_object(facts: &mut Facts, object: Object, value: &Value) -> Result<(), AllocError> {
     let members = members_of(value);
-    add_unknowns(remarks, object, members, known);
-    add_repeated(remarks, object, members, known);
+    find_unknown(facts, object, members)?;
+    find_repeated(facts, object, members)
 }
 
-// Adds that a table has a member that only later versions have.
-fn add_later(
-    remarks: &mut Remarks,
-    object: Object,
+// Finds which members a table has that only later versions read.
+fn find_later(
+    facts: &mut Facts,
+    number: usize,
     table: &Value,
-    member: &str,
     version: u64,
-    since: u64,
-)
-    ensures { SaysOnlyWhere (version < since) remarks.old remarks.new }
-{
-    if since <= version || table.get(member).is_none() {
-        return;
+) -> Result<(), AllocError> {
+    if version < 2 && table.get("exits").is_some() {
+        facts.push(MemberFact::ExitsIgnored { table: number })?;
     }
-    let written = write!(
-        remarks.words,
-        "ignored in version {version}; it counts from version {since} on"
-    );
-    remarks.add(object.member(member), written);
+    if version < 3 && table.get("connections").is_some() {
+        facts.push(MemberFact::ConnectionsIgnored { table: number })?;
+    }
+    Ok(())
 }
 
-// Adds what is said of the members of a table's sections.
-fn add_of_sections(remarks: &mut Remarks, table: usize, sections: &Value) {
+// Finds what is to be said of the members of a table's sections.
+fn find_of_sections(facts: &mut Facts, table: usize, sections: &Value) -> Result<(), AllocError> {
     let sections = items_of(sections);
     for section in 0..sections.len().min(MAX_SECTIONS) {
         let object = Object::Section { table, section };
-        add_of_object(remarks, object, &sections[section], &SECTION_MEMBERS);
+        find_of_object(facts, object, &sections[section])?;
+    }
+    Ok(())
+}
+
+// Finds what is to be said of the members of a table and of its sections.
+fn find_of_table(
+    facts: &mut Facts,
+    number: usize,
+    table: &Value,
+    version: u64,
+) -> Result<(), AllocError> {
+    find_of_object(facts, Object::Table { table: number }, table)?;
+    find_later(facts, number, table, version)?;
+    match table.get("sections") {
+        Some(sections) => find_of_sections(facts, number, sections),
+        None => Ok(()),
     }
 }
 
-// Adds what is said of the members of a table and of its sections.
-fn add_of_table(remarks: &mut Remarks, number: usize, table: &Value, version: u64) {
-    let object = Object::Table { table: number };
-    add_of_object(remarks, object, table, &TABLE_MEMBERS);
-    add_later(remarks, object, table, "exits", version, 2);
-    add_later(remarks, object, table, "connections", version, 3);
-    if let Some(sections) = table.get("sections") {
-        add_of_sections(remarks, number, sections);
-    }
-}
-
-// Adds what is said of the members of the tables.
-fn add_of_tables(remarks: &mut Remarks, tables: &Value, version: u64) {
+// Finds what is to be said of the members of the tables.
+fn find_of_tables(facts: &mut Facts, tables: &Value, version: u64) -> Result<(), AllocError> {
     let tables = items_of(tables);
     for number in 0..tables.len().min(MAX_TABLES) {
-        add_of_table(remarks, number, &tables[number], version);
+        find_of_table(facts, number, &tables[number], version)?;
     }
+    Ok(())
 }
 
 /// The version that a document says it has; 3, the last one, if it says none.
@@ -219,10 +182,103 @@ pub(crate) fn version_of(document: &Value) -> u64 {
     }
 }
 
-/// Adds what is said of the members of a document, of its tables and of their sections.
-pub(crate) fn add_of_document(remarks: &mut Remarks, document: &Value) {
-    add_of_object(remarks, Object::Document, document, &DOCUMENT_MEMBERS);
-    if let Some(tables) = document.get("tables") {
-        add_of_tables(remarks, tables, version_of(document));
+// Finds what is to be said of the members of a document, of its tables and of their sections.
+fn find_of_document(facts: &mut Facts, document: &Value) -> Result<(), AllocError> {
+    find_of_object(facts, Object::Document, document)?;
+    match document.get("tables") {
+        Some(tables) => find_of_tables(facts, tables, version_of(document)),
+        None => Ok(()),
     }
+}
+
+/// The changes that an array has; none, if something else is among its items.
+pub(crate) fn changes_in(alloc: Global, value: &Value) -> Result<Option<Vec<i32>>, AllocError> {
+    let mut changes = Vec::new(alloc);
+    for item in items_of(value) {
+        let Some(number) = item.as_i64() else {
+            return Ok(None);
+        };
+        let Ok(change) = i32::try_from(number) else {
+            return Ok(None);
+        };
+        changes.push(change)?;
+    }
+    Ok(Some(changes))
+}
+
+// Whether the items of an array look like shares.
+fn are_suspect(alloc: Global, value: &Value, version: u64) -> Result<bool, AllocError> {
+    match changes_in(alloc, value)? {
+        Some(numbers) => Ok(look_like_shares(&numbers, version)),
+        None => Ok(false),
+    }
+}
+
+// Finds which trains' changes of a section look like shares.
+fn find_suspects_of_section(
+    facts: &mut Facts,
+    table: usize,
+    section: usize,
+    value: &Value,
+    version: u64,
+) -> Result<(), AllocError> {
+    let alloc = *facts.allocator();
+    let Some(changes) = value.get("changes") else {
+        return Ok(());
+    };
+    let trains = items_of(changes);
+    for train in 0..trains.len().min(MAX_TRAINS) {
+        if are_suspect(alloc, &trains[train], version)? {
+            facts.push(MemberFact::MayBeShares {
+                table,
+                section,
+                train,
+            })?;
+        }
+    }
+    Ok(())
+}
+
+// Finds which changes of a table's sections look like shares.
+fn find_suspects_of_table(
+    facts: &mut Facts,
+    table: usize,
+    value: &Value,
+    version: u64,
+) -> Result<(), AllocError> {
+    let Some(sections) = value.get("sections") else {
+        return Ok(());
+    };
+    let sections = items_of(sections);
+    for section in 0..sections.len().min(MAX_SECTIONS) {
+        find_suspects_of_section(facts, table, section, &sections[section], version)?;
+    }
+    Ok(())
+}
+
+// Finds which changes of a document look like shares.
+fn find_suspects(facts: &mut Facts, document: &Value) -> Result<(), AllocError> {
+    let version = version_of(document);
+    let Some(tables) = document.get("tables") else {
+        return Ok(());
+    };
+    let tables = items_of(tables);
+    for table in 0..tables.len().min(MAX_TABLES) {
+        find_suspects_of_table(facts, table, &tables[table], version)?;
+    }
+    Ok(())
+}
+
+/// What is to be said of the members of a document, and, if this is asked for, which of its changes look like shares.
+pub(crate) fn member_facts(
+    alloc: Global,
+    document: &Value,
+    with_suspects: bool,
+) -> Result<Vec<MemberFact>, AllocError> {
+    let mut facts = Vec::new(alloc);
+    find_of_document(&mut facts, document)?;
+    if with_suspects {
+        find_suspects(&mut facts, document)?;
+    }
+    Ok(facts)
 }

@@ -3,7 +3,7 @@ use std::alloc::AllocError;
 
 /// An object of a document: the whole of it, a table, or a section of a table.
 #[derive(Clone, Copy)]
-pub(crate) enum Object {
+pub enum Object {
     Document,
     Table { table: usize },
     Section { table: usize, section: usize },

@@ -1,112 +1,101 @@
 // Shares that are written where changes are wanted.
-use crate::members::{MAX_SECTIONS, MAX_TABLES, items_of, version_of};
-use crate::place::Object;
-use crate::remark::Remarks;
-use json::Value;
-use std::alloc::{AllocError, Global};
+ghost use Rattle.std.specs.Prelude.{◌≡◌, ◌<◌, ◌≤ℤ◌, ◌<ℤ◌, ◌↔◌, ℕ, pos, length, slice_index_or, IsTrue};
+ghost use Rattle.document_lint.specs.Adding.{Adds};
+ghost use Rattle.document_lint.specs.Counting.{Counts};
+ghost use Rattle.document_lint.specs.Facts.{AreLikeShares, AreShares, AreWithin, EndsAtNothing, Holds, IsShareOf, RiseOften, Rises, changes_of as changes, greatest_in};
+ghost use Rattle.rail_model.specs.Table.{trains};
+ghost use Rattle.document_lint.specs.Kinds.{OfShares};
 
-// More trains than this are refused, and no train has more places.
-const MAX_TRAINS: usize = 32;
+use crate::fact::Fact;
+use crate::found::Found;
+use document_json::{Doc, table_of, version};
+use rail_model::Table;
 
+// No train has more places.
 const MAX_PLACES: usize = 129;
 
-/// The greatest share in a version.
-pub(crate) fn most_share(version: u64) -> i32 {
+// The greatest share in a version.
+fn most_share(version: u64) -> i32
+    ensures { result ≡ greatest_in version }
+{
     if version == 1 { 1 } else { 4 }
 }
 
-/// Whether the numbers of a train can be shares, each up to `most`, and are unlikely changes: several rise, and none falls.
-pub(crate) fn look_like_shares(numbers: &[i32], most: i32) -> bool {
-    let mut rises: usize = 0;
-    for number in numbers {
-        if *number < 0 || most < *number {
+// Whether all numbers can be shares, none above the greatest one in a version.
+fn are_within(numbers: &[i32], version: u64) -> bool
+    ensures { IsTrue result ↔ AreWithin (greatest_in version) numbers.now }
+{
+    let most = most_share(version);
+    for place in 0..numbers.len() {
+        if numbers[place] < 0 || most < numbers[place] {
             return false;
         }
-        if 0 < *number {
-            rises = rises.saturating_add(1);
+    }
+    true
+}
+
+// How many numbers are above 0.
+fn count_rises(numbers: &[i32]) -> usize
+    ensures { Counts (Rises numbers.now) (length numbers.now) result }
+{
+    let mut rises: usize = 0;
+    for place in 0..numbers.len() {
+        if 0 < numbers[place] {
+            rises += 1;
         }
     }
-    1 < rises && numbers.len() <= MAX_PLACES
+    rises
 }
 
-// Adds the changes that make these shares, as a document has them.
-fn write_changes(text: &mut String, shares: &[i32]) -> Result<(), AllocError> {
-    text.push_str("[")?;
-    let mut before: i32 = 0;
-    let mut comma = "";
-    for share in shares {
-        let change = share.saturating_sub(before);
-        write!(text, "{comma}{change}")?;
-        before = *share;
-        comma = ",";
-    }
-    text.push_str("]")
+// Whether several numbers are above 0.
+fn rises_often(numbers: &[i32]) -> bool
+    ensures { IsTrue result ↔ RiseOften numbers.now }
+{
+    1 < count_rises(numbers)
 }
 
-/// Adds that a train's numbers in a section look like shares.
-pub(crate) fn add_shares(remarks: &mut Remarks, section: Object, train: usize, numbers: &[i32]) {
-    remarks.say("these look like shares; changes say how much the share rises at each place: ");
-    let written = write_changes(&mut remarks.words, numbers);
-    remarks.add(section.item("changes", train), written);
+/// Whether the numbers of a train can be shares in a version, and are unlikely changes: several rise, and none falls.
+pub(crate) fn look_like_shares(numbers: &[i32], version: u64) -> bool
+    ensures { IsTrue result ↔ AreLikeShares (greatest_in version) numbers.now }
+{
+    are_within(numbers, version) && rises_often(numbers) && numbers.len() <= MAX_PLACES
 }
 
-// The changes that an array has; none, if something else is among its items.
-fn changes_of(alloc: Global, value: &Value) -> Result<Option<Vec<i32>>, AllocError> {
-    let mut changes = Vec::new(alloc);
-    for item in items_of(value) {
-        let Some(number) = item.as_i64() else {
-            return Ok(None);
-        };
-        let Ok(change) = i32::try_from(number) else {
-            return Ok(None);
-        };
-        changes.push(change)?;
-    }
-    Ok(Some(changes))
+// Whether the last number is 0.
+fn ends_at_nothing(numbers: &[i32]) -> bool
+    ensures { IsTrue result ↔ EndsAtNothing numbers.now }
+{
+    !numbers.is_empty() && numbers[numbers.len() - 1] == 0
 }
 
-// Adds that a train's numbers in a section look like shares, if they do.
-fn add_suspect(remarks: &mut Remarks, section: Object, train: usize, value: &Value, most: i32) {
-    match changes_of(remarks.alloc(), value) {
-        Ok(Some(numbers)) => if look_like_shares(&numbers, most) {
-            add_shares(remarks, section, train, &numbers);
+// Whether numbers look like shares, and end as at a place without a share.
+fn are_shares(numbers: &[i32], version: u64) -> bool
+    ensures { IsTrue result ↔ AreShares (greatest_in version) numbers.now }
+{
+    ends_at_nothing(numbers) && look_like_shares(numbers, version)
+}
+
+// A train's changes of a section.
+fn changes_of(table: &Table, section: u32, train: u32) -> &[i32]
+    requires section { section < length table.now.sections }
+    requires train { train < trains table.now }
+    ensures { result.now ≡ changes table.now section train }
+{
+    table.sections()[section as usize].changes(train).as_slice()
+}
+
+/// Finds that the changes of a train in a section look like shares, which end as at a place without a share, if they do.
+pub(crate) fn find_shares(found: &mut Found, doc: &Doc, table: u32, section: u32, train: u32)
+    requires { IsShareOf doc.now table section train }
+    ensures { Adds (Holds doc.now) (OfShares doc.now table section train) found.old found.new }
+{
+    let numbers = changes_of(table_of(doc, table), section, train);
+    found.add_if(
+        are_shares(numbers, u64::from(version(doc))),
+        Fact::LikeShares {
+            table,
+            section,
+            train,
         },
-        Ok(None) => {}
-        Err(_) => remarks.note_no_memory(),
-    }
-}
-
-// Adds which trains' changes of a section look like shares.
-fn add_suspects_of_section(remarks: &mut Remarks, section: Object, value: &Value, most: i32) {
-    let Some(changes) = value.get("changes") else {
-        return;
-    };
-    let trains = items_of(changes);
-    for train in 0..trains.len().min(MAX_TRAINS) {
-        add_suspect(remarks, section, train, &trains[train], most);
-    }
-}
-
-// Adds which changes of a table's sections look like shares.
-fn add_suspects_of_table(remarks: &mut Remarks, table: usize, value: &Value, most: i32) {
-    let Some(sections) = value.get("sections") else {
-        return;
-    };
-    let sections = items_of(sections);
-    for section in 0..sections.len().min(MAX_SECTIONS) {
-        let object = Object::Section { table, section };
-        add_suspects_of_section(remarks, object, &sections[section], most);
-    }
-}
-
-/// Adds which changes of a document look like shares.
-pub(crate) fn add_suspects(remarks: &mut Remarks, document: &Value) {
-    let most = most_share(version_of(document));
-    let Some(tables) = document.get("tables") else {
-        return;
-    };
-    let tables = items_of(tables);
-    for table in 0..tables.len().min(MAX_TABLES) {
-        add_suspects_of_table(remarks, table, &tables[table], most);
-    }
+    );
 }

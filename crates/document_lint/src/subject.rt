@@ -1,33 +1,28 @@
 // A table of a document, and what its trains and points are called.
-ghost use Rattle.std.specs.Prelude.{◌≡◌, ◌<◌, length};
+ghost use Rattle.std.specs.Prelude.{◌<◌, ◌↔◌, IsTrue};
 ghost use Rattle.rail_model.specs.Table.{trains};
-ghost use Rattle.document_json.specs.Doc.{table_at};
 
-use crate::place::{Object, Place};
-use document_json::{Doc, layout_of, names_of, table_of};
-use rail_model::{Layout, Names, Table, point_of};
+use document_json::{Doc, layout_of, names_of, table_of, tables_of};
+use rail_model::{Layout, Names, Table, point_of, trains_of};
 
-/// A table of a document by its number, with the names of the trains and of the points.
+/// A table of a document, with the names of the trains and of the points.
 #[derive(Clone, Copy)]
 pub(crate) struct Subject<'a> {
-    pub names: &'a Names,
-    pub layout: &'a Layout,
+    names: &'a Names,
+    layout: &'a Layout,
     pub table: &'a Table,
-    pub number: u32,
 }
 
-/// A table of a document.
-pub(crate) fn subject_of(doc: &Doc, table: u32) -> Subject<'_>
-    requires { table < length doc.now.tables }
-    ensures table { result.table.now ≡ table_at doc.now table }
-    ensures number { result.number ≡ table }
-{
-    Subject {
+/// A table of a document, if it is there.
+pub(crate) fn subject_of(doc: &Doc, table: u32) -> Option<Subject<'_>> {
+    if tables_of(doc) <= table {
+        return None;
+    }
+    Some(Subject {
         names: names_of(doc),
         layout: layout_of(doc),
         table: table_of(doc, table),
-        number: table,
-    }
+    })
 }
 
 /// The name of a point.
@@ -48,6 +43,13 @@ impl<'a> Subject<'a> {
         }
     }
 
+    /// Whether the table has a train.
+    pub(crate) fn has_train(&self, train: u32) -> bool
+        ensures { IsTrue result ↔ (train < trains self.now.table.now) }
+    {
+        train < trains_of(self.table)
+    }
+
     /// Where a train is at a place: its point's name, or that it has left the layout.
     pub(crate) fn point(&self, train: u32, place: u32) -> &'a str
         requires { train < trains self.now.table.now }
@@ -56,24 +58,5 @@ impl<'a> Subject<'a> {
             Some(point) => point_name(self.layout, point),
             None => "its exit",
         }
-    }
-
-    /// The place of an item of a list of the table.
-    pub(crate) fn item<'b>(&self, list: &'b str, number: usize) -> Place<'b> {
-        let table = self.number as usize;
-        Object::Table { table }.item(list, number)
-    }
-
-    /// A section of the table.
-    pub(crate) fn section(&self, section: u32) -> Object {
-        Object::Section {
-            table: self.number as usize,
-            section: section as usize,
-        }
-    }
-
-    /// The place of a section in the document.
-    pub(crate) fn section_place(&self, section: u32) -> Place<'_> {
-        self.item("sections", section as usize)
     }
 }

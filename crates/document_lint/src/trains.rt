@@ -1,18 +1,23 @@
 // Trains that can't both arrive, and connections that hold nobody.
-ghost use Rattle.std.specs.Prelude.{◌<◌, ◌↔◌, IfSome, IsTrue};
+ghost use Rattle.std.specs.Prelude.{◌≡◌, ◌<◌, ◌↔◌, length, MatchOption, IsTrue, ℕ};
 ghost use Rattle.rail_model.specs.Table.{trains};
+ghost use Rattle.document_lint.specs.Adding.{Adds};
+ghost use Rattle.document_lint.specs.Counting.{IsFirst};
+ghost use Rattle.document_lint.specs.Facts.{Holds, IsConnectionOf, IsMet, IsPassed, IsTrainOf, StartsFrom, StartsPast, connection as connection_of};
+ghost use Rattle.document_lint.specs.Kinds.{OfConnection, OfTrain};
 ghost use Rattle.document_lint.specs.Sections.{EndTogether};
-ghost use Rattle.document_lint.specs.Told.{EndsAsEarlier, HoldsNobody, SaysOnlyWhere, StartsFrom, StartsPast};
 
 use crate::exact::end_together;
-use crate::remark::Remarks;
-use crate::subject::Subject;
-use rail_model::{Connection, Table, last_of, trains_of};
+use crate::fact::Fact;
+use crate::found::Found;
+use document_json::{Doc, start_of, table_of};
+use rail_model::{Connection, Table};
 
 // The first train before another one that ends where it ends.
 fn first_partner(table: &Table, train: u32) -> Option<u32>
     requires { train < trains table.now }
-    ensures { IfSome result (λ first. (first < train) × EndTogether table.now first train) }
+    ensures { MatchOption result ((j : ℕ) → j < train → EndTogether table.now j train → ⊥)
+        (λ first. IsFirst (λ j. EndTogether table.now j train) train first) }
 {
     for first in 0..train {
         if end_together(table, first, train) {
@@ -22,28 +27,21 @@ fn first_partner(table: &Table, train: u32) -> Option<u32>
     None
 }
 
-// Adds that a train ends where an earlier one ends, if it does.
-fn add_train(remarks: &mut Remarks, subject: &Subject, train: u32)
-    requires { train < trains subject.now.table.now }
-    ensures { SaysOnlyWhere (EndsAsEarlier subject.now.table.now train) remarks.old remarks.new }
+/// Finds that a train ends where an earlier one ends, if it does.
+pub(crate) fn find_end(found: &mut Found, doc: &Doc, table: u32, train: u32)
+    requires { IsTrainOf doc.now table train }
+    ensures { Adds (Holds doc.now) (OfTrain doc.now table train) found.old found.new }
 {
-    let Some(first) = first_partner(subject.table, train) else {
-        return;
-    };
-    let point = subject.point(train, last_of(subject.table, train));
-    let name = subject.train(train);
-    let other = subject.train(first);
-    let written = write!(
-        remarks.words,
-        "{name} ends at {point}, as {other} does, and neither leaves the layout: they can never both arrive"
-    );
-    remarks.add(subject.item("missions", train as usize), written);
-}
-
-/// Adds which trains of a table can't both arrive.
-pub(crate) fn add_trains(remarks: &mut Remarks, subject: &Subject) {
-    for train in 0..trains_of(subject.table) {
-        add_train(remarks, subject, train);
+    match first_partner(table_of(doc, table), train) {
+        Some(earlier) => found.add_if(
+            true,
+            Fact::EndsAsEarlier {
+                table,
+                train,
+                earlier,
+            },
+        ),
+        None => {}
     }
 }
 
@@ -67,39 +65,45 @@ fn starts_past(start: &[u32], train: u32, place: u32) -> bool
     }
 }
 
-// Adds that a connection holds nobody, if it is met or passed at the start.
-fn add_connection(
-    remarks: &mut Remarks,
-    subject: &Subject,
-    start: &[u32],
-    number: usize,
-    connection: &Connection,
-)
-    ensures { SaysOnlyWhere (HoldsNobody start.now connection.now) remarks.old remarks.new }
+// Whether a connection is met at the start.
+fn is_met(start: &[u32], connection: &Connection) -> bool
+    ensures { IsTrue result ↔ IsMet start.now connection.now }
 {
-    let train = subject.train(connection.train());
-    let other = subject.train(connection.other());
-    let reached = connection.reached();
-    let left = connection.place();
-    let written = if starts_from(start, connection.other(), reached) {
-        write!(
-            remarks.words,
-            "never holds {train}: {other} has already reached place {reached} of its mission at the start"
-        )
-    } else if starts_past(start, connection.train(), left) {
-        write!(
-            remarks.words,
-            "never holds {train}, which starts past place {left} of its mission"
-        )
-    } else {
-        return;
-    };
-    remarks.add(subject.item("connections", number), written);
+    starts_from(start, connection.other(), connection.reached())
 }
 
-/// Adds which connections of a table hold nobody.
-pub(crate) fn add_connections(remarks: &mut Remarks, subject: &Subject, start: &[u32]) {
-    for (number, connection) in subject.table.connections().iter().enumerate() {
-        add_connection(remarks, subject, start, number, connection);
-    }
+// Whether a connection isn't met at the start, but passed.
+fn is_passed(start: &[u32], connection: &Connection) -> bool
+    ensures { IsTrue result ↔ IsPassed start.now connection.now }
+{
+    !is_met(start, connection) && starts_past(start, connection.train(), connection.place())
+}
+
+// A connection of a table.
+fn connection_at(table: &Table, connection: u32) -> &Connection
+    requires { connection < length table.now.connections }
+    ensures { result.now ≡ connection_of table.now connection }
+{
+    &table.connections()[connection as usize]
+}
+
+// The positions of the trains at the start.
+fn starts_of(doc: &Doc) -> &[u32]
+    ensures { result.now ≡ doc.now.start }
+{
+    start_of(doc).as_slice()
+}
+
+/// Finds that a connection holds nobody, if it is met or passed at the start.
+pub(crate) fn find_connection(found: &mut Found, doc: &Doc, table: u32, connection: u32)
+    requires { IsConnectionOf doc.now table connection }
+    ensures { Adds (Holds doc.now) (OfConnection doc.now table connection) found.old found.new }
+{
+    let start = starts_of(doc);
+    let at = connection_at(table_of(doc, table), connection);
+    found.add_if(is_met(start, at), Fact::ConnectionMet { table, connection });
+    found.add_if(
+        is_passed(start, at),
+        Fact::ConnectionPassed { table, connection },
+    );
 }

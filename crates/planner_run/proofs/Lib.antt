@@ -1,5 +1,6 @@
 mod Certified
 mod Protected
+mod Remarked
 mod Standing
 mod Suits
 mod Weaker

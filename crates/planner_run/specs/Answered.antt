@@ -1,5 +1,5 @@
 -- What the answers to orders are.
-use Rattle.std.specs.Prelude.{◌≡◌, ◌⊎◌, ℕ, ◌++◌, Bool, true, false, List, [], Ok, Option, Some, None, String, Vec, IfSome, IsTrue, string_bytes}
+use Rattle.std.specs.Prelude.{◌≡◌, ◌≢◌, ◌⊎◌, ℕ, ◌++◌, Bool, true, false, List, [], Ok, Option, Some, None, String, Vec, IfSome, IsTrue, string_bytes}
 use Rattle.std.specs.declared.alloc.Global.{Global}
 use Rattle.ats_io.specs.Bytes.{AddsPrefix}
 use Rattle.decimal_number.specs.Decimal.{number_of}
@@ -26,7 +26,10 @@ use Rattle.timed_reading.specs.Reads.{IsInputOf}
 use Rattle.rail_model.specs.Layout.{Layout as LayoutValue}
 use Rattle.train_graph.specs.Graph.{IsGraph}
 use Rattle.layout_picture.specs.Drawn.{IsDrawn}
-use Rattle.document_lint.specs.Told.{LosesNoSection}
+use Rattle.document_lint.specs.Adding.{Or}
+use Rattle.document_lint.specs.Told.{AreRemarks, HoldsAfter, HoldsOf}
+use Rattle.document_lint.specs.declared.fact.Fact.{Fact}
+use Rattle.document_lint.specs.declared.remark.Remark.{Remark}
 use Rattle.svg_text.specs.Tree.{Picture}
 use Rattle.svg_text.specs.Text.{svg_text}
 use Rattle.planner_words.specs.declared.orders.Order.{Order}
@@ -146,14 +149,14 @@ pub record IsLayoutText (input : List ℕ) (names : List (Vec (String Global) Gl
   pub is_table : number_of table_words ≡ Some table
   pub is_layout : IsLayoutOf document names table asked text
 
--- No section of the former document is gone, if there is a former one.
-abbrev pub LosesNone : Option (Bor (List ℕ)) → List ℕ → Type 0
-LosesNone None input = Unit {0}
-LosesNone (Some former) input = LosesNoSection input former.now
+-- What is so of the input, and of it after the former document, if there is one.
+abbrev pub IsSoOf : Option (Bor (List ℕ)) → List ℕ → Fact → Type 0
+IsSoOf None input = HoldsOf input
+IsSoOf (Some former) input = Or (HoldsOf input) (HoldsAfter input former.now)
 
--- The input is a document, and loses no section of the former one.
+-- No fact is so that a remark tells: the input is a document without one, and no section of the former document is gone.
 abbrev pub NeedsNoRemark : Option (Bor (List ℕ)) → List ℕ → Type 0
-NeedsNoRemark former input = ReadsAsDocument input × LosesNone former input
+NeedsNoRemark former input = ReadsAsDocument input × ((f : Fact) → IsSoOf former input f → ⊥)
 
 -- There are no remarks on the input: the text has nothing.
 abbrev pub HasNoRemarks : Option (Bor (List ℕ)) → List ℕ → List ℕ → Type 0
@@ -337,10 +340,16 @@ IsOrderingByRun input (Remarks lines) = ⊥
 IsOrderingByRun input (Noted text lines) = IsInputByRun input text.items
 IsOrderingByRun input (Wrong lines) = Unit {0}
 
--- The answer is remarks, or an empty text where there are none.
+-- Some remarks are right for the input, and tell all that is so of it.
+pub record IsRemarked (former : Option (Bor (List ℕ))) (input : List ℕ) : Type 0 where
+  pub remarks : List Remark
+  pub are_right : AreRemarks (IsSoOf former input) remarks
+  pub some : remarks ≢ []
+
+-- The answer is remarks that are right and all there are, or an empty text where there are none.
 abbrev pub IsLinted : Option (Bor (List ℕ)) → List ℕ → Answer → Type 0
 IsLinted former input (Text text) = HasNoRemarks former input text.items
-IsLinted former input (Remarks lines) = Unit {0}
+IsLinted former input (Remarks lines) = IsRemarked former input
 IsLinted former input (Noted text lines) = ⊥
 IsLinted former input (Wrong lines) = ⊥
 

@@ -81,7 +81,7 @@ fn answer_for<W: Watcher>(
             alloc, document, names, table, at, *run,
         ),
         Order::ExplainLine { line, .. } => explain_line(alloc, document, names, line),
-        Order::Lint { .. } => remarks(alloc, document, former),
+        Order::Lint { .. } => remarks(alloc, document, names, former),
         Order::Certify { budget, effort } => certify(alloc, document, *budget, *effort, watcher),
         Order::Protect {
             budget,

@@ -1,22 +1,24 @@
 // Remarks on documents.
-ghost use Rattle.std.specs.Prelude.{◌≡◌, [], IfOk};
-ghost use Rattle.planner_run.specs.Answered.{IsLinted, NeedsNoRemark};
+ghost use Rattle.std.specs.Prelude.{IfOk};
+ghost use Rattle.document_lint.specs.Told.{AreRemarks};
+ghost use Rattle.planner_run.specs.Answered.{IsLinted, IsSoOf};
 
 use crate::Answer;
 use document_lint::{Remark, lint, lint_after};
 use std::alloc::{AllocError, Global};
 
-// The remarks on a document, compared with a former one, if there is one.
+// The remarks on a document, whose sections have these names, compared with a former one, if there is one.
 fn found_in(
     alloc: Global,
     document: &[u8],
+    names: &[Vec<String>],
     former: Option<&[u8]>,
 ) -> Result<Vec<Remark>, AllocError>
-    ensures { IfOk result (λ remarks. remarks.items ≡ [] → NeedsNoRemark former.entry document.now) }
+    ensures { IfOk result (λ remarks. AreRemarks (IsSoOf former.entry document.now) remarks.items) }
 {
     match former {
-        Some(former) => lint_after(alloc, document, former),
-        None => lint(alloc, document),
+        Some(former) => lint_after(alloc, document, names, former),
+        None => lint(alloc, document, names),
     }
 }
 
@@ -24,11 +26,12 @@ fn found_in(
 pub(crate) fn remarks(
     alloc: Global,
     document: &[u8],
+    names: &[Vec<String>],
     former: Option<&[u8]>,
 ) -> Result<Answer, AllocError>
     ensures { IfOk result (IsLinted former.entry document.now) }
 {
-    let found = found_in(alloc, document, former)?;
+    let found = found_in(alloc, document, names, former)?;
     if found.is_empty() {
         return Ok(Answer::Text(Vec::new(alloc)));
     }

@@ -1,0 +1,12 @@
+use Rattle.std.proofs.Common.{refl}
+use Rattle.document_lint.proofs.Adding.{fewer, one}
+use Rattle.document_lint.proofs.Tests.{always}
+use Rattle.document_lint.specs.Adding.{Is, Nothing}
+use Rattle.document_lint.specs.Told.{IsOfMembers}
+use Rattle.document_lint.specs.declared.fact.Fact.TheVariants.{Member}
+use Rattle.document_lint.proofs.reading.add_member.Goals as goal
+
+pub returns : goal.returns
+returns c =
+    let fact = Member c.args.what in
+    fewer IsOfMembers (Is IsOfMembers fact) Nothing _ _ (λ f is. absurd is) (one IsOfMembers _ fact _ _ (always (IsOfMembers fact) (c.args.what, refl)) c.add_if.ensures)
