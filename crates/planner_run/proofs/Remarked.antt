@@ -1,11 +1,11 @@
 -- What it means that there is no remark.
-use Rattle.std.proofs.Common.{◌≡◌, ◌<◌, ℕ, List, [], Option, Some, None, inl, refl, ap, arith}
-use Rattle.std.specs.Prelude.{Result, Ok, Err, MatchResult, Contains, length}
+use Rattle.std.proofs.Common.{◌≡◌, ℕ, List, [], Option, Some, None, inl, refl, ap, arith}
+use Rattle.std.specs.Prelude.{Result, Ok, Err, MatchResult, length}
 use Rattle.document_json.specs.Doc.{Doc}
 use Rattle.document_json.specs.Reading.{doc_of}
 use Rattle.document_json.specs.declared.refused.DocRefused.{DocRefused}
 use Rattle.document_lint.specs.Facts.{Holds}
-use Rattle.document_lint.specs.Told.{AreRemarks, HoldsOf, facts_of}
+use Rattle.document_lint.specs.Told.{AreRemarks, facts_of}
 use Rattle.document_lint.specs.declared.fact.Fact.{Fact}
 use Rattle.document_lint.specs.declared.fact.Fact.TheVariants.{Refused}
 use Rattle.document_lint.specs.declared.remark.Remark.{Remark}
