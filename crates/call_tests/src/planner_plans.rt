@@ -6,6 +6,49 @@ use std::alloc::{AllocError, Global};
 pub(crate) const PLANS: &str = r##"plan
 [[train]]
 name = "T0"
+route = ["A", "X", "B"]
+
+[[train]]
+name = "T1"
+route = ["C", "Y", "D"]
+
+[[crossing]]
+name = "flat"
+ways = { east = ["A", "X", "B"], north = ["C", "Y", "D"] }
+----
+{"links":[["A","X"],["X","B"],["C","Y"],["Y","D"]],"points":[["A",0],["X",0],["B",0],["C",0],["Y",0],["D",0]],"start":[0,0],"tables":[{"after":0,"certificate":[],"connections":[],"exits":[false,false],"missions":[["A","X","B"],["C","Y","D"]],"sections":[{"changes":[[0,1,-1],[0,1,-1]],"limit":1}],"times":[[1,1],[1,1]]}],"trains":["T0","T1"],"version":3,"zones":1}
+====
+plan
+[[train]]
+name = "T0"
+route = ["A", "Main", "B"]
+
+[[crossing]]
+name = "flat"
+ways = { east = ["A", "Mian", "B"], north = ["A", "Main", "B"] }
+parallel = [["east", "nroth"]]
+----
+line 7: crossing "flat": no point "Mian"; did you mean "Main"?
+line 8: crossing "flat": no way "nroth"; did you mean "north"?
+====
+plan
+[[train]]
+name = "T0"
+route = ["A", "Main", "B"]
+
+[[train]]
+name = "T1"
+route = ["C", "Main", "D"]
+
+[[crossing]]
+name = "flat"
+ways = { east = ["A", "Main", "B"] }
+----
+line 9: crossing "flat": train "T1" comes to "Main" by no way of it
+====
+plan
+[[train]]
+name = "T0"
 route = ["A", "M", "B", "M", "C"]
 
 [[train]]

@@ -6,7 +6,7 @@ use Rattle.document_json.specs.Reading.{doc_of}
 use Rattle.document_shapes.specs.Written.{text_of}
 use Rattle.plan_document.specs.Written.{document_of}
 use Rattle.plan_document.specs.declared.plan.Plan.{Plan}
-use Rattle.plan_reading.specs.Said.{IsPlanRead}
+use Rattle.plan_crossed.specs.Read.{IsCrossedRead}
 use Rattle.plan_reading.specs.declared.reading.PlanRead.TheVariants.{Plan as AsPlan}
 use Rattle.timed_reading.specs.Reads.{mark}
 use Rattle.plan_input.specs.Named.{AreNames}
@@ -22,7 +22,7 @@ ReadsAsDocument text = (document : Doc) × (doc_of text ≡ Ok document)
 -- The input is a plan, whose document the text is, and it reads as one.
 pub record IsPlanned (input text : List ℕ) : Type 0 where
   pub plan : Plan
-  pub is_plan : IsPlanRead input (AsPlan plan)
+  pub is_plan : IsCrossedRead input (AsPlan plan)
   pub is_text : text ≡ text_of (document_of plan)
   pub is_document : ReadsAsDocument text
 

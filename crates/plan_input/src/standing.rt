@@ -1,13 +1,14 @@
 // What stands for a document in an input.
 ghost use Rattle.std.specs.Prelude.{◌≡◌, ◌++◌, IfOk};
-ghost use Rattle.plan_reading.specs.Said.{IsPlanRead};
+ghost use Rattle.plan_crossed.specs.Read.{IsCrossedRead};
 ghost use Rattle.plan_reading.specs.declared.reading.PlanRead.TheVariants.{Plan as AsPlan};
 ghost use Rattle.plan_input.specs.Standing.{IsBehind, IsPlanBefore, IsStanding, begins_as_document, first_sign as first_sign_of, is_space as is_space_of};
 
 use crate::compiling::{Compiled, compile, fault_lines};
 use crate::naming::section_names;
+use plan_crossed::read_crossed_plan;
 use plan_document::Plan;
-use plan_reading::{PlanRead, read_plan};
+use plan_reading::PlanRead;
 use std::alloc::{AllocError, Global};
 use timed_reading::cut;
 
@@ -76,7 +77,7 @@ pub fn document_in(alloc: Global, input: &[u8]) -> Result<Standing, AllocError>
 fn plan_in(alloc: Global, plan: &[u8], behind: &[u8]) -> Result<Standing, AllocError>
     ensures { IfOk result (IsPlanBefore plan.now behind.now) }
 {
-    match read_plan(alloc, plan)? {
+    match read_crossed_plan(alloc, plan)? {
         PlanRead::Plan(read) => document_of(alloc, plan, read, behind),
         PlanRead::Faults(faults) => Ok(Standing::Wrong(fault_lines(alloc, "", &faults)?)),
     }
@@ -89,7 +90,7 @@ fn document_of(
     plan: Plan,
     behind: &[u8],
 ) -> Result<Standing, AllocError>
-    requires { IsPlanRead text.now (AsPlan plan) }
+    requires { IsCrossedRead text.now (AsPlan plan) }
     ensures { IfOk result (IsPlanBefore text.now behind.now) }
 {
     match compile(alloc, text, plan)? {

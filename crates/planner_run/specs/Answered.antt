@@ -9,7 +9,7 @@ use Rattle.refusal_lines.specs.Makers.{places_words}
 use Rattle.document_json.specs.Reading.{doc_of}
 use Rattle.document_json.specs.Doc.{Doc, names_of, table_at}
 use Rattle.plan_document.specs.declared.plan.Plan.{Plan}
-use Rattle.plan_reading.specs.Said.{IsPlanRead}
+use Rattle.plan_crossed.specs.Read.{IsCrossedRead}
 use Rattle.plan_reading.specs.declared.reading.PlanRead.TheVariants.{Plan as AsPlan}
 use Rattle.plan_input.specs.Standing.{IsPlanned, ReadsAsDocument, StandsFor, begins_as_document}
 use Rattle.plan_input.specs.declared.standing.Standing.{Standing}
@@ -249,7 +249,7 @@ AsksForRemarks (Layout table at) = ⊥
 -- The input is a plan, and a point of it is probably mistyped.
 pub record IsSuspected (input : List ℕ) : Type 0 where
   pub plan : Plan
-  pub is_plan : IsPlanRead input (AsPlan plan)
+  pub is_plan : IsCrossedRead input (AsPlan plan)
   pub is_suspected : IsTrue (has_suspects plan)
 
 -- The text that an order asks for has notes: those that add sections always; that of a plan only if a point of the plan that was read is
