@@ -1,5 +1,5 @@
 -- What is said of bytes: what is so of the document that they are, or that they are none.
-use Rattle.std.specs.Prelude.{◌≡◌, ◌⊎◌, ℕ, List, map, MatchResult, Contains}
+use Rattle.std.specs.Prelude.{◌≡◌, ◌⊎◌, ℕ, List, Option, Some, None, map, MatchResult, Contains}
 use Rattle.document_json.specs.Reading.{doc_of}
 use Rattle.document_lint.specs.Adding.{Or}
 use Rattle.document_lint.specs.Facts.{Holds}
@@ -8,6 +8,7 @@ use Rattle.document_lint.specs.declared.fact.Fact.{Fact}
 use Rattle.document_lint.specs.declared.fact.Fact.TheVariants.{Refused, Member, FormerRefused}
 use Rattle.document_lint.specs.declared.member.MemberFact.{MemberFact}
 use Rattle.document_lint.specs.declared.remark.Remark.{Remark}
+use denote.Ref.{Bor}
 
 -- What is so of bytes: of a document, what holds of it; of others, that they are refused.
 abbrev pub HoldsOf : List ℕ → Fact → Type 0
@@ -17,6 +18,11 @@ HoldsOf bytes f = MatchResult (doc_of bytes) (λ D. Holds D f) (λ e. Refused �
 abbrev pub HoldsAfter : List ℕ → List ℕ → Fact → Type 0
 HoldsAfter bytes former f =
     MatchResult (doc_of former) (λ F. MatchResult (doc_of bytes) (λ D. HoldsSince D F f) (λ e. ⊥)) (λ e. FormerRefused ≡ f)
+
+-- What is so of bytes, and of them after former ones, if there are some.
+abbrev pub IsSoOf : Option (Bor (List ℕ)) → List ℕ → Fact → Type 0
+IsSoOf None bytes = HoldsOf bytes
+IsSoOf (Some former) bytes = Or (HoldsOf bytes) (HoldsAfter bytes former.now)
 
 -- It is said of members of the text that are ignored, or are the likely cause of a refusal.
 abbrev pub IsOfMembers : Fact → Type 0

@@ -21,6 +21,7 @@ mod section_words;
 mod sections;
 mod shares;
 mod subject;
+mod text;
 mod trains;
 mod unused;
 mod words;

@@ -1,10 +1,13 @@
 // The words of what is said of the members of a text.
 use crate::member::MemberFact;
-use crate::members::{changes_in, items_of, known_of, members_of, times_given, version_of};
-use crate::place::Object;
+use crate::members::{
+    changes_in, items_in, items_of, known_of, members_of, times_given, version_of,
+};
+use crate::place::{Object, say_item, say_member};
+use crate::text::Text;
 use json::Value;
 use rail_model::is_name;
-use std::alloc::{AllocError, Global};
+use std::alloc::Global;
 use strsim::osa_distance;
 
 // This many characters of a name are shown.
@@ -12,8 +15,8 @@ const SHOWN: usize = 40;
 
 // The item of a number of a list that is a member of a value.
 fn item_of<'v, 'a>(value: &'v Value<'a>, list: &str, number: usize) -> Option<&'v Value<'a>> {
-    match value.get(list) {
-        Some(items) => items_of(items).get(number),
+    match items_in(value, list) {
+        Some(items) => items.get(number),
         None => None,
     }
 }
@@ -62,145 +65,150 @@ fn known_at(object: Object, known: usize) -> &'static str {
     }
 }
 
-// The known name that a name is like: at most one edit away for every three letters.
-fn nearest<'k>(
-    alloc: Global,
-    name: &str,
-    known: &[&'k str],
-) -> Result<Option<&'k str>, AllocError> {
-    let mut found = None;
-    let mut most = name.len() / 3;
-    if SHOWN < name.len() {
-        return Ok(None);
-    }
-    for candidate in known {
-        let edits = osa_distance(alloc, name, candidate)?;
-        if edits <= most {
-            most = edits.saturating_sub(1);
-            found = Some(*candidate);
+// How many edits there are between two names; the greatest number, where there is no memory to find out.
+fn edits_between(words: &mut Text, name: &str, candidate: &str) -> usize {
+    match osa_distance(*words.words.allocator(), name, candidate) {
+        Ok(edits) => edits,
+        Err(_) => {
+            words.is_short = true;
+            usize::MAX
         }
     }
-    Ok(found)
+}
+
+// The known name that a name is like: at most one edit away for every three letters. None is empty.
+fn nearest<'k>(words: &mut Text, name: &str, known: &[&'k str]) -> &'k str {
+    let mut found = "";
+    let mut most = name.len() / 3;
+    for candidate in known {
+        let edits = edits_between(words, name, candidate);
+        if edits <= most {
+            most = edits.saturating_sub(1);
+            found = *candidate;
+        }
+    }
+    found
+}
+
+// The first characters of a name, as many as are shown.
+fn shown(name: &str) -> &str {
+    match name.char_indices().nth(SHOWN) {
+        Some(next) => name.get(..next.0).unwrap_or(name),
+        None => name,
+    }
 }
 
 // Adds the name of a member, in quotes where it isn't a plain word.
-fn write_name(text: &mut String, name: &str) -> Result<(), AllocError> {
+fn say_called(text: &mut Text, name: &str) {
     if is_name(name) {
-        return text.push_str(name);
+        text.say(name);
+    } else {
+        text.quote(shown(name));
     }
-    let shown: String = name.chars().take(SHOWN).collect(*text.allocator())?;
-    write!(text, "{shown:?}")
+}
+
+// Adds which known name a name is like, if it is like one.
+fn say_meant(words: &mut Text, meant: &str) {
+    if !meant.is_empty() {
+        words.say_name("; did you mean \"", meant, "\"?");
+    }
 }
 
 // Adds that a member is unknown, and which known name its name is like.
-fn write_unknown(words: &mut String, name: &str, known: &[&str]) -> Result<(), AllocError> {
-    words.push_str("unknown, so it is ignored")?;
-    match nearest(*words.allocator(), name, known)? {
-        Some(meant) => write!(words, "; did you mean \"{meant}\"?"),
-        None => Ok(()),
+fn say_unknown(words: &mut Text, name: &str, known: &[&str]) {
+    words.say("unknown, so it is ignored");
+    if name.len() <= SHOWN {
+        let meant = nearest(words, name, known);
+        say_meant(words, meant);
     }
 }
 
-// Adds the changes that make these shares, as a document has them.
-fn write_changes(text: &mut String, shares: &[i32]) -> Result<(), AllocError> {
-    text.push_str("[")?;
+/// Adds that a train's numbers in a section look like shares, and the changes that make these shares, as a document has them.
+pub(crate) fn say_shares(words: &mut Text, shares: &[i32]) {
+    words.say("these look like shares; changes say how much the share rises at each place: ");
     let mut before: i32 = 0;
-    let mut comma = "";
+    let mut comma = "[";
     for share in shares {
-        let change = share.saturating_sub(before);
-        write!(text, "{comma}{change}")?;
+        words.say_share(comma, share.saturating_sub(before), "");
         before = *share;
         comma = ",";
     }
-    text.push_str("]")
+    words.say("]");
 }
 
-/// Adds that a train's numbers in a section look like shares.
-pub(crate) fn write_shares(words: &mut String, numbers: &[i32]) -> Result<(), AllocError> {
-    words.push_str("these look like shares; changes say how much the share rises at each place: ")?;
-    write_changes(words, numbers)
+// Adds that numbers look like shares.
+fn say_changes(words: &mut Text, items: &[Value]) {
+    match changes_in(items) {
+        Some(numbers) => say_shares(words, numbers.as_slice()),
+        None => {}
+    }
 }
 
-// Adds that numbers of a train in a section of a value look like shares.
-fn write_suspects(
-    words: &mut String,
-    document: &Value,
-    section: Object,
-    train: usize,
-) -> Result<(), AllocError> {
-    let alloc = *words.allocator();
+// Adds that numbers of a train in a section of a document look like shares.
+fn say_suspects(words: &mut Text, document: &Value, section: Object, train: usize) {
     let Some(section) = value_of(document, section) else {
-        return Ok(());
+        return;
     };
-    let Some(value) = item_of(section, "changes", train) else {
-        return Ok(());
-    };
-    match changes_in(alloc, value)? {
-        Some(numbers) => write_shares(words, &numbers),
-        None => Ok(()),
-    }
-}
-
-/// Adds the place of members.
-pub(crate) fn write_member_place(
-    place: &mut String,
-    document: &Value,
-    what: MemberFact,
-) -> Result<(), AllocError> {
-    match what {
-        MemberFact::Unknown { object, number } => {
-            object.write(place)?;
-            write_name(place, name_at(document, object, number))
-        }
-        MemberFact::MoreUnknown { object, .. } => object.member("*").write(place),
-        MemberFact::Repeated { object, known } => {
-            object.member(known_at(object, known)).write(place)
-        }
-        MemberFact::ExitsIgnored { table } => Object::Table { table }.member("exits").write(place),
-        MemberFact::ConnectionsIgnored { table } => {
-            Object::Table { table }.member("connections").write(place)
-        }
-        MemberFact::MayBeShares {
-            table,
-            section,
-            train,
-        } => Object::Section { table, section }
-            .item("changes", train)
-            .write(place),
-    }
-}
-
-/// Adds what is to be said of members.
-pub(crate) fn write_member(
-    words: &mut String,
-    document: &Value,
-    what: MemberFact,
-) -> Result<(), AllocError> {
-    match what {
-        MemberFact::Unknown { object, number } => {
-            write_unknown(words, name_at(document, object, number), known_of(object))
-        }
-        MemberFact::MoreUnknown { more, .. } => {
-            write!(words, "{more} more unknown members, which are ignored too")
-        }
-        MemberFact::Repeated { object, known } => {
-            let count = times_at(document, object, known_at(object, known));
-            write!(words, "given {count} times; the last one counts")
-        }
-        MemberFact::ExitsIgnored { .. } => write_later(words, version_of(document), 2),
-        MemberFact::ConnectionsIgnored { .. } => write_later(words, version_of(document), 3),
-        MemberFact::MayBeShares {
-            table,
-            section,
-            train,
-        } => write_suspects(words, document, Object::Section { table, section }, train),
+    match item_of(section, "changes", train) {
+        Some(changes) => say_changes(words, items_of(changes)),
+        None => {}
     }
 }
 
 // Adds that a member counts only from a version on.
-fn write_later(words: &mut String, version: u64, since: u64) -> Result<(), AllocError> {
-    write!(
-        words,
-        "ignored in version {version}; it counts from version {since} on"
-    )
+fn say_later(words: &mut Text, version: u64, since: u64) {
+    words.say_number("ignored in version ", version, "; ");
+    words.say_number("it counts from version ", since, " on");
+}
+
+/// Adds the place of members.
+pub(crate) fn say_member_place(place: &mut Text, document: &Value, what: MemberFact) {
+    match what {
+        MemberFact::Unknown { object, number } => {
+            say_member(place, object, "");
+            say_called(place, name_at(document, object, number));
+        }
+        MemberFact::MoreUnknown { object, .. } => say_member(place, object, "*"),
+        MemberFact::Repeated { object, known } => say_member(
+            place,
+            object,
+            known_at(object, known),
+        ),
+        MemberFact::ExitsIgnored { table } => say_member(place, Object::Table { table }, "exits"),
+        MemberFact::ConnectionsIgnored { table } => {
+            say_member(place, Object::Table { table }, "connections")
+        }
+        MemberFact::MayBeShares {
+            table,
+            section,
+            train,
+        } => say_item(place, Object::Section { table, section }, "changes", train),
+    }
+}
+
+/// Adds what is to be said of members.
+pub(crate) fn say_of_members(words: &mut Text, document: &Value, what: MemberFact) {
+    match what {
+        MemberFact::Unknown { object, number } => {
+            say_unknown(words, name_at(document, object, number), known_of(object))
+        }
+        MemberFact::MoreUnknown { more, .. } => {
+            words.say_number(
+                "",
+                more as u64,
+                " more unknown members, which are ignored too",
+            )
+        }
+        MemberFact::Repeated { object, known } => {
+            let count = times_at(document, object, known_at(object, known));
+            words.say_number("given ", count as u64, " times; the last one counts");
+        }
+        MemberFact::ExitsIgnored { .. } => say_later(words, version_of(document), 2),
+        MemberFact::ConnectionsIgnored { .. } => say_later(words, version_of(document), 3),
+        MemberFact::MayBeShares {
+            table,
+            section,
+            train,
+        } => say_suspects(words, document, Object::Section { table, section }, train),
+    }
 }

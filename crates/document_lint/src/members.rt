@@ -1,9 +1,9 @@
 // Members that are ignored: of unknown names, of later versions, and given again; and numbers that look like shares.
 use crate::member::MemberFact;
 use crate::place::Object;
-use crate::shares::look_like_shares;
+use crate::shares::{MAX_PLACES, look_like_shares};
 use json::Value;
-use std::alloc::{AllocError, Global};
+use std::alloc::Global;
 
 const DOCUMENT_MEMBERS: [&str; 7] = [
     "version", "points", "links", "zones", "trains", "start", "tables",
@@ -31,7 +31,21 @@ const MAX_SECTIONS: usize = 64;
 
 const MAX_TRAINS: usize = 32;
 
-type Facts = Vec<MemberFact>;
+/// What is to be said of members, in the order in which it is found; and whether there was no memory for some of it.
+#[derive(Drop)]
+pub(crate) struct MemberFacts {
+    pub list: Vec<MemberFact>,
+    pub is_short: bool,
+}
+
+impl MemberFacts {
+    // Adds a fact, if it holds.
+    fn add_if(&mut self, holds: bool, what: MemberFact) {
+        if holds && self.list.push(what).is_err() {
+            self.is_short = true;
+        }
+    }
+}
 
 /// The members of an object in the order of the text, with those that are given again; none of another value.
 pub(crate) fn members_of<'v, 'a>(value: &'v Value<'a>) -> &'v [(&'a str, Value<'a>)] {
@@ -49,6 +63,14 @@ pub(crate) fn items_of<'v, 'a>(value: &'v Value<'a>) -> &'v [Value<'a>] {
     }
 }
 
+/// The items of a list that is a member of a value, if there is one.
+pub(crate) fn items_in<'v, 'a>(value: &'v Value<'a>, list: &str) -> Option<&'v [Value<'a>]> {
+    match value.get(list) {
+        Some(items) => Some(items_of(items)),
+        None => None,
+    }
+}
+
 /// The names of the members that are read of an object.
 pub(crate) fn known_of(object: Object) -> &'static [&'static str] {
     match object {
@@ -60,35 +82,21 @@ pub(crate) fn known_of(object: Object) -> &'static [&'static str] {
 
 // Whether a name is among these.
 fn is_known(known: &[&str], name: &str) -> bool {
-    for candidate in known {
-        if *candidate == name {
-            return true;
-        }
-    }
-    false
+    known.contains(&name)
 }
 
 // Finds which members of an object have unknown names.
-fn find_unknown(
-    facts: &mut Facts,
-    object: Object,
-    members: &[(&str, Value)],
-) -> Result<(), AllocError> {
+fn find_unknown(facts: &mut MemberFacts, object: Object, members: &[(&str, Value)]) {
+    let known = known_of(object);
     let mut count: usize = 0;
     for number in 0..members.len() {
-        if !is_known(known_of(object), members[number].0) {
+        if !is_known(known, members[number].0) {
+            facts.add_if(count < NAMED, MemberFact::Unknown { object, number });
             count = count.saturating_add(1);
-            if count <= NAMED {
-                facts.push(MemberFact::Unknown { object, number })?;
-            }
         }
     }
-    if count <= NAMED {
-        return Ok(());
-    }
-    let more = count - NAMED;
-    facts.push(MemberFact::MoreUnknown { object, more })?;
-    Ok(())
+    let more = count.saturating_sub(NAMED);
+    facts.add_if(0 < more, MemberFact::MoreUnknown { object, more });
 }
 
 /// How often an object has a member.
@@ -103,75 +111,60 @@ pub(crate) fn times_given(members: &[(&str, Value)], name: &str) -> usize {
 }
 
 // Finds which known members an object has more than once.
-fn find_repeated(
-    facts: &mut Facts,
-    object: Object,
-    members: &[(&str, Value)],
-) -> Result<(), AllocError> {
+fn find_repeated(facts: &mut MemberFacts, object: Object, members: &[(&str, Value)]) {
     let names = known_of(object);
     for known in 0..names.len() {
-        if 1 < times_given(members, names[known]) {
-            facts.push(MemberFact::Repeated { object, known })?;
-        }
+        let is_repeated = 1 < times_given(members, names[known]);
+        facts.add_if(is_repeated, MemberFact::Repeated { object, known });
     }
-    Ok(())
 }
 
 // Finds which members of an object are unknown or repeated.
-fn find_of_object(facts: &mut Facts, object: Object, value: &Value) -> Result<(), AllocError> {
+fn find_of_object(facts: &mut MemberFacts, object: Object, value: &Value) {
     let members = members_of(value);
-    find_unknown(facts, object, members)?;
-    find_repeated(facts, object, members)
+    find_unknown(facts, object, members);
+    find_repeated(facts, object, members);
+}
+
+// Finds that a table has a member, if it has.
+fn find_given(facts: &mut MemberFacts, table: &Value, member: &str, what: MemberFact) {
+    facts.add_if(table.get(member).is_some(), what);
 }
 
 // Finds which members a table has that only later versions read.
-fn find_later(
-    facts: &mut Facts,
-    number: usize,
-    table: &Value,
-    version: u64,
-) -> Result<(), AllocError> {
-    if version < 2 && table.get("exits").is_some() {
-        facts.push(MemberFact::ExitsIgnored { table: number })?;
+fn find_later(facts: &mut MemberFacts, number: usize, table: &Value, version: u64) {
+    if version < 2 {
+        find_given(
+            facts,
+            table,
+            "exits",
+            MemberFact::ExitsIgnored { table: number },
+        );
     }
-    if version < 3 && table.get("connections").is_some() {
-        facts.push(MemberFact::ConnectionsIgnored { table: number })?;
+    if version < 3 {
+        find_given(
+            facts,
+            table,
+            "connections",
+            MemberFact::ConnectionsIgnored { table: number },
+        );
     }
-    Ok(())
-}
-
-// Finds what is to be said of the members of a table's sections.
-fn find_of_sections(facts: &mut Facts, table: usize, sections: &Value) -> Result<(), AllocError> {
-    let sections = items_of(sections);
-    for section in 0..sections.len().min(MAX_SECTIONS) {
-        let object = Object::Section { table, section };
-        find_of_object(facts, object, &sections[section])?;
-    }
-    Ok(())
 }
 
 // Finds what is to be said of the members of a table and of its sections.
-fn find_of_table(
-    facts: &mut Facts,
-    number: usize,
-    table: &Value,
-    version: u64,
-) -> Result<(), AllocError> {
-    find_of_object(facts, Object::Table { table: number }, table)?;
-    find_later(facts, number, table, version)?;
-    match table.get("sections") {
-        Some(sections) => find_of_sections(facts, number, sections),
-        None => Ok(()),
+fn find_of_table(facts: &mut MemberFacts, number: usize, table: &Value, version: u64) {
+    find_of_object(facts, Object::Table { table: number }, table);
+    find_later(facts, number, table, version);
+    let Some(sections) = items_in(table, "sections") else {
+        return;
+    };
+    for section in 0..sections.len().min(MAX_SECTIONS) {
+        let object = Object::Section {
+            table: number,
+            section,
+        };
+        find_of_object(facts, object, &sections[section]);
     }
-}
-
-// Finds what is to be said of the members of the tables.
-fn find_of_tables(facts: &mut Facts, tables: &Value, version: u64) -> Result<(), AllocError> {
-    let tables = items_of(tables);
-    for number in 0..tables.len().min(MAX_TABLES) {
-        find_of_table(facts, number, &tables[number], version)?;
-    }
-    Ok(())
 }
 
 /// The version that a document says it has; 3, the last one, if it says none.
@@ -183,102 +176,118 @@ pub(crate) fn version_of(document: &Value) -> u64 {
 }
 
 // Finds what is to be said of the members of a document, of its tables and of their sections.
-fn find_of_document(facts: &mut Facts, document: &Value) -> Result<(), AllocError> {
-    find_of_object(facts, Object::Document, document)?;
-    match document.get("tables") {
-        Some(tables) => find_of_tables(facts, tables, version_of(document)),
-        None => Ok(()),
+fn find_of_document(facts: &mut MemberFacts, document: &Value) {
+    find_of_object(facts, Object::Document, document);
+    let version = version_of(document);
+    let Some(tables) = items_in(document, "tables") else {
+        return;
+    };
+    for number in 0..tables.len().min(MAX_TABLES) {
+        find_of_table(facts, number, &tables[number], version);
     }
 }
 
-/// The changes that an array has; none, if something else is among its items.
-pub(crate) fn changes_in(alloc: Global, value: &Value) -> Result<Option<Vec<i32>>, AllocError> {
-    let mut changes = Vec::new(alloc);
-    for item in items_of(value) {
-        let Some(number) = item.as_i64() else {
-            return Ok(None);
-        };
-        let Ok(change) = i32::try_from(number) else {
-            return Ok(None);
-        };
-        changes.push(change)?;
+// The change that a value is; none, if it is something else.
+fn change_in(value: &Value) -> Option<i32> {
+    match value.as_i64() {
+        Some(number) => i32::try_from(number).ok(),
+        None => None,
     }
-    Ok(Some(changes))
+}
+
+/// The changes of a train, for each of its places.
+#[derive(Clone, Copy)]
+pub(crate) struct Numbers {
+    numbers: [i32; MAX_PLACES],
+    count: usize,
+}
+
+impl Numbers {
+    pub(crate) fn as_slice(&self) -> &[i32] {
+        match self.numbers.get(..self.count) {
+            Some(numbers) => numbers,
+            None => &[],
+        }
+    }
+}
+
+/// The changes that items are; none, if something else is among them, or more than a train can have.
+pub(crate) fn changes_in(items: &[Value]) -> Option<Numbers> {
+    let mut numbers: [i32; MAX_PLACES] = [0; MAX_PLACES];
+    let count = items.len();
+    if MAX_PLACES < count {
+        return None;
+    }
+    for place in 0..count {
+        match change_in(&items[place]) {
+            Some(change) => numbers[place] = change,
+            None => return None,
+        }
+    }
+    Some(Numbers { numbers, count })
 }
 
 // Whether the items of an array look like shares.
-fn are_suspect(alloc: Global, value: &Value, version: u64) -> Result<bool, AllocError> {
-    match changes_in(alloc, value)? {
-        Some(numbers) => Ok(look_like_shares(&numbers, version)),
-        None => Ok(false),
+fn are_suspect(items: &[Value], version: u64) -> bool {
+    match changes_in(items) {
+        Some(changes) => look_like_shares(changes.as_slice(), version),
+        None => false,
     }
 }
 
 // Finds which trains' changes of a section look like shares.
 fn find_suspects_of_section(
-    facts: &mut Facts,
+    facts: &mut MemberFacts,
     table: usize,
     section: usize,
     value: &Value,
     version: u64,
-) -> Result<(), AllocError> {
-    let alloc = *facts.allocator();
-    let Some(changes) = value.get("changes") else {
-        return Ok(());
+) {
+    let Some(trains) = items_in(value, "changes") else {
+        return;
     };
-    let trains = items_of(changes);
     for train in 0..trains.len().min(MAX_TRAINS) {
-        if are_suspect(alloc, &trains[train], version)? {
-            facts.push(MemberFact::MayBeShares {
+        facts.add_if(
+            are_suspect(items_of(&trains[train]), version),
+            MemberFact::MayBeShares {
                 table,
                 section,
                 train,
-            })?;
-        }
+            },
+        );
     }
-    Ok(())
 }
 
 // Finds which changes of a table's sections look like shares.
-fn find_suspects_of_table(
-    facts: &mut Facts,
-    table: usize,
-    value: &Value,
-    version: u64,
-) -> Result<(), AllocError> {
-    let Some(sections) = value.get("sections") else {
-        return Ok(());
+fn find_suspects_of_table(facts: &mut MemberFacts, table: usize, value: &Value, version: u64) {
+    let Some(sections) = items_in(value, "sections") else {
+        return;
     };
-    let sections = items_of(sections);
     for section in 0..sections.len().min(MAX_SECTIONS) {
-        find_suspects_of_section(facts, table, section, &sections[section], version)?;
+        find_suspects_of_section(facts, table, section, &sections[section], version);
     }
-    Ok(())
 }
 
 // Finds which changes of a document look like shares.
-fn find_suspects(facts: &mut Facts, document: &Value) -> Result<(), AllocError> {
+fn find_suspects(facts: &mut MemberFacts, document: &Value) {
     let version = version_of(document);
-    let Some(tables) = document.get("tables") else {
-        return Ok(());
+    let Some(tables) = items_in(document, "tables") else {
+        return;
     };
-    let tables = items_of(tables);
     for table in 0..tables.len().min(MAX_TABLES) {
-        find_suspects_of_table(facts, table, &tables[table], version)?;
+        find_suspects_of_table(facts, table, &tables[table], version);
     }
-    Ok(())
 }
 
 /// What is to be said of the members of a document, and, if this is asked for, which of its changes look like shares.
-pub(crate) fn member_facts(
-    alloc: Global,
-    document: &Value,
-    with_suspects: bool,
-) -> Result<Vec<MemberFact>, AllocError> {
-    let mut facts = Vec::new(alloc);
-    find_of_document(&mut facts, document)?;
+pub(crate) fn member_facts(alloc: Global, document: &Value, with_suspects: bool) -> MemberFacts {
+    let mut facts = MemberFacts {
+        list: Vec::new(alloc),
+        is_short: false,
+    };
+    find_of_document(&mut facts, document);
     if with_suspects {
-        find_suspects(&mut facts, document)?;
+        find_suspects(&mut facts, document);
     }
-    Ok(facts)
+    facts
 }

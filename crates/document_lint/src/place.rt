@@ -1,5 +1,5 @@
 // Where something stands in a document.
-use std::alloc::AllocError;
+use crate::text::Text;
 
 /// An object of a document: the whole of it, a table, or a section of a table.
 #[derive(Clone, Copy)]
@@ -9,53 +9,26 @@ pub enum Object {
     Section { table: usize, section: usize },
 }
 
-/// A member of an object, or an item of the list that the member is.
-#[derive(Clone, Copy)]
-pub(crate) struct Place<'a> {
-    object: Object,
-    member: &'a str,
-    item: Option<usize>,
-}
-
-impl Object {
-    /// The place of a member.
-    pub(crate) fn member(self, member: &str) -> Place<'_> {
-        Place {
-            object: self,
-            member,
-            item: None,
-        }
-    }
-
-    /// The place of an item of a list.
-    pub(crate) fn item(self, list: &str, number: usize) -> Place<'_> {
-        Place {
-            object: self,
-            member: list,
-            item: Some(number),
-        }
-    }
-
-    /// Adds what stands before the members of the object.
-    pub(crate) fn write(self, text: &mut String) -> Result<(), AllocError> {
-        match self {
-            Object::Document => Ok(()),
-            Object::Table { table } => write!(text, "tables[{table}]."),
-            Object::Section { table, section } => {
-                write!(text, "tables[{table}].sections[{section}].")
-            }
+// Adds what stands before the members of an object.
+fn say_object(place: &mut Text, object: Object) {
+    match object {
+        Object::Document => {}
+        Object::Table { table } => place.say_number("tables[", table as u64, "]."),
+        Object::Section { table, section } => {
+            place.say_number("tables[", table as u64, "].sections[");
+            place.say_number("", section as u64, "].");
         }
     }
 }
 
-impl Place<'_> {
-    /// Adds the place, as `tables[0].sections[2]`.
-    pub(crate) fn write(&self, text: &mut String) -> Result<(), AllocError> {
-        self.object.write(text)?;
-        text.push_str(self.member)?;
-        match self.item {
-            Some(number) => write!(text, "[{number}]"),
-            None => Ok(()),
-        }
-    }
+/// Adds the place of a member of an object, as `tables[0].after`.
+pub(crate) fn say_member(place: &mut Text, object: Object, member: &str) {
+    say_object(place, object);
+    place.say(member);
+}
+
+/// Adds the place of an item of a list that is a member of an object, as `tables[0].sections[2]`.
+pub(crate) fn say_item(place: &mut Text, object: Object, list: &str, number: usize) {
+    say_member(place, object, list);
+    place.say_number("[", number as u64, "]");
 }

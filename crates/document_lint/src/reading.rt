@@ -10,10 +10,10 @@ use crate::finding::find_in;
 use crate::former::find_lost;
 use crate::found::Found;
 use crate::member::MemberFact;
-use crate::members::member_facts;
+use crate::members::{MemberFacts, member_facts};
 use document_json::{Doc, DocRefused, Kept, tables_of};
 use json::Value;
-use std::alloc::{AllocError, Global};
+use std::alloc::Global;
 
 // Adds a fact of members.
 fn add_member(found: &mut Found, what: MemberFact)
@@ -31,14 +31,21 @@ fn add_members(found: &mut Found, facts: &[MemberFact])
     }
 }
 
-// Adds facts of members, if there was memory to find them.
-fn add_read(found: &mut Found, facts: &Result<Vec<MemberFact>, AllocError>)
+// Notes that there was no memory for some facts of members, if this is so.
+fn note_short(found: &mut Found, is_short: bool)
     ensures { Adds IsOfMembers Nothing found.old found.new }
 {
-    match facts {
-        Ok(facts) => add_members(found, facts),
-        Err(_) => found.note_no_memory(),
+    if is_short {
+        found.note_no_memory();
     }
+}
+
+// Adds facts of members, as far as there was memory to find them.
+fn add_read(found: &mut Found, facts: &MemberFacts)
+    ensures { Adds IsOfMembers Nothing found.old found.new }
+{
+    add_members(found, &facts.list);
+    note_short(found, facts.is_short);
 }
 
 // Finds what is to be said of the members of a value, if there is one.
@@ -111,6 +118,7 @@ fn note_refused(found: &mut Found, bytes: &[u8], former: &[u8], refused: &DocRef
     requires former { doc_of former.now ≡ Ok old.now }
     ensures { Adds (HoldsAfter bytes.now former.now) (HoldsAfter bytes.now former.now) found.old found.new }
 {
+    // Read for the clause alone, which is about the former document.
     let _tables = tables_of(old);
     match refused {
         DocRefused::Memory => found.note_no_memory(),

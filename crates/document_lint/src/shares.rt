@@ -11,8 +11,8 @@ use crate::found::Found;
 use document_json::{Doc, table_of, version};
 use rail_model::Table;
 
-// No train has more places.
-const MAX_PLACES: usize = 129;
+/// No train has more places.
+pub(crate) const MAX_PLACES: usize = 129;
 
 // The greatest share in a version.
 fn most_share(version: u64) -> i32

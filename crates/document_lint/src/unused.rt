@@ -166,6 +166,7 @@ fn is_named(doc: &Doc, link: usize, is_unused: bool, count: usize) -> bool
     requires counted { Counts (IsUnusedLink doc.now) link count }
     ensures { IsTrue result ↔ IsAmongFirst (IsUnusedLink doc.now) named link }
 {
+    // Read for the clause alone, which is about the document.
     let _points = points_of(layout_of(doc));
     is_unused && count < NAMED
 }
@@ -177,6 +178,7 @@ fn count_with(doc: &Doc, link: usize, is_unused: bool, count: usize) -> usize
     requires link { link < length doc.now.layout.links }
     ensures { Counts (IsUnusedLink doc.now) (link + 1) result }
 {
+    // Read for the proof: the links are few.
     let _links = layout_of(doc).links();
     if is_unused {
         count.saturating_add(1)

@@ -2,73 +2,81 @@
 ghost use Rattle.std.specs.Prelude.{◌<◌, length};
 
 use crate::fact::Fact;
-use crate::section_words::write_section;
+use crate::section_words::say_section;
 use crate::subject::{Subject, point_name, subject_of};
+use crate::text::Text;
 use document_json::{Doc, after_of, layout_of, start_of, table_of, tables_of};
 use legal_state::remaining;
-use rail_model::last_of;
-use std::alloc::AllocError;
+use rail_model::{Connection, last_of};
 
 // Adds that neither a mission nor a link leads to a point.
-fn write_point(words: &mut String, doc: &Doc, point: u32) -> Result<(), AllocError> {
+fn say_point(words: &mut Text, doc: &Doc, point: u32) {
     let name = point_name(layout_of(doc), point);
-    write!(words, "no mission comes to {name}, and no link leads there")
+    words.say_name("no mission comes to ", name, ", and no link leads there");
 }
 
 // Adds that no mission goes along a link.
-fn write_link(words: &mut String, doc: &Doc, link: usize) -> Result<(), AllocError> {
+fn say_link(words: &mut Text, doc: &Doc, link: usize) {
     let layout = layout_of(doc);
     let Some(link) = layout.links().get(link) else {
-        return Ok(());
+        return;
     };
-    let first = point_name(layout, link.first());
-    let second = point_name(layout, link.second());
-    write!(words, "no mission goes from {first} to {second} or back")
+    words.say_name(
+        "no mission goes from ",
+        point_name(layout, link.first()),
+        "",
+    );
+    words.say_name(" to ", point_name(layout, link.second()), " or back");
 }
 
 // Adds that a train ends where an earlier one ends.
-fn write_end(
-    words: &mut String,
-    subject: &Subject,
-    train: u32,
-    earlier: u32,
-) -> Result<(), AllocError> {
+fn say_end(words: &mut Text, subject: &Subject, train: u32, earlier: u32) {
     if !subject.has_train(train) {
-        return Ok(());
+        return;
     }
-    let point = subject.point(train, last_of(subject.table, train));
-    let name = subject.train(train);
-    let other = subject.train(earlier);
-    write!(
-        words,
-        "{name} ends at {point}, as {other} does, and neither leaves the layout: they can never both arrive"
-    )
+    words.say_name("", subject.train(train), " ends at ");
+    words.say(subject.point(train, last_of(subject.table, train)));
+    words.say_name(
+        ", as ",
+        subject.train(earlier),
+        " does, and neither leaves the layout: they can never both arrive",
+    );
 }
 
-// Adds that a connection is met at the start, or passed.
-fn write_connection(
-    words: &mut String,
-    subject: &Subject,
-    connection: u32,
-    is_met: bool,
-) -> Result<(), AllocError> {
-    let Some(connection) = subject.table.connections().get(connection as usize) else {
-        return Ok(());
+// A connection of a table.
+fn connection_of<'a>(subject: &Subject<'a>, connection: u32) -> Option<&'a Connection> {
+    subject.table.connections().get(connection as usize)
+}
+
+// Adds that a connection is met at the start.
+fn say_met(words: &mut Text, subject: &Subject, connection: u32) {
+    let Some(connection) = connection_of(subject, connection) else {
+        return;
     };
-    let train = subject.train(connection.train());
-    let left = connection.place();
-    if !is_met {
-        return write!(
-            words,
-            "never holds {train}, which starts past place {left} of its mission"
-        );
-    }
-    let other = subject.train(connection.other());
-    let reached = connection.reached();
-    write!(
-        words,
-        "never holds {train}: {other} has already reached place {reached} of its mission at the start"
-    )
+    words.say_name("never holds ", subject.train(connection.train()), ": ");
+    words.say_name(
+        "",
+        subject.train(connection.other()),
+        " has already reached place ",
+    );
+    words.say_number(
+        "",
+        u64::from(connection.reached()),
+        " of its mission at the start",
+    );
+}
+
+// Adds that a connection is passed at the start.
+fn say_passed(words: &mut Text, subject: &Subject, connection: u32) {
+    let Some(connection) = connection_of(subject, connection) else {
+        return;
+    };
+    words.say_name("never holds ", subject.train(connection.train()), ", ");
+    words.say_number(
+        "which starts past place ",
+        u64::from(connection.place()),
+        " of its mission",
+    );
 }
 
 // The most moves that are made before all trains have arrived under a table before this one.
@@ -83,16 +91,20 @@ fn most_moves(doc: &Doc, table: u32) -> u64
 }
 
 // Adds that a table is due only once all trains have arrived.
-fn write_after(words: &mut String, doc: &Doc, table: u32) -> Result<(), AllocError> {
+fn say_after(words: &mut Text, doc: &Doc, table: u32) {
     if tables_of(doc) <= table {
-        return Ok(());
+        return;
     }
-    let after = after_of(doc, table);
-    let moves = most_moves(doc, table);
-    write!(
-        words,
-        "{after} moves are never made: all trains have arrived after {moves} at most, and this table comes only then"
-    )
+    words.say_number(
+        "",
+        u64::from(after_of(doc, table)),
+        " moves are never made: ",
+    );
+    words.say_number(
+        "all trains have arrived after ",
+        most_moves(doc, table),
+        " at most, and this table comes only then",
+    );
 }
 
 // The names of the sections of a table.
@@ -104,30 +116,19 @@ fn names_at(names: &[Vec<String>], table: u32) -> &[String] {
 }
 
 // Adds what is so of a train, a section or a connection of a table.
-fn write_of_table(
-    words: &mut String,
-    subject: &Subject,
-    names: &[String],
-    fact: Fact,
-) -> Result<(), AllocError> {
+fn say_of_table(words: &mut Text, subject: &Subject, names: &[String], fact: Fact) {
     match fact {
-        Fact::EndsAsEarlier { train, earlier, .. } => write_end(words, subject, train, earlier),
-        Fact::ConnectionMet { connection, .. } => write_connection(
-            words, subject, connection, true,
-        ),
-        Fact::ConnectionPassed { connection, .. } => {
-            write_connection(words, subject, connection, false)
-        }
+        Fact::EndsAsEarlier { train, earlier, .. } => say_end(words, subject, train, earlier),
+        Fact::ConnectionMet { connection, .. } => say_met(words, subject, connection),
+        Fact::ConnectionPassed { connection, .. } => say_passed(words, subject, connection),
         Fact::LikeShares { section, .. }
         | Fact::SectionUnused { section, .. }
         | Fact::SectionIdle { section, .. }
         | Fact::SectionRepeated { section, .. }
         | Fact::Overfilled { section, .. }
         | Fact::KeptForGood { section, .. }
-        | Fact::OverfullAtEnd { section, .. } => {
-            write_section(words, subject, names, section, fact)
-        }
-        _ => Ok(()),
+        | Fact::OverfullAtEnd { section, .. } => say_section(words, subject, names, section, fact),
+        _ => {}
     }
 }
 
@@ -149,36 +150,28 @@ fn table_in(fact: Fact) -> Option<u32> {
 }
 
 // Adds what is so in a table.
-fn write_table(
-    words: &mut String,
-    doc: &Doc,
-    names: &[Vec<String>],
-    fact: Fact,
-) -> Result<(), AllocError> {
+fn say_in_table(words: &mut Text, doc: &Doc, names: &[Vec<String>], fact: Fact) {
     let Some(table) = table_in(fact) else {
-        return Ok(());
+        return;
     };
     let Some(subject) = subject_of(doc, table) else {
-        return Ok(());
+        return;
     };
-    write_of_table(words, &subject, names_at(names, table), fact)
+    say_of_table(words, &subject, names_at(names, table), fact);
 }
 
 /// Adds what is so of a document, whose sections have these names, table by table.
-pub(crate) fn write_fact(
-    words: &mut String,
-    doc: &Doc,
-    names: &[Vec<String>],
-    fact: Fact,
-) -> Result<(), AllocError> {
+pub(crate) fn say_fact(words: &mut Text, doc: &Doc, names: &[Vec<String>], fact: Fact) {
     match fact {
-        Fact::PointUnused { point } => write_point(words, doc, point),
-        Fact::LinkUnused { link } => write_link(words, doc, link),
+        Fact::PointUnused { point } => say_point(words, doc, point),
+        Fact::LinkUnused { link } => say_link(words, doc, link),
         Fact::MoreLinksUnused { more } => {
-            write!(words, "{more} more along which no mission goes")
+            words.say_number("", more as u64, " more along which no mission goes")
         }
-        Fact::ZoneUnused { zone } => { write!(words, "no mission comes to a point of zone {zone}") }
-        Fact::NeverDue { table } => write_after(words, doc, table),
-        _ => write_table(words, doc, names, fact),
+        Fact::ZoneUnused { zone } => {
+            words.say_number("no mission comes to a point of zone ", u64::from(zone), "")
+        }
+        Fact::NeverDue { table } => say_after(words, doc, table),
+        _ => say_in_table(words, doc, names, fact),
     }
 }

@@ -4,7 +4,6 @@ use crate::names::{check_name, check_once, names_of};
 use crate::writing::base_of;
 use plan_entries::{Entries, Entry, Faults, Kind, Origins, Part};
 use plan_keys::{check_counts, check_patterns};
-use std::alloc::{AllocError, Global};
 use toml::{Table, Value};
 
 // How many trains a plan and each of its tables may have, and so an entry may stand for.
@@ -160,7 +159,11 @@ fn check_bases(faults: &mut Faults, bases: &Entries, names: &[&str], ways: &Ways
 }
 
 // Tells that there are too many patterns or ways; whether there are.
-fn are_too_many(faults: &mut Faults, bases: &Entries, ways: usize) -> bool {
+fn are_too_many(faults: &mut Faults, bases: &Entries, ways: Option<&Table>) -> bool {
+    let ways = match ways {
+        Some(ways) => ways.len(),
+        None => 0,
+    };
     if MOST_NAMED < bases.values.len() {
         let form = "this is one pattern too many: {} are the most";
         faults.tell(&bases.entry(MOST_NAMED), form, &[Part::Count(MOST_NAMED)]);
@@ -173,57 +176,85 @@ fn are_too_many(faults: &mut Faults, bases: &Entries, ways: usize) -> bool {
     MOST_NAMED < bases.values.len() || MOST_NAMED < ways
 }
 
-/// Tells all that is wrong with the patterns, counts and ways of a plan.
-pub(crate) fn check(faults: &mut Faults, top: &Entry) -> Result<(), AllocError> {
-    check_patterns(faults, top);
-    let bases = top.list(Kind::Pattern);
-    let table = ways_in(top);
-    let many = table.map_or(0, |ways| ways.len());
-    if are_too_many(faults, &bases, many) {
-        return Ok(());
-    }
-    let ways = Ways::new(faults.alloc(), table)?;
-    let names = names_of(faults.alloc(), &bases)?;
-    ways.check(faults);
-    check_bases(faults, &bases, &names, &ways);
-    check_trains(faults, &top.list(Kind::Train), bases.values, &names, &ways);
+// Tells what is wrong with the trains of a plan and of its further tables.
+fn check_all_trains(
+    faults: &mut Faults,
+    top: &Entry,
+    patterns: &[Value],
+    names: &[&str],
+    ways: &Ways,
+) {
+    check_trains(faults, &top.list(Kind::Train), patterns, names, ways);
     let tables = top.list(Kind::Table);
     for index in 0..tables.values.len() {
         let own = tables.entry(index).list(Kind::Train);
-        check_trains(faults, &own, bases.values, &names, &ways);
+        check_trains(faults, &own, patterns, names, ways);
     }
-    Ok(())
+}
+
+// Tells what is wrong with the ways of a table, and with what rests on these patterns.
+fn check_parts(faults: &mut Faults, top: &Entry, bases: &Entries, table: Option<&Table>) {
+    let ways = Ways::new(faults, table);
+    let names = names_of(faults, bases);
+    ways.check(faults);
+    check_bases(faults, bases, &names, &ways);
+    check_all_trains(faults, top, bases.values, &names, &ways);
+}
+
+/// Tells all that is wrong with the patterns, counts and ways of a plan. If there is no memory for a part of it, the faults say so.
+pub(crate) fn check(faults: &mut Faults, top: &Entry) {
+    check_patterns(faults, top);
+    let bases = top.list(Kind::Pattern);
+    let ways = ways_in(top);
+    if !are_too_many(faults, &bases, ways) {
+        check_parts(faults, top, &bases, ways);
+    }
 }
 
 // The table of the ways, if there is one.
 fn ways_in<'t>(top: &Entry<'t>) -> Option<&'t Table> {
-    top.value("ways")?.as_table()
+    match top.value("ways") {
+        Some(ways) => ways.as_table(),
+        None => None,
+    }
+}
+
+// Adds an entry as often as it stands for a train.
+fn push_times(faults: &mut Faults, origins: &mut Vec<usize>, entry: usize, trains: usize) {
+    for _ in 0..trains {
+        if origins.push(entry).is_err() {
+            faults.lose();
+        }
+    }
 }
 
 // For each train of a list, the entry that stands for it.
-fn origins_in(
-    alloc: Global,
-    trains: &Entries,
-    patterns: &[Value],
-) -> Result<Vec<usize>, AllocError> {
-    let mut origins = Vec::new(alloc);
+fn origins_in(faults: &mut Faults, trains: &Entries, patterns: &[Value]) -> Vec<usize> {
+    let mut origins = Vec::new(faults.alloc());
     for index in 0..trains.values.len() {
-        for _ in 0..trains_in(&trains.entry(index), patterns) {
-            origins.push(index)?;
-        }
+        let count = trains_in(&trains.entry(index), patterns);
+        push_times(faults, &mut origins, index, count);
     }
-    Ok(origins)
+    origins
 }
 
-/// For each train of a plan, and of its further tables, the entry that stands for it.
-pub(crate) fn origins_of(alloc: Global, top: &Entry) -> Result<Origins, AllocError> {
+// Adds the entries that stand for the trains of a list.
+fn add_origins(faults: &mut Faults, origins: &mut Origins, trains: &Entries, patterns: &[Value]) {
+    let list = origins_in(faults, trains, patterns);
+    if origins.push(list).is_err() {
+        faults.lose();
+    }
+}
+
+/// For each train of a plan, and of its further tables, the entry that stands for it. If there is no memory for one, the faults say so.
+pub(crate) fn origins_of(faults: &mut Faults, top: &Entry) -> Origins {
     let patterns = top.values("pattern");
-    let mut origins = Origins::new(alloc);
-    origins.push(origins_in(alloc, &top.list(Kind::Train), patterns)?)?;
+    let mut origins = Origins::new(faults.alloc());
+    add_origins(faults, &mut origins, &top.list(Kind::Train), patterns);
     let tables = top.list(Kind::Table);
     for index in 0..tables.values.len() {
         let own = tables.entry(index).list(Kind::Train);
-        origins.push(origins_in(alloc, &own, patterns)?)?;
+        add_origins(faults, &mut origins, &own, patterns);
     }
-    Ok(origins)
+    origins
 }

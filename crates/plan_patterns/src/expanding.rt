@@ -17,11 +17,11 @@ pub fn expand(faults: &mut Faults, text: Table) -> Result<Option<Table>, AllocEr
     ensures { IfOk result (λ plan. MatchOption plan (has_fault faults.new ≡ true) (λ plan. table_view plan ≡ expanded (table_view text))) }
 {
     let top = Entry::part(Kind::Top, Some(&text));
-    check(faults, &top)?;
+    check(faults, &top);
     if !faults.is_empty() {
         return Ok(None);
     }
-    let origins = origins_of(faults.alloc(), &top)?;
+    let origins = origins_of(faults, &top);
     faults.set_origins(origins);
     Ok(Some(written_out(faults.alloc(), text)?))
 }

@@ -2,7 +2,6 @@
 use crate::names::check_name;
 use crate::ways::name_in;
 use plan_entries::{Entry, Faults, Kind, Part};
-use std::alloc::{AllocError, Global};
 use toml::{Table, Value};
 
 // How many points a way, and a route with ways, may have.
@@ -18,31 +17,37 @@ pub(crate) struct Ways<'t> {
 
 impl<'t> Ways<'t> {
     /// The ways of a table, if there is one.
-    pub fn new(alloc: Global, table: Option<&'t Table>) -> Result<Ways<'t>, AllocError> {
+    pub fn new(faults: &mut Faults, table: Option<&'t Table>) -> Ways<'t> {
+        let alloc = faults.alloc();
         let mut ways = Ways {
             names: Vec::new(alloc),
             lists: Vec::new(alloc),
             lengths: Vec::new(alloc),
         };
         if let Some(table) = table {
-            ways.add_all(table)?;
-            for _ in 0..ways.lists.len() {
-                ways.measure();
-            }
+            ways.add_all(faults, table);
+            ways.measure_all();
         }
-        Ok(ways)
+        ways
+    }
+
+    // Adds a way.
+    fn add(&mut self, faults: &mut Faults, name: &'t str, list: &'t [Value]) {
+        if self.names.push(name).is_err()
+            || self.lists.push(list).is_err()
+            || self.lengths.push(None).is_err()
+        {
+            faults.lose();
+        }
     }
 
     // Adds the ways of a table.
-    fn add_all(&mut self, table: &'t Table) -> Result<(), AllocError> {
-        for (name, value) in table.iter() {
+    fn add_all(&mut self, faults: &mut Faults, table: &'t Table) {
+        for (name, value) in table {
             if let Some(list) = value.as_array() {
-                self.names.push(name.as_str())?;
-                self.lists.push(list.as_slice())?;
-                self.lengths.push(None)?;
+                self.add(faults, name.as_str(), list.as_slice());
             }
         }
-        Ok(())
     }
 
     // How many points an item stands for, if that is known.
@@ -70,11 +75,17 @@ impl<'t> Ways<'t> {
     // Measures each way whose own ways are measured.
     fn measure(&mut self) {
         for index in 0..self.lists.len() {
-            let list = self.lists.get(index).copied().unwrap_or(&[]);
-            let length = self.points_along(list);
+            let length = self.points_along(self.list(index));
             if let Some(slot) = self.lengths.get_mut(index) {
                 *slot = length;
             }
+        }
+    }
+
+    // Measures the ways as often as there are some, so that all are measured that don't come to themselves.
+    fn measure_all(&mut self) {
+        for _ in 0..self.lists.len() {
+            self.measure();
         }
     }
 
@@ -101,7 +112,7 @@ impl<'t> Ways<'t> {
         }
     }
 
-    fn list(&self, index: usize) -> &[Value] {
+    fn list(&self, index: usize) -> &'t [Value] {
         match self.lists.get(index) {
             Some(list) => list,
             None => &[],

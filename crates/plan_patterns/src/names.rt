@@ -1,17 +1,16 @@
 // Names of patterns and ways.
 use plan_entries::{Entries, Entry, Faults, tell_no};
-use std::alloc::{AllocError, Global};
 
 /// The names of entries; empty for those that have none.
-pub(crate) fn names_of<'t>(
-    alloc: Global,
-    entries: &Entries<'t>,
-) -> Result<Vec<&'t str>, AllocError> {
-    let mut names = Vec::new(alloc);
+pub(crate) fn names_of<'t>(faults: &mut Faults, entries: &Entries<'t>) -> Vec<&'t str> {
+    let mut names = Vec::new(faults.alloc());
     for index in 0..entries.values.len() {
-        names.push(entries.entry(index).text("name").unwrap_or(""))?;
+        let name = entries.entry(index).text("name").unwrap_or("");
+        if names.push(name).is_err() {
+            faults.lose();
+        }
     }
-    Ok(names)
+    names
 }
 
 /// Tells a name that isn't known: one that is like it, or all that there are.

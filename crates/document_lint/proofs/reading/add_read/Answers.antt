@@ -1,7 +1,6 @@
-use Rattle.document_lint.proofs.Adding.{lost}
-use Rattle.document_lint.specs.Adding.{Nothing}
+use Rattle.document_lint.proofs.Adding.{no_more}
 use Rattle.document_lint.specs.Told.{IsOfMembers}
 use Rattle.document_lint.proofs.reading.add_read.Goals as goal
 
-pub returns-in-Err : goal.returns-in-Err
-returns-in-Err c = lost IsOfMembers Nothing _ _ c.note_no_memory.ensures.facts c.note_no_memory.ensures.lost
+pub returns : goal.returns
+returns c = no_more IsOfMembers _ _ _ c.add_members.ensures c.note_short.ensures
