@@ -49,6 +49,17 @@ train = "T1"
 leaves = "V"
 after = "T0"
 reached = "L1#1"
+[[crossing]]
+name = "between the switches"
+ways = { one = ["S", "L1", "E"], other = ["S", "L2", "E"], "in" = ["V", "S", "L2"], out = ["W", "S", "L1"] }
+parallel = [["one", "other"]]
+[[scissors]]
+name = "the same"
+tracks = [["S", "L1", "E"], ["S", "L2", "E"]]
+[[ladder]]
+name = "S"
+leads = ["W", "V"]
+roads = ["L1", "L2"]
 [[table]]
 after = 4
 [[table.train]]
@@ -73,9 +84,9 @@ NUMBERS = [0, 1, 2, 3, 4, 5, -1, 128, 129, 1000, 1001, 1_000_000, 1_000_001, 2**
 NUMBERS += [0.5, 1.0, 4.0, float("inf"), float("nan"), 1e300]
 OTHERS = [datetime.date(2026, 1, 1), [], ["A"], ["A", "B"], ["T0"], [1], ["A", 1], [["A", "B"]], [[]], [{}], {}, {"T0": 1}, {"T0": "S"}]
 OTHERS += [{"default": 2}, {"default": "2"}, {"name": "T0"}, {"": 1}, {"0": ["W"]}, [{"name": "T9", "route": ["A"]}], {"W S": 3, "A": 1}]
-OTHERS += [{"T0": {"X": 1, "-": 2}}, {"T0": {"W": 5}}, {"T1": {}}]
+OTHERS += [{"T0": {"X": 1, "-": 2}}, {"T0": {"W": 5}}, {"T1": {}}, ["S", "L1", "E"], [["one", "in"]], {"in": ["W", "S", "L1"]}]
 KEYS = "lines switches open zones train section connection table name route start exit times limit points weight only from to holds".split()
-KEYS += "leaves after reached default trains title via".split() + ["", "W S", "T0", "0", "15", "16"]
+KEYS += "leaves after reached crossing ways parallel scissors tracks ladder leads roads default trains title via".split() + ["", "W S", "T0", "0", "15", "16"]
 
 
 def key_of(key):
@@ -185,6 +196,26 @@ def numbers():
         yield {"train": [{"name": name, "route": ["A"]}]}, is_right
         yield {"train": [{"name": "T0", "route": [name]}]}, is_right
         yield {"lines": [["A"], [name]], "train": [{"name": "T0", "route": ["A"]}]}, is_right
+
+
+def crossings():
+    """Plans with crossings, and whether they may be there; None, if they are refused for their meaning."""
+    plan = {"train": [{"name": "T0", "route": ["A", "M", "B"]}, {"name": "T1", "route": ["C", "N", "D"]}]}
+    one, other = ["A", "M", "B"], ["C", "N", "D"]
+    for points in ([], ["A"], ["A", "B"], one, one[::-1], ["A", "M", "Q"], ["A", "M", "A"], ["A", "M", "C"]):
+        is_right = len(points) == 3 and (True if points in (one, one[::-1]) else None)
+        yield {**plan, "crossing": [{"ways": {"one": points}}]}, is_right
+        yield {**plan, "scissors": [{"tracks": [points, other]}]}, is_right
+    for group in ([], ["one"], ["one", "other"], ["one", "another"], ["", "one"]):
+        crossing = {"ways": {"one": one, "other": other}, "parallel": [group]}
+        yield {**plan, "crossing": [crossing]}, True if set(group) <= {"one", "other"} else None
+    for count in (0, 1, 2, 3):
+        yield {**plan, "scissors": [{"tracks": [one, other, one][:count]}]}, count == 2
+    for name, leads, roads in (("M", ["A"], ["B"]), ("M", ["B"], ["A"]), ("N", ["A"], ["B"]), ("M", [], []), ("Q", ["A"], ["B"])):
+        yield {**plan, "ladder": [{"name": name, "leads": leads, "roads": roads}]}, True if name == "M" else None
+    for count in (63, 64):
+        crossing = {"ways": {"one": one, "other": other}}
+        yield {**plan, "section": [{"limit": 1, "points": []}] * count, "crossing": [crossing]}, True if count == 63 else None
 
 
 def places_in(value, path=()):

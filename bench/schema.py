@@ -34,7 +34,8 @@ SHAPE = re.compile(
     r": the route is empty$|a (time|limit|weight|share) is \d+ to \d+, and this is |a table is due after 0 to 1000000 moves, and this is |"
     r'(?<!\})" is no (name: 1 to 16|zone: they are|link: two points)|^line \d+: train .*: the route has \d+ places|: there is no train$|'
     r'"count" goes from 1 to 32, and this is |one (train|section|connection|table|pattern) too many|: there are \d+ ways; |'
-    r'"holds" says all of it; leave out "|the weight for all others is said twice, '
+    r'"holds" says all of it; leave out "|the weight for all others is said twice, |: scissors have two tracks of three points$|'
+    r'" has no point between its ends$'
 )
 # A route and a count may be in a pattern, which a schema doesn't look up.
 MEANING = re.compile(
@@ -47,7 +48,8 @@ MEANING = re.compile(
     r'" is changed twice by this table$|: a train doesn\'t wait for itself$|: no train of this section comes to "| alone takes \d+ of \d+$|'
     r": at the start \d+ of \d+ are taken, |: no line goes from \"|\" is in a zone already$|: zone \d+ has no point, and zone \d+ has$|"
     r'" is a place that has another name here too$|"start" is for the first place, and is the name of a point too: |'
-    r"table \d+, train .*: the route has \d+ places|: there are more faults than these$"
+    r'table \d+, train .*: the route has \d+ places|: there are more faults than these$|" by no way of it( in table \d+)?$|'
+    r" have a point between their ends in common$|: no room for the sections of the crossings up to it: "
 )
 # What it says of a plan that it takes.
 REMARK = re.compile(r'^line \d+: remark: train ".*": only this train comes to ".*", and once; did you mean ".*"\? ')
@@ -180,7 +182,7 @@ def plans_told(planner, cases):
             continue
         right.append(told.compare(text))
     right.append(told.compare(plans.EVERY_KEY, True))
-    for plan, is_right in [*plans.lengths(), *plans.numbers()]:
+    for plan, is_right in [*plans.lengths(), *plans.numbers(), *plans.crossings()]:
         told.compare(plans.toml_of(plan), is_right)
     right = [plan for plan in right if plan]
     drawn = plans.mutations(random.Random("plans"), right + right[-1:] * 5)

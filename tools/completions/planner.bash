@@ -18,8 +18,8 @@ _planner() {
     explain) options="--at --table --run --line --plan" ;;
     lint) options="--before --plan" ;;
     certify) options="--budget --effort" ;;
-    protect) options="--budget --effort --rounds" ;;
-    order) options="--of-run --journal" ;;
+    protect) options="--budget --effort --rounds --into --entries" ;;
+    order) options="--of-run --journal --into --entries" ;;
     timetable) options="--csv --journal" ;;
     graph) options="--train --journal" ;;
     layout) options="--at --table --plan" ;;

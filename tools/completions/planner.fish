@@ -20,6 +20,8 @@ complete -c planner -f -n '__fish_seen_subcommand_from certify protect' -l budge
 complete -c planner -f -n '__fish_seen_subcommand_from certify protect' -l effort -x -a 'small usual great' -d 'how many ways of searching are tried'
 complete -c planner -f -n '__fish_seen_subcommand_from protect' -l rounds -x -d 'the most sections that are made for a table'
 complete -c planner -f -n '__fish_seen_subcommand_from order' -l of-run -x -d 'the orders of one run, given by a journal or drawn from a number'
+complete -c planner -f -n '__fish_seen_subcommand_from protect order' -l into -d 'write the plan, with the sections as entries behind it'
+complete -c planner -f -n '__fish_seen_subcommand_from protect order' -l entries -d 'write these entries alone'
 complete -c planner -f -n '__fish_seen_subcommand_from timetable' -l csv -d 'with commas instead of columns'
 complete -c planner -f -n '__fish_seen_subcommand_from graph' -l train -x -d 'the train whose route is the axis of places'
 complete -c planner -n '__fish_seen_subcommand_from order timetable graph' -l journal -r -d 'the lines of the run'

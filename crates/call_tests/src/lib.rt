@@ -22,6 +22,8 @@ mod planner_certificates;
 #[cfg(test)]
 mod planner_documents;
 #[cfg(test)]
+mod planner_entries;
+#[cfg(test)]
 mod planner_named;
 #[cfg(test)]
 mod planner_orders;

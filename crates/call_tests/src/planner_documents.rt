@@ -159,6 +159,27 @@ T0 is at M, place 1 of 3, and wants N: it may
 T1 is at C, place 0 of 3, and wants N: section "corridor" has no room for 1 more, 1 of 1 are taken; T0 has 1
 The state isn't stuck: a train may move.
 ====
+explain|--at|1,0
+[[train]]
+name = "T0"
+route = ["A", "M", "N", "B"]
+
+[[train]]
+name = "T1"
+route = ["C", "N", "M", "D"]
+
+[[section]]
+name = "east"
+limit = 2
+points = ["N"]
+
+[[crossing]]
+ways = { east = ["A", "M", "N", "B"], west = ["C", "N", "M", "D"] }
+----
+T0 is at M, place 1 of 3, and wants N: it may
+T1 is at C, place 0 of 3, and wants N: section "crossing 1" has no room for 1 more, 1 of 1 are taken; T0 has 1
+The state isn't stuck: a train may move.
+====
 lint
 [[train]]
 name = "T0"

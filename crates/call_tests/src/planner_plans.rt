@@ -6,6 +6,115 @@ use std::alloc::{AllocError, Global};
 pub(crate) const PLANS: &str = r##"plan
 [[train]]
 name = "T0"
+route = ["A", "X", "B"]
+
+[[train]]
+name = "T1"
+route = ["C", "Y", "D"]
+
+[[crossing]]
+name = "flat"
+ways = { east = ["A", "X", "B"], north = ["C", "Y", "D"] }
+----
+{"links":[["A","X"],["X","B"],["C","Y"],["Y","D"]],"points":[["A",0],["X",0],["B",0],["C",0],["Y",0],["D",0]],"start":[0,0],"tables":[{"after":0,"certificate":[],"connections":[],"exits":[false,false],"missions":[["A","X","B"],["C","Y","D"]],"sections":[{"changes":[[0,1,-1],[0,1,-1]],"limit":1}],"times":[[1,1],[1,1]]}],"trains":["T0","T1"],"version":3,"zones":1}
+====
+plan
+[[train]]
+name = "T0"
+route = ["A", "Main", "B"]
+
+[[crossing]]
+name = "flat"
+ways = { east = ["A", "Mian", "B"], north = ["A", "Main", "B"] }
+parallel = [["east", "nroth"]]
+----
+line 7: crossing "flat": no point "Mian"; did you mean "Main"?
+line 8: crossing "flat": no way "nroth"; did you mean "north"?
+====
+plan
+[[train]]
+name = "T0"
+route = ["A", "Main", "B"]
+
+[[train]]
+name = "T1"
+route = ["C", "Main", "D"]
+
+[[crossing]]
+name = "flat"
+ways = { east = ["A", "Main", "B"] }
+----
+line 9: crossing "flat": train "T1" comes to "Main" by no way of it
+====
+plan
+# scissors: two trains go straight at the same time, and one that crosses over has them to itself
+[[train]]
+name = "Up"
+route = ["UW", "UC", "UE"]
+exit = true
+
+[[train]]
+name = "Down"
+route = ["DE", "DC", "DW"]
+exit = true
+
+[[train]]
+name = "Over"
+route = ["U0", "UW", "DC", "DE"]
+exit = true
+
+[[scissors]]
+tracks = [["UW", "UC", "UE"], ["DW", "DC", "DE"]]
+
+[[section]]
+limit = 1
+points = ["UE"]
+
+[[table]]
+after = 3
+section = []
+----
+{"links":[["UW","UC"],["UC","UE"],["DE","DC"],["DC","DW"],["U0","UW"],["UW","DC"]],"points":[["UW",0],["UC",0],["UE",0],["DE",0],["DC",0],["DW",0],["U0",0]],"start":[0,0,0],"tables":[{"after":0,"certificate":[],"connections":[],"exits":[true,true,true],"missions":[["UW","UC","UE"],["DE","DC","DW"],["U0","UW","DC","DE"]],"sections":[{"changes":[[0,1,-1,0],[0,0,0,0],[0,0,1,-1,0]],"limit":1},{"changes":[[0,0,1,-1],[0,0,0,0],[0,0,0,0,0]],"limit":1}],"times":[[1,1,1],[1,1,1],[1,1,1,1]]},{"after":3,"certificate":[],"connections":[],"exits":[true,true,true],"missions":[["UW","UC","UE"],["DE","DC","DW"],["U0","UW","DC","DE"]],"sections":[{"changes":[[0,1,-1,0],[0,0,0,0],[0,0,1,-1,0]],"limit":1}],"times":[[1,1,1],[1,1,1],[1,1,1,1]]}],"trains":["Up","Down","Over"],"version":3,"zones":1}
+====
+plan
+# a ladder needs no section: its ways have one point
+[[train]]
+name = "In"
+route = ["K", "L", "R1"]
+
+[[train]]
+name = "Out"
+route = ["R2", "L", "K", "H"]
+exit = true
+
+[[ladder]]
+name = "L"
+leads = ["K"]
+roads = ["R1", "R2"]
+----
+{"links":[["K","L"],["L","R1"],["R2","L"],["K","H"]],"points":[["K",0],["L",0],["R1",0],["R2",0],["H",0]],"start":[0,0],"tables":[{"after":0,"certificate":[],"connections":[],"exits":[false,true],"missions":[["K","L","R1"],["R2","L","K","H"]],"sections":[],"times":[[1,1],[1,1,1,1]]}],"trains":["In","Out"],"version":3,"zones":1}
+====
+plan
+train = [{ name = "T0", route = ["A", "M", "B"] }]
+[[crossing]]
+ways = { one = ["A", "M", "B"], two = ["A", "B"] }
+
+[[scissors]]
+name = "west"
+tracks = [["A", "M", "B"], ["A", "B"]]
+
+[[ladder]]
+name = "m"
+leads = ["A", "C"]
+roads = ["B"]
+----
+line 7: scissors "west": scissors have two tracks of three points
+line 10: ladder "m": no point "m"; did you mean "M"?
+line 11: ladder "m": no point "C"; the points are A, M, B
+====
+plan
+[[train]]
+name = "T0"
 route = ["A", "M", "B", "M", "C"]
 
 [[train]]
@@ -173,7 +282,7 @@ const CHANGES: &str =
 13: weights = 2 => line 13: section "corridor": no key "weights"; the keys are name, limit, points, weight, only, from, to, holds
 13: / [[table]] / after = 4 / zones = 2 => line 16: table 1: no key "zones"; the keys are after, train, section, connection
 13: / [[table]] / after = 4 / [[table.train]] / name = "T1" / start = "C" => line 18: table 1, train "T1": no key "start"; the keys are name, pattern, count, route, exit, times
-9: [[sections]] => line 9: no key "sections"; the keys are lines, open, switches, zones, ways, pattern, train, section, connection, table
+9: [[sections]] => line 9: no key "sections"; the keys are lines, open, switches, zones, ways, pattern, train, section, connection, crossing ..
 11: limit = 129 => line 11: section "corridor": a limit is 0 to 128, and this is 129
 13: / [[table]] / [[table.train]] / name = "T1" / exit = true => line 14: table 1: "after" is missing
 13: / [[table]] / after = 4 / [[table.section]] / limit = 1 / points = ["M"] / from = { T0 = "M#02", T1 = "M#2" } => line 19: table 1, section 0: "M#02" is not on the route of train "T0" in table 1
@@ -233,7 +342,14 @@ const CHANGES: &str =
 1: lines = [["A", "M", "N", "B"], ["C", "N", "M", "D"]] / switches = ["N"] / [[train]]; 7: route = ["C", "N", "Mm", "D"] => line 9: train "T1": no point "Mm"; did you mean "M"?
 1: lines = [["A", "M", "N", "B"], ["C", "N", "M", "D"]] / switches = ["m"] / [[train]] => line 2: no point "m"; did you mean "M"?
 1: lines = "A" / [[train]] => line 1: "lines" takes a list of lists of points, and this is of type string
-1: lines = [["A", "M"]] / open = true / [[train]] => {"links":[["A","M"],["M","N"],["N","B"],["C","N"],["M","D"]],"points":[["A",0],["M",0],["N",0],["B",0],["C",0],["D",0]],"start":[0,0],"tables":[{"after":0,"certificate":[],"connections":[],"exits":[false,false],"missions":[["A","M","N","B"],["C","N","M","D"]],"sections":[{"changes":[[0,1,0,-1],[0,1,0,-1]],"limit":1}],"times":[[1,1,1],[1,1,1]]}],"trains":["T0","T1"],"version":3,"zones":1}"##;
+1: lines = [["A", "M"]] / open = true / [[train]] => {"links":[["A","M"],["M","N"],["N","B"],["C","N"],["M","D"]],"points":[["A",0],["M",0],["N",0],["B",0],["C",0],["D",0]],"start":[0,0],"tables":[{"after":0,"certificate":[],"connections":[],"exits":[false,false],"missions":[["A","M","N","B"],["C","N","M","D"]],"sections":[{"changes":[[0,1,0,-1],[0,1,0,-1]],"limit":1}],"times":[[1,1,1],[1,1,1]]}],"trains":["T0","T1"],"version":3,"zones":1}
+9: [[crossing]]; 11: ; 12: ways = { east = ["A", "M", "N", "B"], west = ["C", "N", "M", "D"] } => {"links":[["A","M"],["M","N"],["N","B"],["C","N"],["M","D"]],"points":[["A",0],["M",0],["N",0],["B",0],["C",0],["D",0]],"start":[0,0],"tables":[{"after":0,"certificate":[],"connections":[],"exits":[false,false],"missions":[["A","M","N","B"],["C","N","M","D"]],"sections":[{"changes":[[0,1,0,-1],[0,1,0,-1]],"limit":1}],"times":[[1,1,1],[1,1,1]]}],"trains":["T0","T1"],"version":3,"zones":1}
+13: / [[crossing]] / ways = { one = ["A", "B"] } => line 15: crossing 0: the way "one" has no point between its ends
+13: / [[crossing]] / ways = { one = ["A", "M", "N", "B"], two = ["C", "N", "M", "D"] } / parallel = [["one", "two"]] => line 16: crossing 0: the parallel ways "one" and "two" have a point between their ends in common
+13: / [[crossing]] / ways = { one = ["A", "M", "N"] } => line 14: crossing 0: train "T1" comes to "M" by no way of it
+13: / [[crossing]] / way = {} => line 14: crossing 0: "ways" is missing / line 15: crossing 0: no key "way"; the keys are name, ways, parallel
+13: / [[scissors]] / tracks = [["A", "M", "N"], ["N", "M", "D"]] => line 15: scissors 0: the tracks have a point between their ends in common
+13: / [[table]] / after = 4 / [[table.train]] / name = "T1" / route = ["C", "K", "D"] / [[crossing]] / ways = { one = ["A", "M", "N", "B"], two = ["C", "N", "M", "D"] } / [[ladder]] / name = "K" / leads = ["C"] / roads = ["B"] => line 21: ladder "K": train "T1" comes to "K" by no way of it in table 1"##;
 
 // What the line of this number becomes, if it is changed.
 fn change_at(changes: &str, number: usize) -> Option<&str> {

@@ -2,6 +2,7 @@
 // its certificate has at most. Rows are parted by a line `====`.
 use crate::planner_certificates::CERTIFIED;
 use crate::planner_documents::DOCUMENTS;
+use crate::planner_entries::ENTERED;
 use crate::planner_orders::ORDERED;
 use crate::planner_plans::PLANS;
 use crate::planner_runs::RUNS;
@@ -102,7 +103,7 @@ fn is_right(alloc: Global, row: &str) -> bool {
 
 #[test]
 fn inputs_are_answered_as_their_rows_say(rt: HostRuntime) {
-    for rows in [PLANS, DOCUMENTS, RUNS, CERTIFIED, ORDERED] {
+    for rows in [PLANS, DOCUMENTS, RUNS, CERTIFIED, ORDERED, ENTERED] {
         for row in rows.split("\n====\n") {
             assert!(rt; is_right(rt.alloc(), row), "{row}");
         }

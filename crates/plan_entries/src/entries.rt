@@ -17,6 +17,9 @@ pub enum Kind {
     Train,
     Section,
     Connection,
+    Crossing,
+    Scissors,
+    Ladder,
     Table,
 }
 
@@ -54,6 +57,9 @@ impl Kind {
             Kind::Train => "train",
             Kind::Section => "section",
             Kind::Connection => "connection",
+            Kind::Crossing => "crossing",
+            Kind::Scissors => "scissors",
+            Kind::Ladder => "ladder",
             Kind::Table => "table",
         }
     }

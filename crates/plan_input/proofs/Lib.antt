@@ -2,3 +2,4 @@ mod AddedNames
 mod Mistakes
 mod Names
 mod Rows
+mod TextNames

@@ -1,9 +1,12 @@
 -- Worked rows: what begins as a document, what stands for it, and the names of sections.
-use Rattle.std.proofs.Common.{◌≡◌, List, ℕ, [], ◌∷◌, true, false, refl, subst, String, Vec, Global}
+use Rattle.std.proofs.Common.{◌≡◌, List, ℕ, [], ◌∷◌, true, false, replicate, refl, subst, String, Vec, Global}
 use Rattle.std.specs.Prelude.{Some, codes, MatchBool}
 use Rattle.toml.specs.Data.{Data, Items, no_items, item, Members, no_members, member, array, string, table}
 use Rattle.std.specs.Fmt.{digits}
-use Rattle.plan_input.specs.Added.{with_added}
+use Rattle.plan_input.specs.Numbered.{with_numbered}
+use Rattle.plan_input.specs.declared.numbered.Further.TheVariants.{Crossing, Added}
+use Rattle.document_json.specs.Doc.{Doc}
+use Rattle.plan_input.specs.Called.{names_by, own_names}
 use Rattle.plan_input.specs.Named.{names_in, section_names}
 use Rattle.plan_input.specs.Standing.{IsOfPlan, StandsFor, begins_as_document, first_sign}
 
@@ -55,11 +58,46 @@ names_by_tables : section_names in_tables
     ≡ (codes "corridor" ∷ [] ∷ []) ∷ (codes "loop" ∷ []) ∷ (codes "corridor" ∷ [] ∷ []) ∷ []
 names_by_tables = refl
 
--- sections behind the plan's are counted from 1
-added_names : with_added (codes "corridor" ∷ []) 3 ≡ codes "corridor" ∷ codes "added 1" ∷ codes "added 2" ∷ []
+-- sections without names are counted from 1: those that were added behind the others, and those of crossings before them
+added_names : with_numbered Added (codes "corridor" ∷ []) 3 ≡ codes "corridor" ∷ codes "added 1" ∷ codes "added 2" ∷ []
 unfolding digits
 added_names = refl
 
-none_added : with_added (codes "corridor" ∷ []) 1 ≡ codes "corridor" ∷ []
+none_added : with_numbered Added (codes "corridor" ∷ []) 1 ≡ codes "corridor" ∷ []
 unfolding digits
 none_added = refl
+
+crossing_names : with_numbered Crossing (codes "corridor" ∷ []) 3 ≡ codes "crossing 1" ∷ codes "crossing 2" ∷ codes "corridor" ∷ []
+unfolding digits
+crossing_names = refl
+
+-- a document with one table, which has so many sections
+abbrev with_sections : ℕ → Doc
+with_sections count = record {
+  version = 3;
+  layout = record { points = []; links = []; zones = 1 };
+  trains = [];
+  tables = record {
+    table = record { missions = []; sections = replicate count (record { limit = 1; changes = [] }); connections = [] };
+    after = 0;
+    times = [];
+    nodes = [];
+  } ∷ [];
+  start = [];
+}
+
+abbrev corridor : Members
+corridor = member (codes "section") (array (item (named (codes "corridor")) no_items)) no_members
+
+-- a section of a crossing is before the one that the plan names, and an added one behind both
+crossing_name : own_names (with_sections 2) corridor ≡ (codes "crossing 1" ∷ codes "corridor" ∷ []) ∷ []
+unfolding digits
+crossing_name = refl
+
+names_by_plan : names_by (with_sections 3) (with_sections 2) corridor ≡ (codes "crossing 1" ∷ codes "corridor" ∷ codes "added 1" ∷ []) ∷ []
+unfolding digits
+names_by_plan = refl
+
+-- without crossings, the names are those that the plan says
+no_crossing : own_names (with_sections 1) corridor ≡ section_names corridor
+no_crossing = refl

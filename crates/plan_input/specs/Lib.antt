@@ -1,5 +1,6 @@
 pub mod Named
-pub mod Added
+pub mod Numbered
+pub mod Called
 pub mod Origin
 pub mod Reached
 pub mod Standing

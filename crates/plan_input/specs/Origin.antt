@@ -1,5 +1,5 @@
 -- What a plan beside a document says of the document's sections, or that the document isn't the plan's.
-use Rattle.std.specs.Prelude.{◌≡◌, ◌⊎◌, ℕ, List, [], ◌++◌, codes, decimal, map, Ok, Err, Result, String, Vec, string_bytes}
+use Rattle.std.specs.Prelude.{◌≡◌, ◌⊎◌, ℕ, List, [], ◌++◌, codes, decimal, Ok, Err, Result, String, Vec, string_bytes}
 use Rattle.std.specs.declared.alloc.Global.{Global}
 use Rattle.document_json.specs.Doc.{Doc, names_of}
 use Rattle.document_json.specs.Reading.{doc_of}
@@ -7,35 +7,27 @@ use Rattle.document_json.specs.declared.refused.DocRefused.{DocRefused}
 use Rattle.document_origin.specs.Origin.{IsFirst, IsOf}
 use Rattle.document_origin.specs.Words.{difference_words}
 use Rattle.document_origin.specs.declared.difference.Difference.{Difference}
-use Rattle.document_shapes.specs.Seen.{names_seen}
 use Rattle.document_shapes.specs.Written.{text_of}
+use Rattle.plan_crossed.specs.Read.{IsCrossedRead}
 use Rattle.plan_document.specs.Written.{document_of}
 use Rattle.plan_document.specs.declared.plan.Plan.{Plan}
 use Rattle.plan_entries.specs.declared.faults.Fault.{Fault}
-use Rattle.plan_reading.specs.Said.{IsPlanRead}
 use Rattle.plan_reading.specs.declared.reading.PlanRead.TheVariants.{Plan as AsPlan}
-use Rattle.plan_input.specs.Added.{all_names}
-use Rattle.plan_input.specs.Named.{AreNames}
+use Rattle.plan_input.specs.Called.{AreCalled}
 use Rattle.plan_input.specs.declared.origin.PlanFile.{PlanFile}
 
 -- The text is a plan, and P its own document.
 pub record IsOwn (text : List ℕ) (P : Doc) : Type 0 where
   pub plan : Plan
-  pub is_plan : IsPlanRead text (AsPlan plan)
+  pub is_plan : IsCrossedRead text (AsPlan plan)
   pub is_document : doc_of (text_of (document_of plan)) ≡ Ok P
-
--- The sections of a document are called as the text of a plan says, and those behind them `added 1`, `added 2`, ..
-pub record AreCalled (text : List ℕ) (D : Doc) (names : List (Vec (String Global) Global)) : Type 0 where
-  pub planned : List (Vec (String Global) Global)
-  pub are_planned : AreNames text planned
-  pub are_names : map names_seen names ≡ all_names D (map names_seen planned)
 
 -- The sections of document D have these names by the plan that a text is: the document is of the plan, and its sections are called so.
 pub record HasNames (text : List ℕ) (D : Doc) (names : List (Vec (String Global) Global)) : Type 0 where
   pub own : Doc
   pub is_own : IsOwn text own
   pub is_of : IsOf D own
-  pub are_called : AreCalled text D names
+  pub are_called : AreCalled text D own names
 
 -- The same of what an input reads as: if it is no document, no names are known.
 abbrev pub AreNamesOf : List ℕ → Result Doc DocRefused → List (Vec (String Global) Global) → Type 0

@@ -2,8 +2,8 @@
 use Rattle.std.specs.Prelude.{List, string_bytes, ℕ}
 use Rattle.document_json.specs.Doc.{Doc}
 use Rattle.plan_input.specs.Origin.{HasNames, IsOwn, SayMistakes, SayWrong}
-use Rattle.plan_input.specs.declared.origin.NamesFound.{NamesFound}
-use Rattle.plan_input.specs.declared.origin.NamesFound.TheVariants.{Names, Wrong as NamesNone}
+use Rattle.plan_input.specs.declared.called.NamesFound.{NamesFound}
+use Rattle.plan_input.specs.declared.called.NamesFound.TheVariants.{Names, Wrong as NamesNone}
 use Rattle.plan_input.specs.declared.origin.Own.{Own}
 use Rattle.plan_input.specs.declared.origin.Own.TheVariants.{Document, Wrong as HasNone}
 use Rattle.plan_input.specs.declared.origin.PlanFile.{PlanFile}

@@ -6,10 +6,10 @@ use Rattle.document_json.specs.Reading.{doc_of}
 use Rattle.document_shapes.specs.Written.{text_of}
 use Rattle.plan_document.specs.Written.{document_of}
 use Rattle.plan_document.specs.declared.plan.Plan.{Plan}
-use Rattle.plan_reading.specs.Said.{IsPlanRead}
+use Rattle.plan_crossed.specs.Read.{IsCrossedRead}
 use Rattle.plan_reading.specs.declared.reading.PlanRead.TheVariants.{Plan as AsPlan}
 use Rattle.timed_reading.specs.Reads.{mark}
-use Rattle.plan_input.specs.Named.{AreNames}
+use Rattle.plan_input.specs.Called.{HasOwnNames}
 use Rattle.plan_input.specs.Origin.{AreNamesOf, SayWrong}
 use Rattle.plan_input.specs.declared.origin.PlanFile.{PlanFile}
 use Rattle.plan_input.specs.declared.compiling.Compiled.{Compiled}
@@ -25,7 +25,7 @@ ReadsAsDocument text = (document : Doc) × (doc_of text ≡ Ok document)
 -- The input is a plan, whose document the text is, and it reads as one.
 pub record IsPlanned (input text : List ℕ) : Type 0 where
   pub plan : Plan
-  pub is_plan : IsPlanRead input (AsPlan plan)
+  pub is_plan : IsCrossedRead input (AsPlan plan)
   pub is_text : text ≡ text_of (document_of plan)
   pub is_document : ReadsAsDocument text
 
@@ -60,7 +60,7 @@ pub record IsDocumentOf (plan behind text : List ℕ) (names : List (Vec (String
   pub document : List ℕ
   pub is_planned : IsPlanned plan document
   pub is_text : text ≡ document ++ behind
-  pub are_names : AreNames plan names
+  pub are_names : HasOwnNames plan document names
 
 -- The input is a plan, with lines of a run behind it or not, and the text is the plan's document, with the same behind it.
 pub record IsOfPlan (input text : List ℕ) (names : List (Vec (String Global) Global)) : Type 0 where
@@ -84,8 +84,8 @@ abbrev pub Stands : Option (Bor PlanFile) → List ℕ → List ℕ → List (Ve
 Stands None input text names = StandsFor input text names
 Stands (Some file) input text names = StandsBeside file.now input text names
 
--- The lines say why nothing stands for an input beside a plan: the input doesn't begin as a document does, the plan has mistakes, or the input
--- isn't of the plan.
+-- The lines say why nothing stands for an input beside a plan: the input doesn't begin as a document does, the plan has mistakes, or the
+-- input isn't of the plan.
 abbrev pub AreWrongBeside : PlanFile → List ℕ → List ℕ → Type 0
 AreWrongBeside file input lines = (begins_as_document input ≡ false) ⊎ SayWrong file input lines
 

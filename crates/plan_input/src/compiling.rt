@@ -1,6 +1,6 @@
 // The document of a plan.
 ghost use Rattle.std.specs.Prelude.{IfOk, IfNone};
-ghost use Rattle.plan_reading.specs.Said.{IsPlanRead};
+ghost use Rattle.plan_crossed.specs.Read.{IsCrossedRead};
 ghost use Rattle.plan_reading.specs.declared.reading.PlanRead.TheVariants.{Plan as AsPlan};
 ghost use Rattle.plan_input.specs.Standing.{IsCompiled, ReadsAsDocument};
 
@@ -32,7 +32,7 @@ pub fn fault_lines(alloc: Global, what: &str, faults: &[Fault]) -> Result<String
 
 /// The document of a plan that was read of a text, if it reads as one.
 pub fn compile(alloc: Global, text: &[u8], plan: Plan) -> Result<Compiled, AllocError>
-    requires { IsPlanRead text.now (AsPlan plan) }
+    requires { IsCrossedRead text.now (AsPlan plan) }
     ensures { IfOk result (IsCompiled text.now) }
 {
     let document = written(alloc, plan)?;

@@ -1,18 +1,18 @@
 // The names that a plan beside a document gives the document's sections.
 ghost use Rattle.std.specs.Prelude.{◌≡◌, ◌<◌, ◌++◌, IfOk, Ok, OnOk, flat_map, length, string_bytes};
 ghost use Rattle.document_json.specs.Reading.{doc_of};
-ghost use Rattle.plan_reading.specs.Said.{IsPlanRead};
+ghost use Rattle.plan_crossed.specs.Read.{IsCrossedRead};
 ghost use Rattle.plan_reading.specs.declared.reading.PlanRead.TheVariants.{Plan as AsPlan};
-ghost use Rattle.plan_input.specs.Origin.{AreCalled, IsOwn, SayMistakes, mistake_words, other_words};
+ghost use Rattle.plan_input.specs.Origin.{IsOwn, SayMistakes, mistake_words, other_words};
 ghost use Rattle.plan_input.specs.Reached.{IsNaming, IsOwnOrWrong};
 
-use crate::added::all_names;
+use crate::called::{NamesFound, names_by};
 use crate::compiling::line_of;
-use crate::naming::section_names;
 use document_json::{Doc, DocRefused, document, names_of};
 use document_origin::{Difference, difference_of, push_difference};
+use plan_crossed::read_crossed_plan;
 use plan_document::{Plan, written};
-use plan_reading::{Fault, PlanRead, read_plan};
+use plan_reading::{Fault, PlanRead};
 use std::alloc::{AllocError, Global};
 
 /// The file of a plan: its name, and the text that it holds.
@@ -22,18 +22,11 @@ pub struct PlanFile<'a> {
     pub text: &'a [u8],
 }
 
-/// The names of the sections of each table of a document.
+/// The document of the plan in a file.
 #[derive(Drop)]
-pub(crate) enum NamesFound {
-    Names(Vec<Vec<String>>),
-    /// Why there are none: lines.
-    Wrong(String),
-}
-
-// The document of a plan, or what is wrong with the plan.
-#[derive(Drop)]
-enum Own {
+pub enum Own {
     Document(Doc),
+    /// What is wrong with the plan: lines, which begin with the name of the file.
     Wrong(String),
 }
 
@@ -77,7 +70,7 @@ fn refusal(alloc: Global, name: &str, refused: &DocRefused) -> Result<String, Al
 
 // The document of a plan that was read of a file.
 fn own_document(alloc: Global, file: &PlanFile<'_>, plan: Plan) -> Result<Own, AllocError>
-    requires { IsPlanRead file.now.text.now (AsPlan plan) }
+    requires { IsCrossedRead file.now.text.now (AsPlan plan) }
     ensures { IfOk result (IsOwnOrWrong file.now) }
 {
     let text = written(alloc, plan)?;
@@ -88,11 +81,11 @@ fn own_document(alloc: Global, file: &PlanFile<'_>, plan: Plan) -> Result<Own, A
     }
 }
 
-// The document of the plan in a file.
-fn own_of(alloc: Global, file: &PlanFile<'_>) -> Result<Own, AllocError>
+/// The document of the plan in a file, or what is wrong with the plan.
+pub fn own_of(alloc: Global, file: &PlanFile<'_>) -> Result<Own, AllocError>
     ensures { IfOk result (IsOwnOrWrong file.now) }
 {
-    match read_plan(alloc, file.text)? {
+    match read_crossed_plan(alloc, file.text)? {
         PlanRead::Plan(plan) => own_document(alloc, file, plan),
         PlanRead::Faults(faults) => Ok(Own::Wrong(mistakes(alloc, file.name, &faults)?)),
     }
@@ -106,14 +99,6 @@ fn other_line(alloc: Global, doc: &Doc, difference: Difference) -> Result<String
     push_difference(&mut line, names_of(doc), difference)?;
     line.push_str("\n")?;
     Ok(line)
-}
-
-// The names of the sections of a document that is of a plan.
-fn names_by(alloc: Global, doc: &Doc, text: &[u8]) -> Result<Vec<Vec<String>>, AllocError>
-    ensures { IfOk result (λ names. AreCalled text.now doc.now names.items) }
-{
-    let planned = section_names(alloc, text)?;
-    all_names(alloc, doc, &planned)
 }
 
 // The names of the sections of a document by a plan in a file, whose own document this is.
@@ -130,7 +115,7 @@ fn compared(
 {
     match difference_of(doc, own) {
         Some(difference) => Ok(NamesFound::Wrong(other_line(alloc, doc, difference)?)),
-        None => Ok(NamesFound::Names(names_by(alloc, doc, file.text)?)),
+        None => Ok(NamesFound::Names(names_by(alloc, doc, own, file.text)?)),
     }
 }
 

@@ -1,16 +1,17 @@
 // What stands for a document in an input.
 ghost use Rattle.std.specs.Prelude.{◌≡◌, ◌++◌, IfOk, None, Ok};
 ghost use Rattle.document_json.specs.Reading.{doc_of};
-ghost use Rattle.plan_reading.specs.Said.{IsPlanRead};
+ghost use Rattle.plan_crossed.specs.Read.{IsCrossedRead};
 ghost use Rattle.plan_reading.specs.declared.reading.PlanRead.TheVariants.{Plan as AsPlan};
 ghost use Rattle.plan_input.specs.Standing.{IsBehind, IsPlanBefore, IsStanding, IsStandingBeside, begins_as_document, first_sign as first_sign_of, is_space as is_space_of};
 
-use crate::compiling::{Compiled, compile, fault_lines};
-use crate::naming::section_names;
-use crate::origin::{NamesFound, PlanFile, naming};
+use crate::called::{NamesFound, names_in};
+use crate::compiling::fault_lines;
+use crate::origin::{PlanFile, naming};
 use document_json::{Doc, DocRefused, document};
-use plan_document::Plan;
-use plan_reading::{PlanRead, read_plan};
+use plan_crossed::read_crossed_plan;
+use plan_document::{Plan, written};
+use plan_reading::PlanRead;
 use std::alloc::{AllocError, Global};
 use timed_reading::cut;
 
@@ -28,8 +29,8 @@ pub enum Standing {
         text: Vec<u8>,
         names: Vec<Vec<String>>,
     },
-    /// A plan with mistakes, or one whose document is refused: a line for each. Beside a plan, an input that doesn't begin as a document does, or
-    /// that isn't of the plan.
+    /// A plan with mistakes, or one whose document is refused: a line for each. Beside a plan, an input that doesn't begin as a document
+    /// does, or that isn't of the plan.
     Wrong(String),
 }
 
@@ -47,8 +48,8 @@ fn first_sign(input: &[u8]) -> Option<u8>
     input.iter().copied().find(|byte| !is_space(*byte))
 }
 
-// Whether an input begins as a document does: its first byte that is no space is a brace.
-fn is_document(input: &[u8]) -> bool
+/// Whether an input begins as a document does: its first byte that is no space is a brace.
+pub fn is_document(input: &[u8]) -> bool
     ensures { result ≡ begins_as_document input.now }
 {
     match first_sign(input) {
@@ -57,8 +58,8 @@ fn is_document(input: &[u8]) -> bool
     }
 }
 
-// What comes before the first line `journal` of an input, and the rest.
-fn parts(input: &[u8]) -> (&[u8], &[u8])
+/// What comes before the first line `journal` of an input, and the rest.
+pub fn parts(input: &[u8]) -> (&[u8], &[u8])
     ensures whole { input.now ≡ result.0.now ++ result.1.now }
     ensures behind { IsBehind result.1.now }
 {
@@ -68,8 +69,8 @@ fn parts(input: &[u8]) -> (&[u8], &[u8])
     }
 }
 
-/// What stands for a document in an input, with a plan in a file beside it or without. An input beside a plan is a document: it stands for itself,
-/// with the plan's names if it is of the plan, and with none if it is refused.
+/// What stands for a document in an input, with a plan in a file beside it or without. An input beside a plan is a document: it stands for
+/// itself, with the plan's names if it is of the plan, and with none if it is refused.
 pub fn document_for(
     alloc: Global,
     input: &[u8],
@@ -130,7 +131,7 @@ fn document_in(alloc: Global, input: &[u8]) -> Result<Standing, AllocError>
 fn plan_in(alloc: Global, plan: &[u8], behind: &[u8]) -> Result<Standing, AllocError>
     ensures { IfOk result (IsPlanBefore plan.now behind.now) }
 {
-    match read_plan(alloc, plan)? {
+    match read_crossed_plan(alloc, plan)? {
         PlanRead::Plan(read) => document_of(alloc, plan, read, behind),
         PlanRead::Faults(faults) => Ok(Standing::Wrong(fault_lines(alloc, "", &faults)?)),
     }
@@ -143,16 +144,16 @@ fn document_of(
     plan: Plan,
     behind: &[u8],
 ) -> Result<Standing, AllocError>
-    requires { IsPlanRead text.now (AsPlan plan) }
+    requires { IsCrossedRead text.now (AsPlan plan) }
     ensures { IfOk result (IsPlanBefore text.now behind.now) }
 {
-    match compile(alloc, text, plan)? {
-        Compiled::Document(document) => {
-            let names = section_names(alloc, text)?;
+    let document = written(alloc, plan)?;
+    match names_in(alloc, &document, text)? {
+        NamesFound::Names(names) => {
             let text = joined(document, behind)?;
             Ok(Standing::Plan { text, names })
         }
-        Compiled::Refused(line) => Ok(Standing::Wrong(line)),
+        NamesFound::Wrong(line) => Ok(Standing::Wrong(line)),
     }
 }
 

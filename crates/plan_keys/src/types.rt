@@ -18,6 +18,10 @@ enum Takes {
     Places,
     // A table of tables of numbers.
     Shares,
+    // A list of lists of names.
+    Lists,
+    // A table of lists of names.
+    Ways,
 }
 
 impl Takes {
@@ -31,6 +35,8 @@ impl Takes {
             Takes::Numbers => "a whole number, or a table of them",
             Takes::Places => "a name, or a table of them",
             Takes::Shares => "a table of tables of whole numbers",
+            Takes::Lists => "a list of lists of names",
+            Takes::Ways => "a table of lists of names",
         }
     }
 
@@ -40,7 +46,7 @@ impl Takes {
             Takes::Name | Takes::Places => value.is_str(),
             Takes::Number | Takes::Numbers => value.is_integer(),
             Takes::Flag => value.is_bool(),
-            Takes::Names | Takes::Shares => false,
+            Takes::Names | Takes::Shares | Takes::Lists | Takes::Ways => false,
         }
     }
 }
@@ -125,10 +131,38 @@ fn check_names(faults: &mut Faults, at: &Entry, value: &Value) {
     }
 }
 
+// Tells each value of a list that isn't a list of names.
+fn check_chains(faults: &mut Faults, at: &Entry, values: &[Value]) {
+    for value in values {
+        check_names(faults, at, value);
+    }
+}
+
+// Tells each value of a table that isn't a list of names.
+fn check_chains_of(faults: &mut Faults, at: &Entry, table: &Table) {
+    for (_, value) in table {
+        check_names(faults, at, value);
+    }
+}
+
+// Tells what is wrong with lists of names, in a list or in a table.
+fn check_in(faults: &mut Faults, at: &Entry, takes: Takes, value: &Value) {
+    match value {
+        Value::Array(values) if matches!(takes, Takes::Lists) => check_chains(
+            faults,
+            at,
+            values.as_slice(),
+        ),
+        Value::Table(table) if matches!(takes, Takes::Ways) => check_chains_of(faults, at, table),
+        _ => tell_type(faults, at, takes.words(), value),
+    }
+}
+
 // Tells a value of the wrong type.
 fn check_value(faults: &mut Faults, at: &Entry, takes: Takes, value: &Value) {
     match takes {
         Takes::Names => return check_names(faults, at, value),
+        Takes::Lists | Takes::Ways => return check_in(faults, at, takes, value),
         Takes::Numbers | Takes::Places => if let Some(table) = value.as_table() {
             return check_each(faults, at, takes, table);
         },
@@ -155,6 +189,9 @@ fn known_keys(kind: Kind, is_further: bool) -> &'static [&'static str] {
             "train",
             "section",
             "connection",
+            "crossing",
+            "scissors",
+            "ladder",
             "table",
         ],
         Kind::Train if is_further => &["name", "pattern", "count", "route", "exit", "times"],
@@ -165,6 +202,9 @@ fn known_keys(kind: Kind, is_further: bool) -> &'static [&'static str] {
             "name", "limit", "points", "weight", "only", "from", "to", "holds",
         ],
         Kind::Connection => &["train", "leaves", "after", "reached"],
+        Kind::Crossing => &["name", "ways", "parallel"],
+        Kind::Scissors => &["name", "tracks"],
+        Kind::Ladder => &["name", "leads", "roads"],
         Kind::Table => &["after", "train", "section", "connection"],
     }
 }
@@ -180,6 +220,8 @@ fn taken_by(kind: Kind, key: &str) -> Takes {
             "times" | "weight" => Takes::Numbers,
             "from" | "to" => Takes::Places,
             "holds" => Takes::Shares,
+            "ways" => Takes::Ways,
+            "parallel" | "tracks" => Takes::Lists,
             _ => Takes::Names,
         },
     }
@@ -192,6 +234,9 @@ fn is_needed(kind: Kind, key: &str) -> bool {
         Kind::Train | Kind::Pattern => key == "name",
         Kind::Section => key == "limit",
         Kind::Table => key == "after",
+        Kind::Crossing => key == "ways",
+        Kind::Scissors => key == "tracks",
+        Kind::Ladder => true,
         Kind::Top | Kind::Zones | Kind::Ways => false,
     }
 }
@@ -365,5 +410,8 @@ pub fn check_types(faults: &mut Faults, top: &Entry) {
     check_key(faults, top, "switches");
     check_zones(faults, top);
     check_lists(faults, top);
+    check_entries(faults, top, Kind::Crossing);
+    check_entries(faults, top, Kind::Scissors);
+    check_entries(faults, top, Kind::Ladder);
     check_tables(faults, top);
 }

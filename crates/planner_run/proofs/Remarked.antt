@@ -5,12 +5,12 @@ use Rattle.document_json.specs.Doc.{Doc}
 use Rattle.document_json.specs.Reading.{doc_of}
 use Rattle.document_json.specs.declared.refused.DocRefused.{DocRefused}
 use Rattle.document_lint.specs.Facts.{Holds}
-use Rattle.document_lint.specs.Told.{AreRemarks, facts_of}
+use Rattle.document_lint.specs.Told.{AreRemarks, IsSoOf, facts_of}
 use Rattle.document_lint.specs.declared.fact.Fact.{Fact}
 use Rattle.document_lint.specs.declared.fact.Fact.TheVariants.{Refused}
 use Rattle.document_lint.specs.declared.remark.Remark.{Remark}
 use Rattle.plan_input.specs.Standing.{ReadsAsDocument}
-use Rattle.planner_run.specs.Answered.{IsSoOf, NeedsNoRemark}
+use Rattle.planner_run.specs.Answered.{NeedsNoRemark}
 use denote.Ref.{Bor}
 
 -- where there is no remark, nothing is so that one would tell

@@ -6,7 +6,7 @@ use Rattle.plan_input.specs.declared.standing.Standing.{Standing}
 use Rattle.plan_input.specs.declared.standing.Standing.TheVariants.{Itself, Named, Plan as AsDocument, Wrong as Mistaken}
 use Rattle.planner_words.specs.declared.orders.Order.{Order}
 use Rattle.planner_words.specs.declared.orders.Order.TheVariants.{Plan as OfPlan, ExplainState, ExplainLine, Lint, Certify, Protect, AddOrders, OrderByRun, Timetable, Graph, Layout}
-use Rattle.planner_run.specs.Answered.{HasNotes, IsAnswerFor, IsAnswerTo, IsSuspected, IsWorkedOn, WorksOn}
+use Rattle.planner_run.specs.Answered.{HasNotes, IsAnswerFor, IsMadeFor, IsSuspected, IsWorkedOn, WorksOn}
 use Rattle.planner_run.specs.declared.answer.Answer.{Answer}
 use Rattle.planner_run.specs.declared.answer.Answer.TheVariants.{Text, Remarks, Noted, Wrong}
 use denote.Ref.{Bor}
@@ -19,9 +19,9 @@ works_on_standing (ExplainState table at run file) plan input text names other s
 works_on_standing (ExplainLine line file) plan input text names other stands = stands
 works_on_standing (Lint before file) plan input text names other stands = stands
 works_on_standing (Certify budget effort) plan input text names other stands = stands
-works_on_standing (Protect budget effort rounds) plan input text names other stands = stands
-works_on_standing AddOrders plan input text names other stands = stands
-works_on_standing (OrderByRun seed journal) plan input text names other stands = stands
+works_on_standing (Protect budget effort rounds output) plan input text names other stands = stands
+works_on_standing (AddOrders output) plan input text names other stands = stands
+works_on_standing (OrderByRun seed journal output) plan input text names other stands = stands
 works_on_standing (Timetable csv journal) plan input text names other stands = stands
 works_on_standing (Graph train journal) plan input text names other stands = stands
 works_on_standing (Layout table at file) plan input text names other stands = stands
@@ -37,9 +37,9 @@ worked_on order plan input (Mistaken lines) other stands = stands
 notes_there : (order : Order) (plan : Option (Bor PlanFile)) (input document : List ℕ) (names : List (Vec (String Global) Global)) → WorksOn order plan input document names →
     HasNotes order (Some document) → HasNotes order (Some input)
 notes_there OfPlan plan input document names works notes = subst IsSuspected works.0 notes
-notes_there (Protect budget effort rounds) plan input document names works notes = tt
-notes_there AddOrders plan input document names works notes = tt
-notes_there (OrderByRun seed journal) plan input document names works notes = tt
+notes_there (Protect budget effort rounds output) plan input document names works notes = tt
+notes_there (AddOrders output) plan input document names works notes = tt
+notes_there (OrderByRun seed journal output) plan input document names works notes = tt
 notes_there (ExplainState table at run file) plan input document names works notes = absurd notes
 notes_there (ExplainLine line file) plan input document names works notes = absurd notes
 notes_there (Lint before file) plan input document names works notes = absurd notes
@@ -51,7 +51,7 @@ notes_there (Layout table at file) plan input document names works notes = absur
 module _ (order : Order) (former : Option (Bor (List ℕ))) (plan : Option (Bor PlanFile)) (input document : List ℕ) (names : List (Vec (String Global) Global))
     (works : WorksOn order plan input document names) where
   -- the answer for what an order works on is its answer to the input
-  pub answer_there : (a : Answer) → IsAnswerFor order former document names a → IsAnswerTo order former plan input a
+  pub answer_there : (a : Answer) → IsAnswerFor order former document names a → IsMadeFor order former plan input a
   answer_there (Text text) is = record { document = document; names = names; works = works; is_text = is }
   answer_there (Remarks lines) is = is
   answer_there (Noted text lines) is =

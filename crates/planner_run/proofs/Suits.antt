@@ -4,6 +4,7 @@ use Rattle.std.specs.Prelude.{Result, Ok, Err, IfOk, IfSome, string_bytes}
 use Rattle.planner_words.specs.declared.orders.Effort.{Effort}
 use Rattle.planner_words.specs.declared.orders.Order.{Order}
 use Rattle.planner_words.specs.declared.orders.Order.TheVariants.{Plan as OfPlan, ExplainState, ExplainLine, Lint, Certify, Protect, AddOrders, OrderByRun, Timetable, Graph, Layout}
+use Rattle.planner_words.specs.declared.orders.Output.{Output}
 use Rattle.planner_run.specs.Answered.{AreWrongFor, HasNotes, IfText, IsAnswerFor, IsCertifying, IsLinted, IsOrdering, IsOrderingByRun, IsPlanning, IsProtecting, IsSuspected, IsTextFor}
 use Rattle.planner_run.specs.declared.answer.Answer.{Answer}
 use Rattle.planner_run.specs.declared.answer.Answer.TheVariants.{Text, Remarks, Noted, Wrong}
@@ -34,25 +35,26 @@ lint_answers before file former input names (Remarks lines) linted = tt
 lint_answers before file former input names (Noted text lines) linted = absurd linted
 lint_answers before file former input names (Wrong lines) linted = tt
 
-pub ordering_answers : (former : Option (Bor (List ℕ))) (input : List ℕ) (names : List (Vec (String Global) Global)) (a : Answer) → IsOrdering input a → IsAnswerFor AddOrders former input names a
-ordering_answers former input names (Text text) holds = absurd holds
-ordering_answers former input names (Remarks lines) holds = absurd holds
-ordering_answers former input names (Noted text lines) holds = (tt, holds)
-ordering_answers former input names (Wrong lines) holds = tt
+pub ordering_answers : (output : Output) (former : Option (Bor (List ℕ))) (input : List ℕ) (names : List (Vec (String Global) Global))
+    (a : Answer) → IsOrdering input a → IsAnswerFor (AddOrders output) former input names a
+ordering_answers output former input names (Text text) holds = absurd holds
+ordering_answers output former input names (Remarks lines) holds = absurd holds
+ordering_answers output former input names (Noted text lines) holds = (tt, holds)
+ordering_answers output former input names (Wrong lines) holds = tt
 
-pub run_ordering_answers : (seed : ℕ) (journal former : Option (Bor (List ℕ))) (input : List ℕ) (names : List (Vec (String Global) Global)) (a : Answer) → IsOrderingByRun input a →
-    IsAnswerFor (OrderByRun seed journal) former input names a
-run_ordering_answers seed journal former input names (Text text) holds = absurd holds
-run_ordering_answers seed journal former input names (Remarks lines) holds = absurd holds
-run_ordering_answers seed journal former input names (Noted text lines) holds = (tt, holds)
-run_ordering_answers seed journal former input names (Wrong lines) holds = tt
+pub run_ordering_answers : (seed : ℕ) (journal : Option (Bor (List ℕ))) (output : Output) (former : Option (Bor (List ℕ))) (input : List ℕ)
+    (names : List (Vec (String Global) Global)) (a : Answer) → IsOrderingByRun input a → IsAnswerFor (OrderByRun seed journal output) former input names a
+run_ordering_answers seed journal output former input names (Text text) holds = absurd holds
+run_ordering_answers seed journal output former input names (Remarks lines) holds = absurd holds
+run_ordering_answers seed journal output former input names (Noted text lines) holds = (tt, holds)
+run_ordering_answers seed journal output former input names (Wrong lines) holds = tt
 
-pub protecting_answers : (budget : ℕ) (effort : Effort) (rounds : ℕ) (former : Option (Bor (List ℕ))) (input : List ℕ) (names : List (Vec (String Global) Global)) (a : Answer) →
-    IsProtecting input a → IsAnswerFor (Protect budget effort rounds) former input names a
-protecting_answers budget effort rounds former input names (Text text) holds = absurd holds
-protecting_answers budget effort rounds former input names (Remarks lines) holds = absurd holds
-protecting_answers budget effort rounds former input names (Noted text lines) holds = (tt, holds)
-protecting_answers budget effort rounds former input names (Wrong lines) holds = holds
+pub protecting_answers : (budget : ℕ) (effort : Effort) (rounds : ℕ) (output : Output) (former : Option (Bor (List ℕ))) (input : List ℕ)
+    (names : List (Vec (String Global) Global)) (a : Answer) → IsProtecting input a → IsAnswerFor (Protect budget effort rounds output) former input names a
+protecting_answers budget effort rounds output former input names (Text text) holds = absurd holds
+protecting_answers budget effort rounds output former input names (Remarks lines) holds = absurd holds
+protecting_answers budget effort rounds output former input names (Noted text lines) holds = (tt, holds)
+protecting_answers budget effort rounds output former input names (Wrong lines) holds = holds
 
 -- what is wrong is no document with orders
 pub wrong_orders : (input : List ℕ) (a : Answer) → IfText (λ text. ⊥) a → IsOrdering input a
@@ -70,9 +72,9 @@ together P A B (Err e) a b = tt
 notes_of_read : (order : Order) (left : Option (List ℕ)) (input : List ℕ) → IfSome left (λ all. input ≡ all) → HasNotes order (Some input) → HasNotes order left
 notes_of_read OfPlan (Some all) input is notes = subst IsSuspected is notes
 notes_of_read OfPlan None input is notes = tt
-notes_of_read (Protect budget effort rounds) left input is notes = tt
-notes_of_read AddOrders left input is notes = tt
-notes_of_read (OrderByRun seed journal) left input is notes = tt
+notes_of_read (Protect budget effort rounds output) left input is notes = tt
+notes_of_read (AddOrders output) left input is notes = tt
+notes_of_read (OrderByRun seed journal output) left input is notes = tt
 notes_of_read (ExplainState table at run file) left input is notes = absurd notes
 notes_of_read (ExplainLine line file) left input is notes = absurd notes
 notes_of_read (Lint before file) left input is notes = absurd notes

@@ -9,9 +9,9 @@ use Rattle.refusal_lines.specs.Makers.{places_words}
 use Rattle.document_json.specs.Reading.{doc_of}
 use Rattle.document_json.specs.Doc.{Doc, names_of, table_at}
 use Rattle.plan_document.specs.declared.plan.Plan.{Plan}
-use Rattle.plan_reading.specs.Said.{IsPlanRead}
+use Rattle.plan_crossed.specs.Read.{IsCrossedRead}
 use Rattle.plan_reading.specs.declared.reading.PlanRead.TheVariants.{Plan as AsPlan}
-use Rattle.plan_input.specs.Standing.{AreFaultsOf, IsPlanned, IsStandingAs, ReadsAsDocument, Stands}
+use Rattle.plan_input.specs.Standing.{AreFaultsOf, begins_as_document, IsPlanned, IsStandingAs, ReadsAsDocument, Stands}
 use Rattle.plan_input.specs.declared.origin.PlanFile.{PlanFile}
 use Rattle.plan_input.specs.declared.standing.Standing.{Standing}
 use Rattle.plan_suspects.specs.Suspects.{has_suspects}
@@ -26,8 +26,7 @@ use Rattle.timed_reading.specs.Reads.{IsInputOf}
 use Rattle.rail_model.specs.Layout.{Layout as LayoutValue}
 use Rattle.train_graph.specs.Graph.{IsGraph}
 use Rattle.layout_picture.specs.Drawn.{IsDrawn}
-use Rattle.document_lint.specs.Adding.{Or}
-use Rattle.document_lint.specs.Told.{AreRemarks, HoldsAfter, HoldsOf}
+use Rattle.document_lint.specs.Told.{AreRemarks, IsSoOf}
 use Rattle.document_lint.specs.declared.fact.Fact.{Fact}
 use Rattle.document_lint.specs.declared.remark.Remark.{Remark}
 use Rattle.svg_text.specs.Tree.{Picture}
@@ -37,6 +36,7 @@ use Rattle.planner_words.specs.declared.orders.Order.TheVariants.{Plan as OfPlan
 use Rattle.ats_words.specs.declared.answering.WordsAnswered.{WordsAnswered}
 use Rattle.ats_words.specs.declared.answering.WordsAnswered.TheVariants.{Shown, Refused, Memory}
 use Rattle.planner_run.specs.Certifying.{IsCertifiedInput, IsCertifyingFault}
+use Rattle.planner_run.specs.Entering.{AsksForEntries, IsPut, output_of}
 use Rattle.planner_run.specs.Ordering.{IsOrderedInput}
 use Rattle.planner_run.specs.Protecting.{IsProtectedInput, IsProtectingFault}
 use Rattle.planner_run.specs.declared.answer.Answer.{Answer}
@@ -127,8 +127,8 @@ abbrev pub AreAsked : Doc → Option (Bor (List ℕ)) → List ℕ → Type 0
 AreAsked D (Some words) places = words.now ≡ places_words places
 AreAsked D None places = places ≡ D.start
 
--- The text is a picture of a document's layout under its table t, by these names of sections, and of its trains at these places, which are legal
--- there.
+-- The text is a picture of a document's layout under its table t, by these names of sections, and of its trains at these places, which are
+-- legal there.
 pub record IsLayoutAt (D : Doc) (names : List (Vec (String Global) Global)) (t : ℕ) (places text : List ℕ) : Type 0 where
   pub picture : Picture
   pub legal : Legal (table_at D t) places
@@ -149,11 +149,6 @@ pub record IsLayoutText (input : List ℕ) (names : List (Vec (String Global) Gl
   pub is_table : number_of table_words ≡ Some table
   pub is_layout : IsLayoutOf document names table asked text
 
--- What is so of the input, and of it after the former document, if there is one.
-abbrev pub IsSoOf : Option (Bor (List ℕ)) → List ℕ → Fact → Type 0
-IsSoOf None input = HoldsOf input
-IsSoOf (Some former) input = Or (HoldsOf input) (HoldsAfter input former.now)
-
 -- No fact is so that a remark tells: the input is a document without one, and no section of the former document is gone.
 abbrev pub NeedsNoRemark : Option (Bor (List ℕ)) → List ℕ → Type 0
 NeedsNoRemark former input = ReadsAsDocument input × ((f : Fact) → IsSoOf former input f → ⊥)
@@ -162,17 +157,17 @@ NeedsNoRemark former input = ReadsAsDocument input × ((f : Fact) → IsSoOf for
 abbrev pub HasNoRemarks : Option (Bor (List ℕ)) → List ℕ → List ℕ → Type 0
 HasNoRemarks former input text = (text ≡ []) × NeedsNoRemark former input
 
--- The order works on this text, with these names of sections, if its input is that, with a plan in a file beside it or without: `plan` on the
--- input itself, any other on the document that stands for it.
+-- The order works on this text, with these names of sections, if its input is that, with a plan in a file beside it or without: `plan` on
+-- the input itself, any other on the document that stands for it.
 abbrev pub WorksOn : Order → Option (Bor PlanFile) → List ℕ → List ℕ → List (Vec (String Global) Global) → Type 0
 WorksOn OfPlan plan input text names = (text ≡ input) × (names ≡ [])
 WorksOn (ExplainState table at run file) plan input text names = Stands plan input text names
 WorksOn (ExplainLine line file) plan input text names = Stands plan input text names
 WorksOn (Lint before file) plan input text names = Stands plan input text names
 WorksOn (Certify budget effort) plan input text names = Stands plan input text names
-WorksOn (Protect budget effort rounds) plan input text names = Stands plan input text names
-WorksOn AddOrders plan input text names = Stands plan input text names
-WorksOn (OrderByRun seed journal) plan input text names = Stands plan input text names
+WorksOn (Protect budget effort rounds output) plan input text names = Stands plan input text names
+WorksOn (AddOrders output) plan input text names = Stands plan input text names
+WorksOn (OrderByRun seed journal output) plan input text names = Stands plan input text names
 WorksOn (Timetable csv journal) plan input text names = Stands plan input text names
 WorksOn (Graph train journal) plan input text names = Stands plan input text names
 WorksOn (Layout table at file) plan input text names = Stands plan input text names
@@ -188,9 +183,9 @@ IsTextFor (ExplainState table at run file) former input names text = ExplainsPla
 IsTextFor (ExplainLine line file) former input names text = ExplainsWords input names line.now text
 IsTextFor (Lint before file) former input names text = HasNoRemarks former input text
 IsTextFor (Certify budget effort) former input names text = IsCertifiedInput input budget text
-IsTextFor (Protect budget effort rounds) former input names text = IsProtectedInput input text
-IsTextFor AddOrders former input names text = IsOrderedInput input text
-IsTextFor (OrderByRun seed journal) former input names text = IsInputByRun input text
+IsTextFor (Protect budget effort rounds output) former input names text = IsProtectedInput input text
+IsTextFor (AddOrders output) former input names text = IsOrderedInput input text
+IsTextFor (OrderByRun seed journal output) former input names text = IsInputByRun input text
 IsTextFor (Timetable csv journal) former input names text = IsTimetableText input csv text
 IsTextFor (Graph train journal) former input names text = IsGraphText input text
 IsTextFor (Layout table at file) former input names text = IsLayoutText input names table.now at text
@@ -202,16 +197,22 @@ pub record IsTextOn (order : Order) (former : Option (Bor (List ℕ))) (plan : O
   pub works : WorksOn order plan input document names
   pub is_text : IsTextFor order former document names text
 
+-- The text is written of an input: that which an order comes to, or what it asks for in its place.
+pub record IsWrittenOn (order : Order) (former : Option (Bor (List ℕ))) (plan : Option (Bor PlanFile)) (input text : List ℕ) : Type 0 where
+  pub made : List ℕ
+  pub is_made : IsTextOn order former plan input made
+  pub is_put : IsPut (output_of order) input made text
+
 -- The lines are what is wrong with a document for an order. Only of those of `certify` and `protect` anything is said.
 abbrev pub AreWrongFor : Order → List ℕ → List ℕ → Type 0
 AreWrongFor (Certify budget effort) input lines = IsCertifyingFault input budget lines
-AreWrongFor (Protect budget effort rounds) input lines = IsProtectingFault input lines
+AreWrongFor (Protect budget effort rounds output) input lines = IsProtectingFault input lines
 AreWrongFor OfPlan input lines = Unit {0}
 AreWrongFor (ExplainState table at run file) input lines = Unit {0}
 AreWrongFor (ExplainLine line file) input lines = Unit {0}
 AreWrongFor (Lint before file) input lines = Unit {0}
-AreWrongFor AddOrders input lines = Unit {0}
-AreWrongFor (OrderByRun seed journal) input lines = Unit {0}
+AreWrongFor (AddOrders output) input lines = Unit {0}
+AreWrongFor (OrderByRun seed journal output) input lines = Unit {0}
 AreWrongFor (Timetable csv journal) input lines = Unit {0}
 AreWrongFor (Graph train journal) input lines = Unit {0}
 AreWrongFor (Layout table at file) input lines = Unit {0}
@@ -223,15 +224,25 @@ pub record AreWrongThere (order : Order) (plan : Option (Bor PlanFile)) (input l
   pub works : WorksOn order plan input document names
   pub are_wrong : AreWrongFor order document lines
 
--- The lines are what is wrong with an input for an order: with what it works on; or the mistakes of a plan, or that an input isn't of the plan
--- beside it.
+-- The lines are what is wrong with an input for an order: with what it works on; or the mistakes of a plan, or that an input isn't of the
+-- plan beside it.
 abbrev pub AreWrongOn : Order → Option (Bor PlanFile) → List ℕ → List ℕ → Type 0
 AreWrongOn order plan input lines = AreFaultsOf plan input lines ⊎ AreWrongThere order plan input lines
 
--- What a sink took is the beginning of lines that say what is wrong with an input for an order.
-pub record Tells (order : Order) (plan : Option (Bor PlanFile)) (input : List ℕ) (old new : Option (List ℕ)) : Type 0 where
+-- An order that asks for entries gets none: its input begins as a document does; or what it comes to isn't written as entries, of which
+-- nothing is said.
+pub record HasNoEntries (order : Order) (former : Option (Bor (List ℕ))) (plan : Option (Bor PlanFile)) (input : List ℕ) : Type 0 where
+  pub asks : AsksForEntries order
+  pub cause : (begins_as_document input ≡ true) ⊎ ((made : List ℕ) × IsTextOn order former plan input made)
+
+-- The lines say why an order gets no text: what is wrong with its input; or that there are no entries for it.
+abbrev pub SayWhyNone : Order → Option (Bor (List ℕ)) → Option (Bor PlanFile) → List ℕ → List ℕ → Type 0
+SayWhyNone order former plan input lines = AreWrongOn order plan input lines ⊎ HasNoEntries order former plan input
+
+-- What a sink took is the beginning of lines that say why an order gets no text.
+pub record Tells (order : Order) (former : Option (Bor (List ℕ))) (plan : Option (Bor PlanFile)) (input : List ℕ) (old new : Option (List ℕ)) : Type 0 where
   pub lines : List ℕ
-  pub are_wrong : AreWrongOn order plan input lines
+  pub are_wrong : SayWhyNone order former plan input lines
   pub are_told : AddsPrefix old new lines
 
 -- The order asks for remarks.
@@ -241,9 +252,9 @@ AsksForRemarks OfPlan = ⊥
 AsksForRemarks (ExplainState table at run file) = ⊥
 AsksForRemarks (ExplainLine line file) = ⊥
 AsksForRemarks (Certify budget effort) = ⊥
-AsksForRemarks (Protect budget effort rounds) = ⊥
-AsksForRemarks AddOrders = ⊥
-AsksForRemarks (OrderByRun seed journal) = ⊥
+AsksForRemarks (Protect budget effort rounds output) = ⊥
+AsksForRemarks (AddOrders output) = ⊥
+AsksForRemarks (OrderByRun seed journal output) = ⊥
 AsksForRemarks (Timetable csv journal) = ⊥
 AsksForRemarks (Graph train journal) = ⊥
 AsksForRemarks (Layout table at file) = ⊥
@@ -251,16 +262,16 @@ AsksForRemarks (Layout table at file) = ⊥
 -- The input is a plan, and a point of it is probably mistyped.
 pub record IsSuspected (input : List ℕ) : Type 0 where
   pub plan : Plan
-  pub is_plan : IsPlanRead input (AsPlan plan)
+  pub is_plan : IsCrossedRead input (AsPlan plan)
   pub is_suspected : IsTrue (has_suspects plan)
 
 -- The text that an order asks for has notes: those that add sections always; that of a plan only if a point of the plan that was read is
 -- probably mistyped, or if it isn't known what was read.
 abbrev pub HasNotes : Order → Option (List ℕ) → Type 0
 HasNotes OfPlan read = IfSome read IsSuspected
-HasNotes (Protect budget effort rounds) read = Unit {0}
-HasNotes AddOrders read = Unit {0}
-HasNotes (OrderByRun seed journal) read = Unit {0}
+HasNotes (Protect budget effort rounds output) read = Unit {0}
+HasNotes (AddOrders output) read = Unit {0}
+HasNotes (OrderByRun seed journal output) read = Unit {0}
 HasNotes (ExplainState table at run file) read = ⊥
 HasNotes (ExplainLine line file) read = ⊥
 HasNotes (Lint before file) read = ⊥
@@ -299,11 +310,18 @@ IsAnswerFor order former document names (Noted text lines) = HasNotes order (Som
 IsAnswerFor order former document names (Wrong lines) = AreWrongFor order document (string_bytes lines)
 
 -- The same of an input, which is a document or a plan, with a plan beside it or without.
+abbrev pub IsMadeFor : Order → Option (Bor (List ℕ)) → Option (Bor PlanFile) → List ℕ → Answer → Type 0
+IsMadeFor order former plan input (Text text) = IsTextOn order former plan input text.items
+IsMadeFor order former plan input (Remarks lines) = AsksForRemarks order
+IsMadeFor order former plan input (Noted text lines) = HasNotes order (Some input) × IsTextOn order former plan input text.items
+IsMadeFor order former plan input (Wrong lines) = AreWrongOn order plan input (string_bytes lines)
+
+-- The answer is what is written of an input, with remarks and notes as before, or why nothing is.
 abbrev pub IsAnswerTo : Order → Option (Bor (List ℕ)) → Option (Bor PlanFile) → List ℕ → Answer → Type 0
-IsAnswerTo order former plan input (Text text) = IsTextOn order former plan input text.items
+IsAnswerTo order former plan input (Text text) = IsWrittenOn order former plan input text.items
 IsAnswerTo order former plan input (Remarks lines) = AsksForRemarks order
-IsAnswerTo order former plan input (Noted text lines) = HasNotes order (Some input) × IsTextOn order former plan input text.items
-IsAnswerTo order former plan input (Wrong lines) = AreWrongOn order plan input (string_bytes lines)
+IsAnswerTo order former plan input (Noted text lines) = HasNotes order (Some input) × IsWrittenOn order former plan input text.items
+IsAnswerTo order former plan input (Wrong lines) = SayWhyNone order former plan input (string_bytes lines)
 
 -- The answer is the document of a plan, with notes only if a point of the plan is probably mistyped, or what is wrong.
 abbrev pub IsPlanning : List ℕ → Answer → Type 0

@@ -1,3 +1,4 @@
+pub mod Entering
 pub mod Certifying
 pub mod Answered
 pub mod Ordering

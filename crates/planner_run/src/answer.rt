@@ -1,9 +1,10 @@
 // What an order comes to.
 ghost use Rattle.std.specs.Prelude.{IfOk};
-ghost use Rattle.planner_run.specs.Answered.{IsAnswerFor, IsAnswerTo, IsWorkedOn};
+ghost use Rattle.planner_run.specs.Answered.{IsAnswerFor, IsAnswerTo, IsMadeFor, IsWorkedOn};
 
 use crate::certifying::certify;
 use crate::drawing::layout;
+use crate::entering::{Given, asks_for_entries, put};
 use crate::explaining::{line as explain_line, state as explain_state};
 use crate::linting::remarks;
 use crate::ordering::{add_orders, order_by_run};
@@ -11,7 +12,7 @@ use crate::planning::plan;
 use crate::protecting::protect;
 use crate::timing::{graph, timetable};
 use cert_search::Watcher;
-use plan_input::{PlanFile, Standing, document_for};
+use plan_input::{PlanFile, Standing, document_for, is_document};
 use planner_words::Order;
 use std::alloc::{AllocError, Global};
 
@@ -43,8 +44,12 @@ fn standing_for(
     }
 }
 
-/// What an order comes to on this input, which is a document, or a plan in place of it. `former` is the former document, and `plan` the file of
-/// the plan that the document was made of, where the order names them. The watcher sees how far searches for certificates are.
+const NO_PLAN: &str =
+    "--into and --entries go with a plan, and the input is a document, which begins with a brace\n";
+
+/// What an order comes to on this input, which is a document, or a plan in place of it; where it asks for entries, the plan with entries
+/// for the sections that it adds, or these entries alone. `former` is the former document, and `plan` the file of the plan that the
+/// document was made of, where the order names them. The watcher sees how far searches for certificates are.
 pub fn answer_to<W: Watcher>(
     alloc: Global,
     order: &Order<'_>,
@@ -54,6 +59,34 @@ pub fn answer_to<W: Watcher>(
     watcher: &W,
 ) -> Result<Answer, AllocError>
     ensures { IfOk result (IsAnswerTo order.now former.entry plan.entry input.now) }
+{
+    if asks_for_entries(order) && is_document(input) {
+        return Ok(Answer::Wrong(String::from_str(alloc, NO_PLAN)?));
+    }
+    match made_for(alloc, order, input, former, plan, watcher)? {
+        Answer::Text(text) => match put(alloc, order, input, text)? {
+            Given::Text(text) => Ok(Answer::Text(text)),
+            Given::Not(lines) => Ok(Answer::Wrong(lines)),
+        },
+        Answer::Noted(text, lines) => match put(alloc, order, input, text)? {
+            Given::Text(text) => Ok(Answer::Noted(text, lines)),
+            Given::Not(lines) => Ok(Answer::Wrong(lines)),
+        },
+        Answer::Remarks(lines) => Ok(Answer::Remarks(lines)),
+        Answer::Wrong(lines) => Ok(Answer::Wrong(lines)),
+    }
+}
+
+// What an order comes to on its input, whatever it asks for of it.
+fn made_for<W: Watcher>(
+    alloc: Global,
+    order: &Order<'_>,
+    input: &[u8],
+    former: Option<&[u8]>,
+    plan: Option<&PlanFile<'_>>,
+    watcher: &W,
+) -> Result<Answer, AllocError>
+    ensures { IfOk result (IsMadeFor order.now former.entry plan.entry input.now) }
 {
     match standing_for(alloc, order, plan, input)? {
         Standing::Itself => answer_for(alloc, order, input, &[], former, watcher),
@@ -87,8 +120,9 @@ fn answer_for<W: Watcher>(
             budget,
             effort,
             rounds,
+            ..
         } => protect(alloc, document, *budget, *effort, *rounds, watcher),
-        Order::AddOrders => add_orders(alloc, document),
+        Order::AddOrders { .. } => add_orders(alloc, document),
         Order::OrderByRun { seed, .. } => order_by_run(alloc, document, *seed),
         Order::Timetable { csv, .. } => timetable(alloc, document, *csv),
         Order::Graph { train, .. } => graph(alloc, document, *train),

@@ -4,6 +4,7 @@
 mod answer;
 mod certifying;
 mod drawing;
+mod entering;
 mod explaining;
 mod linting;
 mod ordering;

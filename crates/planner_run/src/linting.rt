@@ -1,7 +1,7 @@
 // Remarks on documents.
 ghost use Rattle.std.specs.Prelude.{IfOk};
-ghost use Rattle.document_lint.specs.Told.{AreRemarks};
-ghost use Rattle.planner_run.specs.Answered.{IsLinted, IsSoOf};
+ghost use Rattle.document_lint.specs.Told.{AreRemarks, IsSoOf};
+ghost use Rattle.planner_run.specs.Answered.{IsLinted};
 
 use crate::Answer;
 use document_lint::{Remark, lint, lint_after};

@@ -1,13 +1,14 @@
 // The document of a plan.
 ghost use Rattle.std.specs.Prelude.{IfOk};
-ghost use Rattle.plan_reading.specs.Said.{IsPlanRead};
+ghost use Rattle.plan_crossed.specs.Read.{IsCrossedRead};
 ghost use Rattle.plan_reading.specs.declared.reading.PlanRead.TheVariants.{Plan as AsPlan};
 ghost use Rattle.planner_run.specs.Answered.{IsPlanning};
 
 use crate::Answer;
+use plan_crossed::read_crossed_plan;
 use plan_document::Plan;
 use plan_input::{Compiled, compile, fault_lines};
-use plan_reading::{PlanRead, read_plan};
+use plan_reading::PlanRead;
 use plan_suspects::remarks;
 use std::alloc::{AllocError, Global};
 
@@ -16,7 +17,7 @@ use std::alloc::{AllocError, Global};
 pub(crate) fn plan(alloc: Global, text: &[u8]) -> Result<Answer, AllocError>
     ensures { IfOk result (IsPlanning text.now) }
 {
-    match read_plan(alloc, text)? {
+    match read_crossed_plan(alloc, text)? {
         PlanRead::Plan(plan) => planned(alloc, text, plan),
         PlanRead::Faults(faults) => Ok(Answer::Wrong(fault_lines(alloc, "", &faults)?)),
     }
@@ -24,7 +25,7 @@ pub(crate) fn plan(alloc: Global, text: &[u8]) -> Result<Answer, AllocError>
 
 // The document of a plan that was read of a text, if it reads as one, and remarks on the plan.
 fn planned(alloc: Global, text: &[u8], plan: Plan) -> Result<Answer, AllocError>
-    requires { IsPlanRead text.now (AsPlan plan) }
+    requires { IsCrossedRead text.now (AsPlan plan) }
     ensures { IfOk result (IsPlanning text.now) }
 {
     let remarks = remarks(alloc, text, &plan)?;

@@ -2,7 +2,7 @@
 ghost use Rattle.std.specs.Prelude.{◌≡◌, ◌≢◌, ◌⊎◌, ℕ, List, Some, None, IfSome};
 ghost use Rattle.ats_io.specs.Bytes.{Adds, AddsPrefix};
 ghost use Rattle.ats_io.specs.Faults.{Rose};
-ghost use Rattle.planner_run.specs.Answered.{AsksForRemarks, HasNotes, IsTextOn, Tells, code_of, shown_text};
+ghost use Rattle.planner_run.specs.Answered.{AsksForRemarks, HasNotes, IsWrittenOn, Tells, code_of, shown_text};
 
 use crate::Answer;
 use crate::answer::answer_to;
@@ -110,14 +110,14 @@ pub fn serve<S: Source, K: Sink, E: Sink, W: Watcher>(
 ) -> Status
     // What is written is what the order comes to on all that the source had left.
     ensures done { result ≡ Status.Done → IfSome (S.left source.old) (λ all.
-        (text : List ℕ) × IsTextOn order.now former.entry plan.entry all text × Adds (K.taken out.old) (K.taken out.new) text) }
+        (text : List ℕ) × IsWrittenOn order.now former.entry plan.entry all text × Adds (K.taken out.old) (K.taken out.new) text) }
     // Notes are written to `err`, and nothing else.
     ensures quiet { result ≡ Status.Done → HasNotes order.now (S.left source.old) ⊎ (E.taken err.new ≡ E.taken err.old) }
     // Where the input has faults, nothing is written to `out`, except remarks that were asked for.
     ensures faulty { result ≡ Status.Faulty → AsksForRemarks order.now ⊎ (K.taken out.new ≡ K.taken out.old) }
     // And what is written to `err` is the beginning of lines that say what is wrong: all of them, unless `err` fails.
     ensures told { result ≡ Status.Faulty → IfSome (S.left source.old) (λ all.
-        AsksForRemarks order.now ⊎ Tells order.now plan.entry all (E.taken err.old) (E.taken err.new)) }
+        AsksForRemarks order.now ⊎ Tells order.now former.entry plan.entry all (E.taken err.old) (E.taken err.new)) }
 {
     match read_all(alloc, source, MOST_BYTES) {
         Ok(input) => respond(alloc, order, &input, former, plan, out, err, watcher),
@@ -141,10 +141,10 @@ fn respond<K: Sink, E: Sink, W: Watcher>(
     err: &mut E,
     watcher: &W,
 ) -> Status
-    ensures done { result ≡ Status.Done → (text : List ℕ) × IsTextOn order.now former.entry plan.entry input.now text × Adds (K.taken out.old) (K.taken out.new) text }
+    ensures done { result ≡ Status.Done → (text : List ℕ) × IsWrittenOn order.now former.entry plan.entry input.now text × Adds (K.taken out.old) (K.taken out.new) text }
     ensures quiet { result ≡ Status.Done → HasNotes order.now (Some input.now) ⊎ (E.taken err.new ≡ E.taken err.old) }
     ensures faulty { result ≡ Status.Faulty → AsksForRemarks order.now ⊎ (K.taken out.new ≡ K.taken out.old) }
-    ensures told { result ≡ Status.Faulty → AsksForRemarks order.now ⊎ Tells order.now plan.entry input.now (E.taken err.old) (E.taken err.new) }
+    ensures told { result ≡ Status.Faulty → AsksForRemarks order.now ⊎ Tells order.now former.entry plan.entry input.now (E.taken err.old) (E.taken err.new) }
 {
     match answer_to(alloc, order, input, former, plan, watcher) {
         Ok(Answer::Text(text)) => print(&text, Status::Done, out, err),

@@ -1,5 +1,5 @@
 -- Words that are refused ask for nothing.
-use Rattle.std.proofs.Common.{◌≡◌, ◌∙◌, refl, sym, subst, inl, inr, ℕ, List, codes, false, Option, Some, None, Result}
+use Rattle.std.proofs.Common.{◌≡◌, ◌∙◌, refl, sym, subst, inl, inr, ℕ, List, codes, false, true, Option, Some, None, Result}
 use Rattle.std.proofs.lemmas.Bool.Decides.{not_from_Decides}
 use Rattle.std.proofs.lemmas.Slice.Eq.{bytes_eq-Decides}
 use Rattle.std.specs.Prelude.{bytes_eq, Ok, Err, IfErr, IsSomeAnd}
@@ -11,7 +11,9 @@ use Rattle.planner_words.specs.declared.orders.Effort.{Effort}
 use Rattle.planner_words.specs.declared.orders.Effort.TheVariants.{Small, Usual, Great}
 use Rattle.ats_words.specs.Answered.{AnswersWords}
 use Rattle.planner_words.specs.Answered.{AsksForNone, MissesNone}
-use Rattle.planner_words.specs.Named.{AsksFor, IsEffort, budget_in, nodes_in, rounds_in, word_of}
+use Rattle.planner_words.specs.Named.{AsksFor, IsEffort, IsOutput, budget_in, is_up, nodes_in, rounds_in, word_of}
+use Rattle.planner_words.specs.declared.orders.Output.{Output}
+use Rattle.planner_words.specs.declared.orders.Output.TheVariants.{Document as OfDocument, Plan as OfPlan, Entries as OfEntries}
 use Rattle.planner_words.specs.declared.orders.Order.{Order}
 use Rattle.planner_words.specs.declared.orders.Order.TheVariants.{Plan, ExplainState, ExplainLine, Lint, Certify, Protect, AddOrders, OrderByRun, Timetable, Graph, Layout}
 use Rattle.ats_words.specs.declared.answering.WordsAnswered.{WordsAnswered}
@@ -50,6 +52,8 @@ record IsProtecting (given : List Row) (order : Order) : Type 0 where
   nodes_are : nodes_in given ≡ Some nodes
   rounds_are : rounds_in given ≡ Some rounds
   effort_is : IsEffort (first_of (codes "effort") given) effort
+  output : Output
+  output_is : IsOutput given output
 
 -- the command `explain` asks for nothing without places and without a line
 pub none_explained : (given : List Row) → None ≡ first_of (codes "at") given → None ≡ first_of (codes "line") given → AsksForNone (Some (codes "explain", given))
@@ -58,9 +62,9 @@ none_explained given no_places no_line (ExplainState table at run plan) asked = 
 none_explained given no_places no_line (ExplainLine line plan) asked = let found : Some line.now ≡ None = asked.1.1 ∙ sym no_line in cc
 none_explained given no_places no_line (Lint before plan) asked = differ _ _ refl asked.0
 none_explained given no_places no_line (Certify budget effort) asked = differ _ _ refl asked.0
-none_explained given no_places no_line (Protect budget effort rounds) asked = differ _ _ refl asked.0
-none_explained given no_places no_line AddOrders asked = differ _ _ refl asked.0
-none_explained given no_places no_line (OrderByRun seed journal) asked = differ _ _ refl asked.0
+none_explained given no_places no_line (Protect budget effort rounds output) asked = differ _ _ refl asked.0
+none_explained given no_places no_line (AddOrders output) asked = differ _ _ refl asked.0
+none_explained given no_places no_line (OrderByRun seed journal output) asked = differ _ _ refl asked.0
 none_explained given no_places no_line (Timetable csv journal) asked = differ _ _ refl asked.0
 none_explained given no_places no_line (Graph train journal) asked = differ _ _ refl asked.0
 none_explained given no_places no_line (Layout table at plan) asked = differ _ _ refl asked.0
@@ -72,9 +76,9 @@ asks_to_certify given (ExplainState table at run plan) asked = absurd (differ _ 
 asks_to_certify given (ExplainLine line plan) asked = absurd (differ _ _ refl asked.0)
 asks_to_certify given (Lint before plan) asked = absurd (differ _ _ refl asked.0)
 asks_to_certify given (Certify budget effort) asked = record { nodes = budget; effort = effort; nodes_are = asked.1.0; effort_is = asked.1.1 }
-asks_to_certify given (Protect budget effort rounds) asked = absurd (differ _ _ refl asked.0)
-asks_to_certify given AddOrders asked = absurd (differ _ _ refl asked.0)
-asks_to_certify given (OrderByRun seed journal) asked = absurd (differ _ _ refl asked.0)
+asks_to_certify given (Protect budget effort rounds output) asked = absurd (differ _ _ refl asked.0)
+asks_to_certify given (AddOrders output) asked = absurd (differ _ _ refl asked.0)
+asks_to_certify given (OrderByRun seed journal output) asked = absurd (differ _ _ refl asked.0)
 asks_to_certify given (Timetable csv journal) asked = absurd (differ _ _ refl asked.0)
 asks_to_certify given (Graph train journal) asked = absurd (differ _ _ refl asked.0)
 asks_to_certify given (Layout table at plan) asked = absurd (differ _ _ refl asked.0)
@@ -96,10 +100,10 @@ asks_to_protect given (ExplainState table at run plan) asked = absurd (differ _ 
 asks_to_protect given (ExplainLine line plan) asked = absurd (differ _ _ refl asked.0)
 asks_to_protect given (Lint before plan) asked = absurd (differ _ _ refl asked.0)
 asks_to_protect given (Certify budget effort) asked = absurd (differ _ _ refl asked.0)
-asks_to_protect given (Protect budget effort rounds) asked =
-    record { nodes = budget; effort = effort; rounds = rounds; nodes_are = asked.1.0; rounds_are = asked.1.1; effort_is = asked.1.2 }
-asks_to_protect given AddOrders asked = absurd (differ _ _ refl asked.0)
-asks_to_protect given (OrderByRun seed journal) asked = absurd (differ _ _ refl asked.0)
+asks_to_protect given (Protect budget effort rounds output) asked =
+    record { nodes = budget; effort = effort; rounds = rounds; nodes_are = asked.1.0; rounds_are = asked.1.1; effort_is = asked.1.2; output = output; output_is = asked.1.3 }
+asks_to_protect given (AddOrders output) asked = absurd (differ _ _ refl asked.0)
+asks_to_protect given (OrderByRun seed journal output) asked = absurd (differ _ _ refl asked.0)
 asks_to_protect given (Timetable csv journal) asked = absurd (differ _ _ refl asked.0)
 asks_to_protect given (Graph train journal) asked = absurd (differ _ _ refl asked.0)
 asks_to_protect given (Layout table at plan) asked = absurd (differ _ _ refl asked.0)
@@ -120,6 +124,30 @@ pub no_effort_protected : (given : List Row) → ((effort : Effort) → IsEffort
     AsksForNone (Some (codes "protect", given))
 no_effort_protected given no_effort order asked = let has = asks_to_protect given order asked in no_effort has.effort has.effort_is
 
+-- nor with two outputs
+pub no_output_protected : (given : List Row) → ((output : Output) → IsOutput given output → ⊥) → AsksForNone (Some (codes "protect", given))
+no_output_protected given no_output order asked = let has = asks_to_protect given order asked in no_output has.output has.output_is
+
+-- the command `order` asks for nothing with two outputs
+pub no_output_ordered : (given : List Row) → ((output : Output) → IsOutput given output → ⊥) → AsksForNone (Some (codes "order", given))
+no_output_ordered given no_output Plan asked = differ _ _ refl asked.0
+no_output_ordered given no_output (ExplainState table at run plan) asked = differ _ _ refl asked.0
+no_output_ordered given no_output (ExplainLine line plan) asked = differ _ _ refl asked.0
+no_output_ordered given no_output (Lint before plan) asked = differ _ _ refl asked.0
+no_output_ordered given no_output (Certify budget effort) asked = differ _ _ refl asked.0
+no_output_ordered given no_output (Protect budget effort rounds output) asked = differ _ _ refl asked.0
+no_output_ordered given no_output (AddOrders output) asked = no_output output asked.1.2
+no_output_ordered given no_output (OrderByRun seed journal output) asked = no_output output asked.1.2
+no_output_ordered given no_output (Timetable csv journal) asked = differ _ _ refl asked.0
+no_output_ordered given no_output (Graph train journal) asked = differ _ _ refl asked.0
+no_output_ordered given no_output (Layout table at plan) asked = differ _ _ refl asked.0
+
+-- no output is two
+pub two_outputs : (given : List Row) → is_up (codes "into") given ≡ true → is_up (codes "entries") given ≡ true → (output : Output) → IsOutput given output → ⊥
+two_outputs given into entries OfDocument is = let both : false ≡ true = is.0 ∙ into in cc
+two_outputs given into entries OfPlan is = let both : false ≡ true = is.1 ∙ entries in cc
+two_outputs given into entries OfEntries is = let both : false ≡ true = is.0 ∙ into in cc
+
 -- the command `order` asks for nothing with a word that is no number
 pub none_ordered : (given : List Row) (word : Text) → Some word ≡ first_of (codes "of-run") given → number_of word ≡ None → AsksForNone (Some (codes "order", given))
 none_ordered given word found none Plan asked = differ _ _ refl asked.0
@@ -127,9 +155,9 @@ none_ordered given word found none (ExplainState table at run plan) asked = diff
 none_ordered given word found none (ExplainLine line plan) asked = differ _ _ refl asked.0
 none_ordered given word found none (Lint before plan) asked = differ _ _ refl asked.0
 none_ordered given word found none (Certify budget effort) asked = differ _ _ refl asked.0
-none_ordered given word found none (Protect budget effort rounds) asked = differ _ _ refl asked.0
-none_ordered given word found none AddOrders asked = let unnamed : None ≡ Some word = asked.1.0 ∙ sym found in cc
-none_ordered given word found none (OrderByRun seed journal) asked =
+none_ordered given word found none (Protect budget effort rounds output) asked = differ _ _ refl asked.0
+none_ordered given word found none (AddOrders output) asked = let unnamed : None ≡ Some word = asked.1.0 ∙ sym found in cc
+none_ordered given word found none (OrderByRun seed journal output) asked =
     let number : number_of word ≡ Some seed = subst (λ o. IsSomeAnd o (λ w. number_of w ≡ Some seed)) (sym found) asked.1.0 in
     let both : Some seed ≡ None = sym number ∙ none in cc
 none_ordered given word found none (Timetable csv journal) asked = differ _ _ refl asked.0
@@ -144,9 +172,9 @@ none_ordered_by given file none found (ExplainState table at run plan) asked = d
 none_ordered_by given file none found (ExplainLine line plan) asked = differ _ _ refl asked.0
 none_ordered_by given file none found (Lint before plan) asked = differ _ _ refl asked.0
 none_ordered_by given file none found (Certify budget effort) asked = differ _ _ refl asked.0
-none_ordered_by given file none found (Protect budget effort rounds) asked = differ _ _ refl asked.0
-none_ordered_by given file none found AddOrders asked = let unnamed : None ≡ Some file = asked.1.1 ∙ sym found in cc
-none_ordered_by given file none found (OrderByRun seed journal) asked =
+none_ordered_by given file none found (Protect budget effort rounds output) asked = differ _ _ refl asked.0
+none_ordered_by given file none found (AddOrders output) asked = let unnamed : None ≡ Some file = asked.1.1 ∙ sym found in cc
+none_ordered_by given file none found (OrderByRun seed journal output) asked =
     subst (λ o. IsSomeAnd o (λ w. number_of w ≡ Some seed)) (sym none) asked.1.0
 none_ordered_by given file none found (Timetable csv journal) asked = differ _ _ refl asked.0
 none_ordered_by given file none found (Graph train journal) asked = differ _ _ refl asked.0

@@ -1,5 +1,5 @@
 -- Rows of the definitions, computed: command lines, and what clap finds in them.
-use Rattle.std.proofs.Common.{◌≡◌, ℕ, List, Option, [], ◌∷◌, codes, map, true, false, Some, None, refl}
+use Rattle.std.proofs.Common.{◌≡◌, ℕ, Bool, List, Option, [], ◌∷◌, codes, map, true, false, Some, None, refl}
 use Rattle.std.specs.Prelude.{◌==◌, option_map}
 use Rattle.std.specs.List.{slice_split}
 use Rattle.clap.specs.Words.{Text, first_of, subcommand_of, takes}
@@ -7,7 +7,7 @@ use Rattle.clap.proofs.OnLiterals.{clap_on_literals}
 use Rattle.ats_words.specs.Built.{leaf}
 use Rattle.decimal_number.specs.Decimal.{number_of}
 use Rattle.planner_words.specs.Line.{planner}
-use Rattle.planner_words.specs.Named.{budget_in, nodes_in, rounds_in, table_in}
+use Rattle.planner_words.specs.Named.{budget_in, is_up, nodes_in, rounds_in, table_in}
 
 -- the words of a line, which single spaces part
 abbrev words_of : Text → List Text
@@ -52,3 +52,12 @@ rounds_few = refl
 taken : map (λ line. takes planner (words_of line)) (codes "plan" ∷ codes "layout --at 1,0" ∷ codes "timetable --csv" ∷ codes "lint --csv" ∷ codes "help" ∷ codes "explain --at 0,1" ∷ []) ≡ true ∷ true ∷ true ∷ false ∷ false ∷ false ∷ []
 unfolding clap_on_literals leaf
 taken = refl
+
+-- what a line says of the flags that ask for a plan and for entries
+abbrev the_flags : Text → Option (Bool × Bool)
+the_flags line = option_map (λ found. (is_up (codes "into") found.1, is_up (codes "entries") found.1)) (subcommand_of planner (words_of line))
+
+the_outputs : map the_flags (codes "order" ∷ codes "order --into" ∷ codes "protect --budget 9 --entries" ∷ [])
+    ≡ Some (false, false) ∷ Some (true, false) ∷ Some (false, true) ∷ []
+unfolding clap_on_literals leaf
+the_outputs = refl

@@ -54,7 +54,7 @@ abbrev pub certify : Shape
 certify = leaf (codes "certify") (valued (codes "budget") ∷ valued (codes "effort") ∷ [])
 
 abbrev pub protect : Shape
-protect = leaf (codes "protect") (valued (codes "budget") ∷ valued (codes "effort") ∷ valued (codes "rounds") ∷ [])
+protect = leaf (codes "protect") (valued (codes "budget") ∷ valued (codes "effort") ∷ valued (codes "rounds") ∷ flag (codes "into") ∷ flag (codes "entries") ∷ [])
 
 abbrev pub timetable : Shape
 timetable = leaf (codes "timetable") (flag (codes "csv") ∷ valued (codes "journal") ∷ [])
@@ -70,7 +70,7 @@ abbrev pub documents : List Shape
 documents = plan ∷ explain ∷ lint ∷ []
 
 abbrev pub order : Shape
-order = leaf (codes "order") (valued (codes "of-run") ∷ valued (codes "journal") ∷ [])
+order = leaf (codes "order") (valued (codes "of-run") ∷ valued (codes "journal") ∷ flag (codes "into") ∷ flag (codes "entries") ∷ [])
 
 -- those that make something of a document
 abbrev pub makers : List Shape

@@ -1,9 +1,11 @@
 -- What each command is called, and what it has of the values of its options.
 use Rattle.std.specs.Borrow.{Bor}
-use Rattle.std.specs.Prelude.{◌≡◌, ℕ, Bool, true, false, List, codes, Option, Some, None, option_map, unwrap_or, IsSomeAnd}
+use Rattle.std.specs.Prelude.{◌≡◌, ℕ, Bool, true, false, List, bytes_eq, codes, Option, Some, None, option_map, unwrap_or, IsSomeAnd}
 use Rattle.clap.specs.Words.{Row, Text, first_of, one_of, subcommand_of}
 use Rattle.planner_words.specs.declared.orders.Effort.{Effort}
 use Rattle.planner_words.specs.declared.orders.Effort.TheVariants.{Small, Usual, Great}
+use Rattle.planner_words.specs.declared.orders.Output.{Output}
+use Rattle.planner_words.specs.declared.orders.Output.TheVariants.{Document as OfDocument, Plan as OfPlan, Entries as OfEntries}
 use Rattle.ats_words.specs.Options as options
 use Rattle.decimal_number.specs.Decimal.{number_of}
 use Rattle.planner_words.specs.Line.{planner}
@@ -17,9 +19,9 @@ name_of (ExplainState table at run plan) = codes "explain"
 name_of (ExplainLine line plan) = codes "explain"
 name_of (Lint before plan) = codes "lint"
 name_of (Certify budget effort) = codes "certify"
-name_of (Protect budget effort rounds) = codes "protect"
-name_of AddOrders = codes "order"
-name_of (OrderByRun seed journal) = codes "order"
+name_of (Protect budget effort rounds output) = codes "protect"
+name_of (AddOrders output) = codes "order"
+name_of (OrderByRun seed journal output) = codes "order"
 name_of (Timetable csv journal) = codes "timetable"
 name_of (Graph train journal) = codes "graph"
 name_of (Layout table at plan) = codes "layout"
@@ -63,6 +65,32 @@ IsEffort None effort = effort ≡ Usual
 abbrev pub IsFlag : Option Text → Bool → Type 0
 IsFlag found flag = (found ≡ Some (codes "true") → flag ≡ true) × (found ≡ Some (codes "false") → flag ≡ false)
 
+-- whether a flag is up: clap has "true" for it
+abbrev pub is_true : Option Text → Bool
+is_true None = false
+is_true (Some word) = bytes_eq word (codes "true")
+
+-- whether a flag of this name is up
+abbrev pub is_up : Text → List Row → Bool
+is_up flag given = is_true (first_of flag given)
+
+-- whether the plan is to be written
+abbrev pub is_plan : Output → Bool
+is_plan OfDocument = false
+is_plan OfPlan = true
+is_plan OfEntries = false
+
+-- whether entries alone are to be written
+abbrev pub is_entries : Output → Bool
+is_entries OfDocument = false
+is_entries OfPlan = false
+is_entries OfEntries = true
+
+-- What is written of added sections is what the flags say: `into` asks for the plan, `entries` for entries alone, and none of them for the
+-- document.
+abbrev pub IsOutput : List Row → Output → Type 0
+IsOutput given output = (is_plan output ≡ is_up (codes "into") given) × (is_entries output ≡ is_up (codes "entries") given)
+
 -- The file is the one that is named for an option, and there is none where none is named.
 abbrev pub IsFile : Option Text → Option (Bor Text) → Type 0
 IsFile found file = option_map (λ s. s.now) file ≡ found
@@ -75,11 +103,12 @@ HasValues given (ExplainState table at run plan) =
 HasValues given (ExplainLine line plan) =
     (None ≡ first_of (codes "at") given) × (Some line.now ≡ first_of (codes "line") given) × IsFile (first_of (codes "plan") given) plan
 HasValues given (Lint before plan) = IsFile (first_of (codes "before") given) before × IsFile (first_of (codes "plan") given) plan
-HasValues given (Protect budget effort made) =
-    (nodes_in given ≡ Some budget) × (rounds_in given ≡ Some made) × IsEffort (first_of (codes "effort") given) effort
-HasValues given AddOrders = (None ≡ first_of (codes "of-run") given) × (None ≡ first_of (codes "journal") given)
-HasValues given (OrderByRun seed journal) =
-    IsSomeAnd (first_of (codes "of-run") given) (λ word. number_of word ≡ Some seed) × IsFile (first_of (codes "journal") given) journal
+HasValues given (Protect budget effort made output) =
+    (nodes_in given ≡ Some budget) × (rounds_in given ≡ Some made) × IsEffort (first_of (codes "effort") given) effort × IsOutput given output
+HasValues given (AddOrders output) =
+    (None ≡ first_of (codes "of-run") given) × (None ≡ first_of (codes "journal") given) × IsOutput given output
+HasValues given (OrderByRun seed journal output) =
+    IsSomeAnd (first_of (codes "of-run") given) (λ word. number_of word ≡ Some seed) × IsFile (first_of (codes "journal") given) journal × IsOutput given output
 HasValues given (Certify budget effort) = (budget_in given ≡ Some budget) × IsEffort (first_of (codes "effort") given) effort
 HasValues given (Timetable csv journal) = IsFlag (one_of (codes "csv") given) csv × IsFile (first_of (codes "journal") given) journal
 HasValues given (Graph train journal) =

@@ -110,6 +110,16 @@ const OF_RUN: Choice = Choice::Value {
     help: "The orders of one run: that of a journal behind the document, or one drawn from this number; with 0, trains near their ends go first",
 };
 
+const INTO: Choice = Choice::Flag {
+    name: "into",
+    help: "Writes the plan that stands in place of the document, with the sections as entries behind it",
+};
+
+const ENTRIES: Choice = Choice::Flag {
+    name: "entries",
+    help: "The same, and writes these entries alone",
+};
+
 const JOURNAL: Choice = Choice::Value {
     name: "journal",
     value: "FILE",
@@ -164,12 +174,12 @@ const SUBCOMMANDS: [Subcommand; 9] = [
     Subcommand {
         name: "protect",
         about: "Reads a document and writes it with sections against states that are lost, and certificates",
-        choices: &[NODES, EFFORT, ROUNDS],
+        choices: &[NODES, EFFORT, ROUNDS, INTO, ENTRIES],
     },
     Subcommand {
         name: "order",
         about: "Reads a document and writes it with sections for the order that its tracks force on trains",
-        choices: &[OF_RUN, JOURNAL],
+        choices: &[OF_RUN, JOURNAL, INTO, ENTRIES],
     },
     Subcommand {
         name: "timetable",
@@ -205,7 +215,7 @@ fn start<'a>(alloc: Global) -> Command<'a>
     ensures { IsBuiltAs spec.start result }
 {
     Command::new(alloc, "planner")
-        .version("1.11.0")
+        .version("1.12.0")
         .about(ABOUT)
         .no_binary_name(true)
         .subcommand_required(true)

@@ -6,5 +6,5 @@ mod orders;
 mod reading;
 
 pub use ats_words::WordsAnswered;
-pub use orders::{Effort, Order};
+pub use orders::{Effort, Order, Output};
 pub use reading::words;

@@ -8,6 +8,17 @@ pub enum Effort {
     Great,
 }
 
+/// What is written of the sections that a command adds.
+#[derive(Clone, Copy)]
+pub enum Output {
+    /// The document with them.
+    Document,
+    /// The plan that stands in place of the document, with an entry for each behind it.
+    Plan,
+    /// These entries alone.
+    Entries,
+}
+
 /// What the words ask for, with the values of its options as they were written. A `plan` is the file of the plan that the document was made of:
 /// sections are called by its names.
 #[derive(Clone, Copy)]
@@ -41,14 +52,18 @@ pub enum Order<'a> {
         budget: u32,
         effort: Effort,
         rounds: u32,
+        output: Output,
     },
     /// Add sections to a document that keep trains in the order that its tracks force.
-    AddOrders,
+    AddOrders {
+        output: Output,
+    },
     /// Add sections to a document that keep trains in the order of a run, which is given or drawn from a seed. The lines that
     /// are given may be in a file.
     OrderByRun {
         seed: u32,
         journal: Option<&'a str>,
+        output: Output,
     },
     /// Write the timetable of a timed run, whose lines may be in a file, as columns or with commas.
     Timetable {

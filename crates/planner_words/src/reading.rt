@@ -3,11 +3,12 @@ ghost use Rattle.std.specs.Prelude.{◌≡◌, IfErr, IfNone, IfOk, IfSome, IsSo
 ghost use Rattle.clap.specs.Words.{first_of, found_of, rows_of, subcommand_of, subcommand_rows_of, takes};
 ghost use Rattle.planner_words.specs.Answered.{MissesNone};
 ghost use Rattle.planner_words.specs.Line.{planner};
-ghost use Rattle.planner_words.specs.Named.{AsksFor, IsAsked, IsEffort, table_in, word_of};
+ghost use Rattle.planner_words.specs.Named.{AsksFor, IsAsked, IsEffort, IsOutput, is_up, table_in, word_of};
 ghost use Rattle.planner_words.specs.declared.orders.Effort as declared;
+ghost use Rattle.planner_words.specs.declared.orders.Output as declared_output;
 
 use crate::asking::command;
-use crate::{Effort, Order, WordsAnswered};
+use crate::{Effort, Order, Output, WordsAnswered};
 use ats_words::{BUDGET, NumberOption, answer_to, number};
 use clap::ArgMatches;
 use decimal_number::number_of;
@@ -28,6 +29,10 @@ const NO_SEARCHES: &str = "planner protect: --effort takes small, usual or great
 const NO_SEED: &str = "planner order: --of-run takes a number, 0 to 4294967295\n";
 
 const NO_RUN: &str = "planner order: --journal goes with --of-run\n";
+
+const TWO_OUTPUTS: &str = "planner order: --into doesn't go with --entries\n";
+
+const TWO_PROTECTED: &str = "planner protect: --into doesn't go with --entries\n";
 
 // The most nodes of a certificate that `protect` looks for.
 const NODES: NumberOption = NumberOption {
@@ -150,13 +155,40 @@ fn protect<'a>(alloc: Global, matches: &ArgMatches<'a>) -> Result<Order<'a>, Wor
     let Some(rounds) = number(matches, &ROUNDS) else {
         return refused(alloc, NO_ROUNDS);
     };
+    let Some(output) = output_in(matches) else {
+        return refused(alloc, TWO_PROTECTED);
+    };
     match effort_in(matches) {
         Some(effort) => Ok(Order::Protect {
             budget,
             effort,
             rounds,
+            output,
         }),
         None => refused(alloc, NO_SEARCHES),
+    }
+}
+
+// Whether a flag is up.
+fn is_up(matches: &ArgMatches<'_>, flag: &str) -> bool
+    ensures { result ≡ is_up flag.now (rows_of (found_of matches.now)) }
+{
+    match matches.get_str(flag) {
+        Some(word) => word == "true",
+        None => false,
+    }
+}
+
+// What is to be written of sections that are added, unless two things are.
+fn output_in(matches: &ArgMatches<'_>) -> Option<Output>
+    ensures named { IfSome result (IsOutput (rows_of (found_of matches.now))) }
+    ensures unnamed { IfNone result ((output : declared_output.Output) → IsOutput (rows_of (found_of matches.now)) output → ⊥) }
+{
+    match (is_up(matches, "into"), is_up(matches, "entries")) {
+        (false, false) => Some(Output::Document),
+        (true, false) => Some(Output::Plan),
+        (false, true) => Some(Output::Entries),
+        (true, true) => None,
     }
 }
 
@@ -187,12 +219,19 @@ fn order_by<'a>(alloc: Global, matches: &ArgMatches<'a>) -> Result<Order<'a>, Wo
     ensures asked { IfOk result (λ order. AsksFor order (codes "order", rows_of (found_of matches.now))) }
     ensures answered { IfErr result (MissesNone (Some (codes "order", rows_of (found_of matches.now)))) }
 {
+    let Some(output) = output_in(matches) else {
+        return refused(alloc, TWO_OUTPUTS);
+    };
     match (matches.get_str("of-run"), matches.get_str("journal")) {
         (Some(text), journal) => match number_of(text.as_bytes()) {
-            Some(seed) => Ok(Order::OrderByRun { seed, journal }),
+            Some(seed) => Ok(Order::OrderByRun {
+                seed,
+                journal,
+                output,
+            }),
             None => refused(alloc, NO_SEED),
         },
-        (None, None) => Ok(Order::AddOrders),
+        (None, None) => Ok(Order::AddOrders { output }),
         (None, Some(_)) => refused(alloc, NO_RUN),
     }
 }

@@ -1,7 +1,6 @@
 use Rattle.std.proofs.Common.{sym, subst}
 use Rattle.std.specs.Prelude.{IfOk}
-use Rattle.document_lint.specs.Told.{AreRemarks}
-use Rattle.planner_run.specs.Answered.{IsSoOf}
+use Rattle.document_lint.specs.Told.{AreRemarks, IsSoOf}
 use Rattle.planner_run.proofs.linting.found_in.Goals as goal
 
 pub returns-in-Some : goal.returns-in-Some

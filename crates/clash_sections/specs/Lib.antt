@@ -1,0 +1,4 @@
+pub mod Answer
+pub mod Sections
+pub mod Stands
+pub mod Tracks

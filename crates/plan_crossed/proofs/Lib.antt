@@ -1,0 +1,5 @@
+pub mod Carried
+pub mod OfText
+mod Rows
+pub mod Texts
+pub mod With

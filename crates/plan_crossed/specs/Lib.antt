@@ -1,0 +1,4 @@
+pub mod Crossed
+pub mod Numbered
+pub mod Read
+pub mod Said

@@ -1,0 +1,10 @@
+pub mod Agreeing
+pub mod Joined
+pub mod Known
+pub mod Lists
+pub mod Meetings
+pub mod Middle
+pub mod Orderly
+pub mod Pairs
+pub mod Passing
+pub mod Rows

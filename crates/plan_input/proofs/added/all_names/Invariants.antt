@@ -1,8 +1,0 @@
-use Rattle.std.proofs.Common.{◌≡◌, map}
-use Rattle.document_shapes.specs.Seen.{names_seen}
-use Rattle.rail_model.specs.Checks.{below}
-use Rattle.plan_input.specs.Added.{names_at}
-use Rattle.plan_input.proofs.added.all_names.Given as goal
-
-abbrev pub invariant-loop-table : goal.invariant-loop-table
-invariant-loop-table l = map names_seen l.all.items ≡ map (names_at l.doc (map names_seen l.names)) (below l.table)
