@@ -32,14 +32,16 @@ SECTION = {"limit": 1, "changes": [[0, 1, -1]]}
 SHAPE = re.compile(
     r'" takes .*, and this is of type |"(zones|ways)" takes a table|(?<!"route)" is missing$|: no key "|: this is no table of keys$|'
     r": the route is empty$|a (time|limit|weight|share) is \d+ to \d+, and this is |a table is due after 0 to 1000000 moves, and this is |"
-    r'(?<!\})" is no (name: 1 to 16|zone: they are|link: two points)|^line \d+: train .*: the route has \d+ places|: there is no train$|'
+    r'"(?!@|[^"]*\{\})[^"]*" is no (name: 1 to 16|zone: they are|link: two points)|: there is no train$|'
+    r"^line \d+: train .*: the route has \d+ places|"
     r'"count" goes from 1 to 32, and this is |one (train|section|connection|table|pattern) too many|: there are \d+ ways; |'
     r'"holds" says all of it; leave out "|the weight for all others is said twice, |: scissors have two tracks of three points$|'
     r'" has no point between its ends$'
 )
-# A route and a count may be in a pattern, which a schema doesn't look up.
+# A route and a count may be in a pattern, which a schema doesn't look up; nor does it whether there are ways where a point begins with `@`.
 MEANING = re.compile(
-    r': "route" is missing$|\}" is no name: 1 to 16|: no (point|train|pattern|way) "|rests on itself$|has itself within it$|'
+    r': "route" is missing$|"(@|[^"]*\{\})[^"]*" is no name: 1 to 16|: no (point|train|pattern|way) "|rests on itself$|'
+    r"has itself within it$|"
     r": another one has this name$|"
     r", so its name needs \{\} for the number$|: with these there are more than 32 trains$|: these are \d+ points; |"
     r'" is no step of the route$|" is not on the route of train "|" comes more than once on the route of train "|'
