@@ -2,9 +2,9 @@
 use Rattle.std.proofs.Common.{◌≡◌, ◌⊎◌, inl, inr, List, [], Vec, true, false, ap, sym, subst, arith}
 use Rattle.std.specs.Prelude.{Contains, length}
 use Rattle.std.specs.declared.alloc.Global.{Global}
-use Rattle.document_lint.specs.declared.fact.Fact.{Fact}
-use Rattle.document_lint.specs.declared.found.Found.{Found}
-use Rattle.document_lint.specs.Adding.{Adds}
+use Rattle.document_facts.specs.declared.fact.Fact.{Fact}
+use Rattle.document_facts.specs.declared.found.Found.{Found}
+use Rattle.document_facts.specs.Adding.{Adds}
 use Rattle.document_lint.specs.Told.{AreAll, IsRight}
 
 true_is_not_false : true ≡ false → ⊥

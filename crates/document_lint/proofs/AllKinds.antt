@@ -1,11 +1,11 @@
 -- Each fact that holds of a document is of a kind that is looked for.
 use Rattle.std.proofs.Common.{inl, inr, refl}
 use Rattle.document_json.specs.Doc.{Doc}
-use Rattle.document_lint.specs.Facts.{Holds}
-use Rattle.document_lint.specs.Former.{HoldsSince, OfLost}
-use Rattle.document_lint.specs.Kinds.{OfDocument}
-use Rattle.document_lint.specs.declared.fact.Fact.{Fact}
-use Rattle.document_lint.specs.declared.fact.Fact.TheVariants.{Refused, Member, PointUnused, LinkUnused, MoreLinksUnused, ZoneUnused, EndsAsEarlier, LikeShares, SectionUnused, SectionIdle, SectionRepeated, Overfilled, KeptForGood, OverfullAtEnd, ConnectionMet, ConnectionPassed, NeverDue, FormerRefused, SectionLost}
+use Rattle.document_facts.specs.Facts.{Holds}
+use Rattle.document_facts.specs.Former.{HoldsSince, OfLost}
+use Rattle.document_facts.specs.Kinds.{OfDocument}
+use Rattle.document_facts.specs.declared.fact.Fact.{Fact}
+use Rattle.document_facts.specs.declared.fact.Fact.TheVariants.{Refused, Member, PointUnused, LinkUnused, MoreLinksUnused, ZoneUnused, EndsAsEarlier, LikeShares, SectionUnused, SectionIdle, SectionRepeated, Overfilled, KeptForGood, OverfullAtEnd, ConnectionMet, ConnectionPassed, NeverDue, FormerRefused, SectionLost}
 
 pub of_document : (D : Doc) (f : Fact) → Holds D f → OfDocument D f
 of_document D (PointUnused q) h = inl (inl (inl (inl (q, h.0, (refl, h)))))

@@ -6,11 +6,11 @@ use Rattle.document_json.specs.Doc.{Doc}
 use Rattle.document_json.specs.Reading.{doc_of}
 use Rattle.document_json.specs.declared.refused.DocRefused.{DocRefused}
 use Rattle.document_json.specs.declared.refused.DocRefused.TheVariants.{Memory}
-use Rattle.document_lint.specs.Facts.{Holds}
-use Rattle.document_lint.specs.Former.{HoldsSince}
+use Rattle.document_facts.specs.Facts.{Holds}
+use Rattle.document_facts.specs.Former.{HoldsSince}
 use Rattle.document_lint.specs.Told.{HoldsAfter, HoldsOf}
-use Rattle.document_lint.specs.declared.fact.Fact.{Fact}
-use Rattle.document_lint.specs.declared.fact.Fact.TheVariants.{Refused, FormerRefused}
+use Rattle.document_facts.specs.declared.fact.Fact.{Fact}
+use Rattle.document_facts.specs.declared.fact.Fact.TheVariants.{Refused, FormerRefused}
 
 -- bytes that were read are this document
 pub read_as : (bytes : List ℕ) (read : Result Doc DocRefused) (D : Doc) → AnswersAs Memory (λ d. d) read (doc_of bytes) → read ≡ Ok D → doc_of bytes ≡ Ok D

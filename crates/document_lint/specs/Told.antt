@@ -1,12 +1,12 @@
 -- What is said of bytes: what is so of the document that they are, or that they are none.
 use Rattle.std.specs.Prelude.{◌≡◌, ◌⊎◌, ℕ, List, Option, Some, None, map, MatchResult, Contains}
 use Rattle.document_json.specs.Reading.{doc_of}
-use Rattle.document_lint.specs.Adding.{Or}
-use Rattle.document_lint.specs.Facts.{Holds}
-use Rattle.document_lint.specs.Former.{HoldsSince}
-use Rattle.document_lint.specs.declared.fact.Fact.{Fact}
-use Rattle.document_lint.specs.declared.fact.Fact.TheVariants.{Refused, Member, FormerRefused}
-use Rattle.document_lint.specs.declared.member.MemberFact.{MemberFact}
+use Rattle.document_facts.specs.Adding.{Or}
+use Rattle.document_facts.specs.Facts.{Holds}
+use Rattle.document_facts.specs.Former.{HoldsSince}
+use Rattle.document_facts.specs.declared.fact.Fact.{Fact}
+use Rattle.document_facts.specs.declared.fact.Fact.TheVariants.{Refused, Member, FormerRefused}
+use Rattle.document_facts.specs.declared.member.MemberFact.{MemberFact}
 use Rattle.document_lint.specs.declared.remark.Remark.{Remark}
 use denote.Ref.{Bor}
 

@@ -2,14 +2,13 @@
 ghost use Rattle.std.specs.Prelude.{◌≡◌, IfOk, false, Contains};
 ghost use Rattle.rail_model.specs.Turns.{AnswersAs};
 ghost use Rattle.document_json.specs.Reading.{doc_of};
-ghost use Rattle.document_lint.specs.Adding.{Or};
+ghost use Rattle.document_facts.specs.Adding.{Or};
 ghost use Rattle.document_lint.specs.Told.{AreAll, AreRemarks, HoldsAfter, HoldsOf, IsSoOf};
 
-use crate::fact::Fact;
-use crate::found::Found;
 use crate::reading::{find_after, find_of};
 use crate::remark::Remark;
 use crate::remarking::remarks_on;
+use document_facts::{Fact, Found};
 use document_json::{Doc, DocRefused, Kept, document, document_kept};
 use json::Scratch;
 use std::alloc::{AllocError, Global};

@@ -1,10 +1,10 @@
 // The words of what is said of the members of a text.
-use crate::member::MemberFact;
 use crate::members::{
     changes_in, items_in, items_of, known_of, members_of, times_given, version_of,
 };
-use crate::place::{Object, say_item, say_member};
+use crate::place::{say_item, say_member};
 use crate::text::Text;
+use document_facts::{MemberFact, Object};
 use json::Value;
 use rail_model::is_name;
 use std::alloc::Global;

@@ -1,7 +1,5 @@
 // Members that are ignored: of unknown names, of later versions, and given again; and numbers that look like shares.
-use crate::member::MemberFact;
-use crate::place::Object;
-use crate::shares::{MAX_PLACES, look_like_shares};
+use document_facts::{MAX_PLACES, MemberFact, Object, look_like_shares};
 use json::Value;
 use std::alloc::Global;
 

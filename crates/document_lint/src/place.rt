@@ -1,13 +1,6 @@
 // Where something stands in a document.
 use crate::text::Text;
-
-/// An object of a document: the whole of it, a table, or a section of a table.
-#[derive(Clone, Copy)]
-pub enum Object {
-    Document,
-    Table { table: usize },
-    Section { table: usize, section: usize },
-}
+use document_facts::Object;
 
 // Adds what stands before the members of an object.
 fn say_object(place: &mut Text, object: Object) {

@@ -2,15 +2,11 @@
 ghost use Rattle.std.specs.Prelude.{◌≡◌, Err, Ok};
 ghost use Rattle.rail_model.specs.Turns.{AnswersAs};
 ghost use Rattle.document_json.specs.Reading.{doc_of};
-ghost use Rattle.document_lint.specs.Adding.{Adds, Nothing};
+ghost use Rattle.document_facts.specs.Adding.{Adds, Nothing};
 ghost use Rattle.document_lint.specs.Told.{HoldsAfter, HoldsOf, IsOfMembers, IsRight};
 
-use crate::fact::Fact;
-use crate::finding::find_in;
-use crate::former::find_lost;
-use crate::found::Found;
-use crate::member::MemberFact;
 use crate::members::{MemberFacts, member_facts};
+use document_facts::{Fact, Found, MemberFact, find_in, find_lost};
 use document_json::{Doc, DocRefused, Kept, tables_of};
 use json::Value;
 use std::alloc::Global;

@@ -1,5 +1,5 @@
 // Remarks.
-use crate::fact::Fact;
+use document_facts::Fact;
 
 /// What is to be said of a member of a document: the fact, the member's place there, as `tables[0].sections[2]`, and the fact in words.
 #[derive(Drop)]

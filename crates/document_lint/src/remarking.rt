@@ -2,15 +2,14 @@
 ghost use Rattle.std.specs.Prelude.{◌≡◌, IfOk};
 ghost use Rattle.document_lint.specs.Told.{facts_of};
 
-use crate::fact::Fact;
-use crate::member::MemberFact;
 use crate::member_words::{say_member_place, say_of_members};
-use crate::place::{Object, say_item, say_member};
+use crate::place::{say_item, say_member};
 use crate::remark::Remark;
 use crate::section_words::say_gone;
 use crate::subject::subject_of;
 use crate::text::Text;
 use crate::words::say_fact;
+use document_facts::{Fact, MemberFact, Object};
 use document_json::{Doc, DocRefused, Kept};
 use refusal_lines::push_document;
 use std::alloc::{AllocError, Global};

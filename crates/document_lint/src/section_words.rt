@@ -2,11 +2,10 @@
 ghost use Rattle.std.specs.Prelude.{◌<◌, ◌≤◌, length};
 ghost use Rattle.rail_model.specs.Table.{trains, last};
 
-use crate::exact::{count_at_end, end_share, most, most_together};
-use crate::fact::Fact;
 use crate::member_words::say_shares;
 use crate::subject::Subject;
 use crate::text::Text;
+use document_facts::{Fact, count_at_end, end_share, most, most_together};
 use rail_model::{last_of, limit_of, sections_of, share_at, trains_of};
 use state_sentences::push_section;
 

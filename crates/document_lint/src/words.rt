@@ -1,10 +1,10 @@
 // The words of what is so of a document.
 ghost use Rattle.std.specs.Prelude.{◌<◌, length};
 
-use crate::fact::Fact;
 use crate::section_words::say_section;
 use crate::subject::{Subject, point_name, subject_of};
 use crate::text::Text;
+use document_facts::Fact;
 use document_json::{Doc, after_of, layout_of, start_of, table_of, tables_of};
 use legal_state::remaining;
 use rail_model::{Connection, last_of};

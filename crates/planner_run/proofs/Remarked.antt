@@ -4,10 +4,10 @@ use Rattle.std.specs.Prelude.{Result, Ok, Err, MatchResult, length}
 use Rattle.document_json.specs.Doc.{Doc}
 use Rattle.document_json.specs.Reading.{doc_of}
 use Rattle.document_json.specs.declared.refused.DocRefused.{DocRefused}
-use Rattle.document_lint.specs.Facts.{Holds}
+use Rattle.document_facts.specs.Facts.{Holds}
 use Rattle.document_lint.specs.Told.{AreRemarks, IsSoOf, facts_of}
-use Rattle.document_lint.specs.declared.fact.Fact.{Fact}
-use Rattle.document_lint.specs.declared.fact.Fact.TheVariants.{Refused}
+use Rattle.document_facts.specs.declared.fact.Fact.{Fact}
+use Rattle.document_facts.specs.declared.fact.Fact.TheVariants.{Refused}
 use Rattle.document_lint.specs.declared.remark.Remark.{Remark}
 use Rattle.plan_input.specs.Standing.{ReadsAsDocument}
 use Rattle.planner_run.specs.Answered.{NeedsNoRemark}

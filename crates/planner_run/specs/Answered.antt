@@ -27,7 +27,7 @@ use Rattle.rail_model.specs.Layout.{Layout as LayoutValue}
 use Rattle.train_graph.specs.Graph.{IsGraph}
 use Rattle.layout_picture.specs.Drawn.{IsDrawn}
 use Rattle.document_lint.specs.Told.{AreRemarks, IsSoOf}
-use Rattle.document_lint.specs.declared.fact.Fact.{Fact}
+use Rattle.document_facts.specs.declared.fact.Fact.{Fact}
 use Rattle.document_lint.specs.declared.remark.Remark.{Remark}
 use Rattle.svg_text.specs.Tree.{Picture}
 use Rattle.svg_text.specs.Text.{svg_text}

@@ -1,8 +1,8 @@
 use Rattle.std.proofs.Common.{inl, inr}
 use Rattle.std.proofs.lemmas.Result.{IfOk-weaker}
-use Rattle.document_lint.specs.Adding.{Or}
+use Rattle.document_facts.specs.Adding.{Or}
 use Rattle.document_lint.specs.Told.{HoldsAfter, HoldsOf, IsRight}
-use Rattle.document_lint.proofs.Adding.{both, righter}
+use Rattle.document_facts.proofs.Adding.{both, righter}
 use Rattle.document_lint.proofs.All.{all_found}
 use Rattle.document_lint.proofs.linting.facts_after.Goals as goal
 

@@ -1,9 +1,9 @@
 use Rattle.std.proofs.Common.{refl}
-use Rattle.document_lint.proofs.Adding.{fewer, one}
-use Rattle.document_lint.proofs.Tests.{always}
-use Rattle.document_lint.specs.Adding.{Is, Nothing}
+use Rattle.document_facts.proofs.Adding.{fewer, one}
+use Rattle.document_facts.proofs.Tests.{always}
+use Rattle.document_facts.specs.Adding.{Is, Nothing}
 use Rattle.document_lint.specs.Told.{IsOfMembers}
-use Rattle.document_lint.specs.declared.fact.Fact.TheVariants.{Member}
+use Rattle.document_facts.specs.declared.fact.Fact.TheVariants.{Member}
 use Rattle.document_lint.proofs.reading.add_member.Goals as goal
 
 pub returns : goal.returns

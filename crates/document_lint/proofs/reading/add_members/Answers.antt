@@ -1,4 +1,4 @@
-use Rattle.document_lint.proofs.Adding.{no_more}
+use Rattle.document_facts.proofs.Adding.{no_more}
 use Rattle.document_lint.specs.Told.{IsOfMembers}
 use Rattle.document_lint.proofs.reading.add_members.Goals as goal
 

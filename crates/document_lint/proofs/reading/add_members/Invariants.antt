@@ -1,4 +1,4 @@
-use Rattle.document_lint.specs.Adding.{Adds, Nothing}
+use Rattle.document_facts.specs.Adding.{Adds, Nothing}
 use Rattle.document_lint.specs.Told.{IsOfMembers}
 use Rattle.document_lint.proofs.reading.add_members.Given as goal
 

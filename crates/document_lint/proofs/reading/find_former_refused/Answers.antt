@@ -1,10 +1,10 @@
 use Rattle.std.proofs.Common.{refl}
-use Rattle.document_lint.proofs.Adding.{fewer, lost, one}
-use Rattle.document_lint.proofs.Tests.{always}
-use Rattle.document_lint.specs.Adding.{Is}
+use Rattle.document_facts.proofs.Adding.{fewer, lost, one}
+use Rattle.document_facts.proofs.Tests.{always}
+use Rattle.document_facts.specs.Adding.{Is}
 use Rattle.document_lint.proofs.Bytes.{former_so, refused_as, so_former}
 use Rattle.document_lint.specs.Told.{HoldsAfter}
-use Rattle.document_lint.specs.declared.fact.Fact.TheVariants.{FormerRefused}
+use Rattle.document_facts.specs.declared.fact.Fact.TheVariants.{FormerRefused}
 use Rattle.document_lint.proofs.reading.find_former_refused.Goals as goal
 
 pub returns-in-Memory : goal.returns-in-Memory

@@ -1,7 +1,7 @@
-use Rattle.document_lint.proofs.Adding.{fewer, righter}
+use Rattle.document_facts.proofs.Adding.{fewer, righter}
 use Rattle.document_lint.proofs.Bytes.{since_so, so_since}
 use Rattle.document_lint.proofs.AllKinds.{of_lost}
-use Rattle.document_lint.specs.Former.{HoldsSince, OfLost}
+use Rattle.document_facts.specs.Former.{HoldsSince, OfLost}
 use Rattle.document_lint.specs.Told.{HoldsAfter}
 use Rattle.document_lint.proofs.reading.find_gone.Goals as goal
 

@@ -1,6 +1,6 @@
 use Rattle.std.proofs.Common.{inl, inr}
-use Rattle.document_lint.proofs.Adding.{both, fewer, righter}
-use Rattle.document_lint.specs.Adding.{Nothing, Or}
+use Rattle.document_facts.proofs.Adding.{both, fewer, righter}
+use Rattle.document_facts.specs.Adding.{Nothing, Or}
 use Rattle.document_lint.specs.Told.{HoldsOf, IsOfMembers, IsRight}
 use Rattle.document_lint.proofs.reading.find_refusal.Goals as goal
 

@@ -1,11 +1,11 @@
 use Rattle.std.proofs.Common.{inl, inr}
-use Rattle.document_lint.proofs.Adding.{both, fewer, righter}
-use Rattle.document_lint.specs.Adding.{Nothing, Or}
+use Rattle.document_facts.proofs.Adding.{both, fewer, righter}
+use Rattle.document_facts.specs.Adding.{Nothing, Or}
 use Rattle.document_lint.proofs.Bytes.{of_so, so_of}
 use Rattle.document_lint.proofs.AllKinds.{of_document}
 use Rattle.document_lint.specs.Told.{HoldsOf, IsOfMembers, IsRight}
-use Rattle.document_lint.specs.Facts.{Holds}
-use Rattle.document_lint.specs.Kinds.{OfDocument}
+use Rattle.document_facts.specs.Facts.{Holds}
+use Rattle.document_facts.specs.Kinds.{OfDocument}
 use Rattle.document_lint.proofs.reading.find_taken.Goals as goal
 
 pub returns : goal.returns

@@ -1,4 +1,4 @@
-use Rattle.document_lint.proofs.Adding.{lost, nothing}
+use Rattle.document_facts.proofs.Adding.{lost, nothing}
 use Rattle.document_lint.proofs.Bytes.{none_since, refused_as}
 use Rattle.document_lint.specs.Told.{HoldsAfter}
 use Rattle.document_lint.proofs.reading.note_refused.Goals as goal

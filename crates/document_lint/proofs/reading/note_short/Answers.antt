@@ -1,5 +1,5 @@
-use Rattle.document_lint.proofs.Adding.{lost, nothing}
-use Rattle.document_lint.specs.Adding.{Nothing}
+use Rattle.document_facts.proofs.Adding.{lost, nothing}
+use Rattle.document_facts.specs.Adding.{Nothing}
 use Rattle.document_lint.specs.Told.{IsOfMembers}
 use Rattle.document_lint.proofs.reading.note_short.Goals as goal
 

@@ -1,0 +1,7 @@
+pub mod Adding
+mod Contained
+mod Counting
+mod Extremes
+mod Kept
+mod Rows
+pub mod Tests

@@ -1,0 +1,15 @@
+use Rattle.std.proofs.Common.{arith}
+use Rattle.document_facts.proofs.Adding.{next, up_to}
+use Rattle.document_facts.specs.Facts.{Holds}
+use Rattle.document_facts.specs.Kinds.{OfTable}
+use Rattle.document_facts.proofs.finding.find_tables.Goals as goal
+
+pub loop-table-preserved : goal.loop-table-preserved
+loop-table-preserved c = next (Holds c.args.doc.now) (OfTable c.args.doc.now) c.loop-table.table _ _ _ c.loop-table.invariant c.find_table.ensures
+
+pub returns : goal.returns
+returns c =
+    let end = c.tables_of-table-end.ensures.count in
+    let past = c.loop-table-test.false in
+    let near = c.loop-table.auto.table-end in
+    up_to (Holds c.args.doc.now) (OfTable c.args.doc.now) c.loop-table.table _ _ _ (omega (arith, end, past, near)) c.loop-table.invariant

@@ -1,7 +1,0 @@
-use Rattle.document_lint.specs.Adding.{Adds, Below}
-use Rattle.document_lint.specs.Facts.{Holds}
-use Rattle.document_lint.specs.Kinds.{OfConnection}
-use Rattle.document_lint.proofs.finding.find_connections.Given as goal
-
-abbrev pub invariant-loop-connection : goal.invariant-loop-connection
-invariant-loop-connection l = Adds (Holds l.doc) (Below (OfConnection l.doc l.table) l.connection) l.initial.found l.found

@@ -1,7 +1,0 @@
-use Rattle.document_lint.specs.Adding.{Adds, Below}
-use Rattle.document_lint.specs.Facts.{Holds}
-use Rattle.document_lint.specs.Kinds.{OfTrain}
-use Rattle.document_lint.proofs.finding.find_trains.Given as goal
-
-abbrev pub invariant-loop-train : goal.invariant-loop-train
-invariant-loop-train l = Adds (Holds l.doc) (Below (OfTrain l.doc l.table) l.train) l.initial.found l.found

@@ -1,7 +1,0 @@
-use Rattle.document_lint.specs.Adding.{Adds, Below}
-use Rattle.document_lint.specs.Facts.{Holds}
-use Rattle.document_lint.specs.Kinds.{OfShares}
-use Rattle.document_lint.proofs.sections.find_all_shares.Given as goal
-
-abbrev pub invariant-loop-train : goal.invariant-loop-train
-invariant-loop-train l = Adds (Holds l.doc) (Below (OfShares l.doc l.table l.section) l.train) l.initial.found l.found

@@ -1,6 +1,0 @@
-use Rattle.std.proofs.Common.{ℕ, ◌<◌}
-use Rattle.document_lint.specs.Sections.{EndTogether}
-use Rattle.document_lint.proofs.trains.first_partner.Given as goal
-
-abbrev pub invariant-loop-first : goal.invariant-loop-first
-invariant-loop-first l = (j : ℕ) → j < l.first → EndTogether l.table j l.train → ⊥

@@ -1,6 +1,0 @@
-use Rattle.std.proofs.Common.{ℕ, ◌<◌}
-use Rattle.document_lint.specs.Used.{LeadsTo, link_at}
-use Rattle.document_lint.proofs.unused.is_joined.Given as goal
-
-abbrev pub invariant-loop-number : goal.invariant-loop-number
-invariant-loop-number l = (k : ℕ) → k < l.number → LeadsTo (link_at l.layout k) l.point → ⊥
