@@ -133,7 +133,7 @@ fn write_name(out: &mut Text, name: Option<&str>) {
 fn write_section(out: &mut Text, rows: &Rows, section: usize) {
     write_numbered(out, "section", section);
     if let Some(section) = rows.sections.get(section) {
-        write_section_points(out, section, rows.ways());
+        write_section_points(out, section, rows);
     }
 }
 
@@ -159,7 +159,7 @@ fn write_place(out: &mut Text, rows: &Rows, train: Option<usize>, place: usize) 
 
 // Adds the name of the point at a place of a train, or that the train is out of the layout.
 fn write_point(out: &mut Text, rows: &Rows, train: usize, place: usize) {
-    let name = rows.ways().point(train, place);
+    let name = rows.point(train, place);
     if name.is_none() && rows.last_place(train) == Some(place) {
         out.say(" (out of the layout)");
     } else {
@@ -237,14 +237,9 @@ fn write_rule(out: &mut Text, scope: &Scope, rule: &Connection) {
     );
 }
 
-// Adds what the document calls a train.
+// Adds the name of a train, or its number where it has no name.
 fn write_train_of(out: &mut Text, names: Names, train: u32) {
-    write_train(out, names.train(train as usize), train);
-}
-
-/// Adds the name of a train, or its number where it has no name.
-pub(crate) fn write_train(out: &mut Text, name: Option<&str>, train: u32) {
-    match name {
+    match names.train(train as usize) {
         Some(name) => out.say(name),
         None => {
             out.say("train ");

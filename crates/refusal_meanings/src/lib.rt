@@ -5,6 +5,7 @@ mod causes;
 mod faults;
 mod field;
 mod fields;
+mod held_points;
 mod illegal;
 mod lines;
 mod meanings;

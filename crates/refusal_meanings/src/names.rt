@@ -1,6 +1,5 @@
 // What a document calls its trains, points, sections and links, whether or not `ats` takes the document.
 
-use crate::section_points::Ways;
 use document_shapes::{DocMembers, ShapeRefused, TableMembers, read_document};
 use json::Value;
 use rail_model::{Connection, Node, Section};
@@ -109,9 +108,10 @@ fn items_of<T>(list: &Option<Vec<T>>) -> &[T] {
 }
 
 impl<'a> Rows<'a> {
-    /// The points that the missions name.
-    pub(crate) fn ways(&self) -> Ways<'a> {
-        Ways::Names(self.missions)
+    /// The name of the point at a train's place.
+    pub(crate) fn point(&self, train: usize, place: usize) -> Option<&'a str> {
+        let name = self.missions.get(train)?.get(place)?;
+        Some(name.as_str())
     }
 
     /// A train's last place.

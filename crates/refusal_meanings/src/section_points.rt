@@ -1,37 +1,14 @@
 // The points at which trains have shares of a section.
 
+use crate::names::Rows;
 use crate::text::Text;
-use rail_model::{Layout, Missions, Section};
+use rail_model::Section;
 use std::alloc::AllocError;
 
-/// Where the trains of a table come to: names of points, or points of a layout.
-#[derive(Clone, Copy)]
-pub(crate) enum Ways<'a> {
-    Names(&'a [Vec<String>]),
-    Numbers(&'a Missions, &'a Layout),
-}
-
-impl<'a> Ways<'a> {
-    /// The name of the point at a train's place.
-    pub(crate) fn point(self, train: usize, place: usize) -> Option<&'a str> {
-        match self {
-            Ways::Names(missions) => {
-                let name = missions.get(train)?.get(place)?;
-                Some(name.as_str())
-            }
-            Ways::Numbers(missions, layout) => {
-                let point = missions.as_slice().get(train)?.as_slice().get(place)?;
-                let point = layout.points().get(*point as usize)?;
-                Some(point.name())
-            }
-        }
-    }
-}
-
 /// Adds up to six of the points at which a train has a share of a section.
-pub(crate) fn write_section_points(out: &mut Text, section: &Section, ways: Ways) {
+pub(crate) fn write_section_points(out: &mut Text, section: &Section, rows: &Rows) {
     let mut points = Vec::new(out.alloc());
-    match push_section_points(&mut points, section, ways) {
+    match push_section_points(&mut points, section, rows) {
         Ok(()) => write_points(out, &points),
         Err(_) => out.note_no_memory(),
     }
@@ -41,10 +18,10 @@ pub(crate) fn write_section_points(out: &mut Text, section: &Section, ways: Ways
 fn push_section_points<'a>(
     points: &mut Vec<&'a str>,
     section: &Section,
-    ways: Ways<'a>,
+    rows: &Rows<'a>,
 ) -> Result<(), AllocError> {
     for (train, changes) in section.all_changes().iter().enumerate() {
-        push_points(points, train, changes.as_slice(), ways)?;
+        push_points(points, train, changes.as_slice(), rows)?;
     }
     Ok(())
 }
@@ -54,13 +31,13 @@ fn push_points<'a>(
     points: &mut Vec<&'a str>,
     train: usize,
     changes: &[i32],
-    ways: Ways<'a>,
+    rows: &Rows<'a>,
 ) -> Result<(), AllocError> {
     let mut share: i32 = 0;
     for (place, change) in changes.iter().enumerate() {
         share = share.saturating_add(*change);
         if 0 < share {
-            push_point(points, ways.point(train, place))?;
+            push_point(points, rows.point(train, place))?;
         }
     }
     Ok(())

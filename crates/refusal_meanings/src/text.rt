@@ -1,6 +1,5 @@
 // Texts that are written piece by piece.
 
-use state_sentences::push_section;
 use std::alloc::{AllocError, Global};
 
 /// A text. Where there is no memory for a piece of it, that is noted, and there is no text in the end.
@@ -39,13 +38,6 @@ impl Text {
     /// Adds a number.
     pub(crate) fn say_number(&mut self, number: u64) {
         if write!(self.words, "{number}").is_err() {
-            self.note_no_memory();
-        }
-    }
-
-    /// Adds a section, of those that have these names.
-    pub(crate) fn say_section(&mut self, names: &[String], section: u32) {
-        if push_section(&mut self.words, names, section).is_err() {
             self.note_no_memory();
         }
     }

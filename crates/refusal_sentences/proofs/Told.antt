@@ -1,7 +1,9 @@
--- What a line that names a state is explained with.
-use Rattle.std.proofs.Common.{ℕ, List, String, Vec, Global}
+-- What a document, and a line that names a state, are explained with.
+use Rattle.std.proofs.Common.{◌≡◌, ℕ, List, String, Vec, Global}
 use Rattle.std.specs.Prelude.{Result, Ok, Err, IfOk}
-use Rattle.refusal_sentences.specs.Explains.{ExplainsState}
+use Rattle.document_json.specs.Doc.{Doc}
+use Rattle.document_json.specs.Reading.{doc_of}
+use Rattle.refusal_sentences.specs.Explains.{ExplainsIn, OfDocument, ExplainsState}
 use Rattle.refusal_sentences.specs.StateLines.{NamesState, IsLineOf}
 use Rattle.refusal_sentences.specs.ExplainedLines.{ExplainsItsState, ExplainsLine}
 use Rattle.refusal_sentences.specs.declared.explained.Explained.{Explained}
@@ -22,3 +24,19 @@ module _ (bytes : List ℕ) (names : List (Vec (String Global) Global)) (line wo
   pub told_if_ok : {E : Type 0} (r : Result Explained E) → IfOk r (ExplainsState bytes names t p) → IfOk r (ExplainsLine bytes names line)
   told_if_ok (Ok told) h = told_of_line told h
   told_if_ok (Err e) h = tt
+
+module _ (bytes : List ℕ) (names : List (Vec (String Global) Global)) (t : ℕ) (p : List ℕ) (D : Doc) (is_read : doc_of bytes ≡ Ok D) where
+  of_document : (told : Explained) → ExplainsIn D names t p told → OfDocument bytes names t p told
+  of_document told h = record { document = D; is_read = is_read; explains = h }
+
+  told_of_document : (told : Explained) → ExplainsIn D names t p told → ExplainsState bytes names t p told
+  told_of_document (State text) h = of_document (State text) h
+  told_of_document (NotLegal cause text) h = of_document (NotLegal cause text) h
+  told_of_document (NoTable tables text) h = of_document (NoTable tables text) h
+  told_of_document (NoDocument refused text) h = absurd h
+  told_of_document (Refusal text) h = h
+  told_of_document (NoLine text) h = h
+
+  pub told_if_read : {E : Type 0} (r : Result Explained E) → IfOk r (ExplainsIn D names t p) → IfOk r (ExplainsState bytes names t p)
+  told_if_read (Ok told) h = told_of_document told h
+  told_if_read (Err e) h = tt

@@ -7,6 +7,7 @@ use Rattle.legal_state.specs.Illegal.{IsIllegal}
 use Rattle.document_json.specs.Doc.{Doc, names_of, table_at}
 use Rattle.document_json.specs.Reading.{doc_of}
 use Rattle.state_sentences.specs.Tells.{Tells}
+use Rattle.refusal_meanings.specs.IllegalWords.{TellsIllegal}
 use Rattle.refusal_sentences.specs.declared.explained.Explained.{Explained}
 use Rattle.refusal_sentences.specs.declared.explained.Explained.TheVariants.{State, Refusal, NotLegal, NoTable, NoDocument, NoLine}
 
@@ -15,11 +16,13 @@ abbrev pub sections_named : List (Vec (String Global) Global) → ℕ → List (
 sections_named names t = option_map_or (λ v. v.items) (slice_get names t) []
 
 -- How positions under table t of this document are explained, by these names of sections: a legal state by the text of state_sentences, or
--- else by the cause.
+-- else by the cause and the text of refusal_meanings.
 abbrev pub ExplainsIn : Doc → List (Vec (String Global) Global) → ℕ → List ℕ → Explained → Type 0
 ExplainsIn D names t p (State text) =
     (t < length D.tables) × Legal (table_at D t) p × Tells (names_of D) (sections_named names t) (table_at D t) p t (string_bytes text)
-ExplainsIn D names t p (NotLegal cause text) = (t < length D.tables) × IsIllegal (table_at D t) p cause
+ExplainsIn D names t p (NotLegal cause text) =
+    (t < length D.tables) × IsIllegal (table_at D t) p cause
+    × TellsIllegal (names_of D) (sections_named names t) (table_at D t) p t cause (string_bytes text)
 ExplainsIn D names t p (NoTable tables text) = (tables ≡ length D.tables) × (tables ≤ t)
 ExplainsIn D names t p (NoDocument refused text) = ⊥
 ExplainsIn D names t p (Refusal text) = ⊥

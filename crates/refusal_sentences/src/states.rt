@@ -64,8 +64,7 @@ fn explain_positions(
         Err(cause) => {
             let placed = Placed {
                 doc,
-                table: table_of(doc, table),
-                number: table,
+                table,
                 sections: sections_named(names, table),
                 places,
             };

@@ -1,0 +1,3 @@
+pub mod Joined
+pub mod Held
+pub mod IllegalRows

@@ -1,0 +1,2 @@
+pub mod HeldPoints
+pub mod IllegalWords
