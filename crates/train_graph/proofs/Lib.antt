@@ -1,6 +1,5 @@
-pub mod Known
 pub mod LevelRows
+pub mod OnceRows
 pub mod Pushed
 pub mod Rows
 pub mod Threefold
-pub mod Ways

@@ -4,7 +4,7 @@ ghost use Rattle.std.specs.List.{AllZip};
 ghost use Rattle.train_graph.specs.Graph.{IsGraph};
 ghost use Rattle.train_graph.specs.Layers.{IsLayer, Shows, layers};
 ghost use Rattle.train_graph.specs.Marks.{span_of};
-ghost use Rattle.train_graph.specs.Rows.{HasRows};
+ghost use Rattle.train_graph.specs.Rows.{HasRows, IsOnce};
 
 use crate::Axes;
 use crate::colours::style_of;
@@ -20,8 +20,8 @@ use run_timetable::{Run, point_name, train_name};
 use std::alloc::{AllocError, Global};
 use svg_text::{Group, Picture, Shape};
 
-/// The picture of a run: ticks to the right, points down, and a line for each move. The points come in the order of the
-/// chosen train's way, or of the way with the most places, and those of the other trains where they branch off.
+/// The picture of a run: ticks to the right, points down, and a line for each move. The chosen train, or the one with the
+/// most places, goes down until it turns, and the points of the other trains lie where theirs meet it or branch off.
 pub fn train_graph(
     alloc: Global,
     layout: &Layout,
@@ -84,8 +84,9 @@ fn axes_of(
     ensures wide { IfOk result (λ axes. 0 < axes.width) }
     ensures apart { IfOk result (λ axes. 0 < axes.gap) }
     ensures rows { IfOk result (λ axes. HasRows run.now axes.rows.items) }
+    ensures once { IfOk result (λ axes. IsOnce axes.rows.items) }
 {
-    let rows = rows_of(alloc, run, chosen)?;
+    let rows = rows_of(alloc, layout, run, chosen)?;
     let points = widest_point(layout, &rows).saturating_add(10);
     let left = strip(names, run).saturating_add(points).min(260);
     let right = strip(names, run).min(130);

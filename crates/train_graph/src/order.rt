@@ -1,87 +1,182 @@
 // The order of points from the top of a picture down.
-ghost use Rattle.std.specs.Prelude.{◌≡◌, ◌<◌, ◌≤◌, ◌↔◌, ℕ, false, IfOk, OnOk, IsSome, length, slice_index, vec_len};
-ghost use Rattle.std.specs.Bool.{OnTrue};
-ghost use Rattle.run_timetable.specs.Timetable.{trains_of};
-ghost use Rattle.train_graph.specs.Rows.{HasRows, IsDepthKnown, StaysKnown, KnowsBehind, KnowsWay, way_in};
+ghost use Rattle.std.specs.Prelude.{◌≤◌, Contains, IfOk, IfSome, OnOk, vec_len};
+ghost use Rattle.train_graph.specs.Rows.{HasRows, HasStarts, HasTargets, Adds, IsOnce};
 
-use run_timetable::Run;
+use crate::scale::place_in;
+use rail_model::{Layout, Point};
+use run_timetable::{Run, Step};
 use std::alloc::{AllocError, Global};
 
 // The most rows of a picture: a layout has no more points.
 const MOST_ROWS: usize = 512;
 
-// How deep the first point of all lies, and how much deeper the next one of a way.
+// How deep the first station lies, how much deeper the next one of a way, and how much deeper a way apart from the others.
 const FIRST: u64 = 1 << 40;
 
 const STEP: u64 = 1 << 20;
 
-// A point, and how deep it lies.
+const APART: u64 = 1 << 30;
+
+// Ways with so many known places, or more, go first.
+const MOST_KNOWN: u64 = 8;
+
+// A station, and how deep it lies.
 #[derive(Clone, Copy)]
 struct Depth {
-    point: u32,
+    station: u32,
     depth: u64,
 }
 
-/// The points that trains come to, from the top down: first the way of the chosen train, or of the one with the most
-/// places. Points of another way between two of these lie between them, and those at its ends before or after them.
-pub(crate) fn rows_of(alloc: Global, run: &Run, chosen: Option<u32>) -> Result<Vec<u32>, AllocError>
+/// The points that trains come to, from the top down. The way of the chosen train, or of the one with the most places, goes
+/// down; if it comes to a station again, it turns half way, and goes up from there. The other ways follow it, down or up,
+/// from the points that they have in common with ways before them. A way that has just one goes up. Points whose names
+/// differ only after the last `_`, where a letter follows, are one station, and lie side by side. A train that turns, but
+/// comes to no station where it or another train has been, seems to go on.
+pub(crate) fn rows_of(
+    alloc: Global,
+    layout: &Layout,
+    run: &Run,
+    chosen: Option<u32>,
+) -> Result<Vec<u32>, AllocError>
     ensures few { IfOk result (λ rows. vec_len rows ≤ 512) }
     ensures rows { IfOk result (λ rows. HasRows run.now rows.items) }
+    ensures once { IfOk result (λ rows. IsOnce rows.items) }
 {
-    let mut depths = depths_of(alloc, run, chosen)?;
-    depths.sort_by_key(|depth| depth.depth)?;
+    let stations = stations_of(alloc, layout)?;
+    let depths = depths_of(alloc, &stations, run, chosen)?;
     let mut rows = Vec::new(alloc);
-    for depth in &depths {
-        rows.push(depth.point)?;
-    }
+    push_starts(&mut rows, &run.starts)?;
+    push_targets(&mut rows, &run.steps)?;
+    rows.sort_by_key(|point| {
+        let station = station_of(&stations, *point);
+        (depth_of(&depths, station).unwrap_or(0), station, *point)
+    })?;
     rows.truncate(MOST_ROWS);
     Ok(rows)
 }
 
-// How deep the points of all ways lie: the chosen one, then those that have a point in common with it, then the others.
-fn depths_of(alloc: Global, run: &Run, chosen: Option<u32>) -> Result<Vec<Depth>, AllocError>
-    ensures { IfOk result (λ depths. (i : ℕ) → i < trains_of run.now.starts.items → KnowsWay depths.items (way_in run.now i)) }
+// Adds the points at which trains begin.
+fn push_starts(points: &mut Vec<u32>, starts: &[Option<u32>]) -> Result<(), AllocError>
+    ensures adds { OnOk result (Adds points.old.items points.new.items) }
+    ensures all { OnOk result (HasStarts points.new.items starts.now) }
 {
-    let mut depths = Vec::new(alloc);
-    let first = chosen.unwrap_or(longest(run));
-    push_train(alloc, &mut depths, run, first, false)?;
-    push_trains(alloc, &mut depths, run, true)?;
-    push_trains(alloc, &mut depths, run, false)?;
-    Ok(depths)
-}
-
-// Adds the ways of all trains, or only of those with a known point.
-fn push_trains(
-    alloc: Global,
-    depths: &mut Vec<Depth>,
-    run: &Run,
-    known: bool,
-) -> Result<(), AllocError>
-    ensures kept { OnOk result (StaysKnown depths.old.items depths.new.items) }
-    ensures all { OnOk result (known ≡ false → (i : ℕ) → i < trains_of run.now.starts.items → KnowsWay depths.new.items (way_in run.now i)) }
-{
-    for train in 0..run.trains() {
-        push_train(alloc, depths, run, train, known)?;
+    for start in starts {
+        push_new(points, *start)?;
     }
     Ok(())
 }
 
-// Adds the way of a train, or only a way with a known point.
+// Adds the points to which steps lead.
+fn push_targets(points: &mut Vec<u32>, steps: &[Step]) -> Result<(), AllocError>
+    ensures adds { OnOk result (Adds points.old.items points.new.items) }
+    ensures all { OnOk result (HasTargets points.new.items steps.now) }
+{
+    for step in steps {
+        push_new(points, step.to)?;
+    }
+    Ok(())
+}
+
+// Adds a point, if there is one, and it isn't there yet.
+fn push_new(points: &mut Vec<u32>, point: Option<u32>) -> Result<(), AllocError>
+    ensures adds { OnOk result (Adds points.old.items points.new.items) }
+    ensures there { OnOk result (IfSome point (Contains points.new.items)) }
+{
+    if let Some(point) = point
+        && !points.contains(&point)
+    {
+        points.push(point)?;
+    }
+    Ok(())
+}
+
+// What the names of one station begin with: all before the last `_`, if a letter follows.
+fn stem_of(name: &str) -> &str {
+    if let Some((stem, track)) = name.rsplit_once("_")
+        && matches!(track.as_bytes().first(), Some(b'A'..=b'Z' | b'a'..=b'z'))
+    {
+        stem
+    } else {
+        name
+    }
+}
+
+// The first point whose name has this stem.
+fn first_of(points: &[Point], stem: &str) -> u32 {
+    for (number, point) in points.iter().enumerate() {
+        if stem_of(point.name()) == stem {
+            return number.min(MOST_ROWS) as u32;
+        }
+    }
+    0
+}
+
+// The stations of all points. A station has the number of its first point.
+fn stations_of(alloc: Global, layout: &Layout) -> Result<Vec<u32>, AllocError> {
+    let points = layout.points();
+    let mut stations = Vec::new(alloc);
+    for point in points {
+        stations.push(first_of(points, stem_of(point.name())))?;
+    }
+    Ok(stations)
+}
+
+// The station of a point.
+fn station_of(stations: &[u32], point: u32) -> u32 {
+    stations.get(point as usize).copied().unwrap_or(point)
+}
+
+// How deep the stations of all ways lie: first those of the chosen train or of the longest way, then those of ways with many
+// known places, and at last those of all others.
+fn depths_of(
+    alloc: Global,
+    stations: &[u32],
+    run: &Run,
+    chosen: Option<u32>,
+) -> Result<Vec<Depth>, AllocError> {
+    let mut depths = Vec::new(alloc);
+    let first = chosen.unwrap_or(longest(run));
+    push_train(alloc, &mut depths, stations, run, first, 0)?;
+    for known in (0..=MOST_KNOWN).rev() {
+        push_trains(alloc, &mut depths, stations, run, known)?;
+    }
+    Ok(depths)
+}
+
+// Adds the ways with so many known places.
+fn push_trains(
+    alloc: Global,
+    depths: &mut Vec<Depth>,
+    stations: &[u32],
+    run: &Run,
+    known: u64,
+) -> Result<(), AllocError> {
+    for train in 0..run.trains() {
+        push_train(alloc, depths, stations, run, train, known)?;
+    }
+    Ok(())
+}
+
+// Adds the way of a train, if it has so many known places: what follows a known place, and then, from its end, what is before.
 fn push_train(
     alloc: Global,
     depths: &mut Vec<Depth>,
+    stations: &[u32],
     run: &Run,
     train: u32,
-    known: bool,
-) -> Result<(), AllocError>
-    ensures kept { OnOk result (StaysKnown depths.old.items depths.new.items) }
-    ensures all { OnOk result (known ≡ false → KnowsWay depths.new.items (way_in run.now train)) }
-{
-    let mut way = way_of(alloc, run, train)?;
-    if known && !has_known(depths, &way) {
+    known: u64,
+) -> Result<(), AllocError> {
+    let mut way = way_of(alloc, stations, run, train)?;
+    let places = known_in(depths, &way);
+    if places < known || places == way.len() as u64 {
         return Ok(());
     }
-    push_way(depths, &mut way)
+    if places == 0 {
+        push_fresh(depths, &way)?;
+    }
+    push_along(depths, &way)?;
+    way.reverse();
+    push_along(depths, &way)
 }
 
 // How many steps a train makes.
@@ -106,104 +201,99 @@ fn longest(run: &Run) -> u32 {
     first
 }
 
-// The points that a train comes to, in order.
-fn way_of(alloc: Global, run: &Run, train: u32) -> Result<Vec<u32>, AllocError>
-    ensures { IfOk result (λ way. way.items ≡ way_in run.now train) }
-{
+// The stations that a train comes to, in order.
+fn way_of(alloc: Global, stations: &[u32], run: &Run, train: u32) -> Result<Vec<u32>, AllocError> {
     let mut way = Vec::new(alloc);
     if let Some(point) = run.start(train) {
-        way.push(point)?;
+        way.push(station_of(stations, point))?;
     }
     for step in &run.steps {
         if step.train == train
             && let Some(point) = step.to
         {
-            way.push(point)?;
+            way.push(station_of(stations, point))?;
         }
     }
     Ok(way)
 }
 
-// How deep a point lies, if that is known.
-fn depth_of(depths: &[Depth], point: u32) -> Option<u64>
-    ensures { IsSome result ↔ IsDepthKnown depths.now point }
-{
+// How deep a station lies, if that is known.
+fn depth_of(depths: &[Depth], station: u32) -> Option<u64> {
     for known in depths {
-        if known.point == point {
+        if known.station == station {
             return Some(known.depth);
         }
     }
     None
 }
 
-// Whether it is known how deep some point of a way lies.
-fn has_known(depths: &[Depth], way: &[u32]) -> bool
-    ensures { OnTrue result ((k : ℕ) × (k < length way.now) × IsDepthKnown depths.now (slice_index way.now k)) }
-{
-    for point in way {
-        if depth_of(depths, *point).is_some() {
-            return true;
+// At how many places of a way the depth is known.
+fn known_in(depths: &[Depth], way: &[u32]) -> u64 {
+    let mut places: u64 = 0;
+    for station in way {
+        if depth_of(depths, *station).is_some() {
+            places = places.saturating_add(1);
+        }
+    }
+    places
+}
+
+// How many places a way has up to where it turns: half way from a station to where it comes back there from another one.
+fn first_leg(way: &[u32]) -> usize {
+    let mut last = None;
+    for (place, station) in way.iter().enumerate() {
+        if last != Some(*station)
+            && let Some(first) = place_in(way.get(..place).unwrap_or(&[]), *station)
+        {
+            return first.saturating_add(place) / 2 + 1;
+        }
+        last = Some(*station);
+    }
+    way.len()
+}
+
+// Adds a way without known places below all others, up to where it turns.
+fn push_fresh(depths: &mut Vec<Depth>, way: &[u32]) -> Result<(), AllocError> {
+    let mut depth = FIRST.saturating_add(APART.saturating_mul(depths.len() as u64));
+    for station in way.get(..first_leg(way)).unwrap_or(way) {
+        if depth_of(depths, *station).is_none() {
+            depths.push(Depth {
+                station: *station,
+                depth,
+            })?;
+            depth = depth.saturating_add(STEP);
+        }
+    }
+    Ok(())
+}
+
+// Whether a way goes down where it is known first. Without two depths it goes up.
+fn goes_down(depths: &[Depth], way: &[u32]) -> bool {
+    let mut first = None;
+    for station in way {
+        if let Some(depth) = depth_of(depths, *station) {
+            let before = first.unwrap_or(depth);
+            if depth != before {
+                return depth > before;
+            }
+            first = Some(before);
         }
     }
     false
 }
 
-// Adds the points of a way: those after a known point, and then, from its end, those before one.
-fn push_way(depths: &mut Vec<Depth>, way: &mut [u32]) -> Result<(), AllocError>
-    ensures kept { OnOk result (StaysKnown depths.old.items depths.new.items) }
-    ensures all { OnOk result (KnowsWay depths.new.items way.old) }
-{
-    if !has_known(depths, way) {
-        push_fresh(depths, way)?;
-    }
-    push_along(depths, way)?;
-    way.reverse();
-    push_along(depths, way)
-}
-
-// Below all points so far. One of them lies at the first depth or below it, if there is any.
-fn next_depth(depths: &[Depth]) -> u64 {
-    let mut next = FIRST;
-    for known in depths {
-        next = known.depth.saturating_add(STEP).max(next);
-    }
-    next
-}
-
-// Adds the points of a way without known ones below all others, up to the first that comes again.
-fn push_fresh(depths: &mut Vec<Depth>, way: &[u32]) -> Result<(), AllocError>
-    ensures kept { OnOk result (StaysKnown depths.old.items depths.new.items) }
-    ensures first { OnOk result (0 < length way.now → IsDepthKnown depths.new.items (slice_index way.now 0)) }
-{
-    let mut depth = next_depth(depths);
-    for point in way {
-        if depth_of(depths, *point).is_some() {
-            break;
-        }
-        depths.push(Depth {
-            point: *point,
-            depth,
-        })?;
-        depth = depth.saturating_add(STEP);
-    }
-    Ok(())
-}
-
-// Adds the points after the first known one.
-fn push_along(depths: &mut Vec<Depth>, way: &[u32]) -> Result<(), AllocError>
-    ensures kept { OnOk result (StaysKnown depths.old.items depths.new.items) }
-    ensures behind { OnOk result (KnowsBehind depths.old.items depths.new.items way.now (length way.now)) }
-{
+// Adds the places after the first known one.
+fn push_along(depths: &mut Vec<Depth>, way: &[u32]) -> Result<(), AllocError> {
+    let mut down = goes_down(depths, way);
     let mut before: Option<u64> = None;
-    let mut down = true;
-    for (place, point) in way.iter().enumerate() {
-        let depth = match (depth_of(depths, *point), before) {
+    for (place, station) in way.iter().enumerate() {
+        let depth = match (depth_of(depths, *station), before) {
             (Some(depth), _) => depth,
             (None, Some(before)) => {
                 let next = next_known(depths, way.get(place..).unwrap_or(&[]));
                 let depth = depth_behind(before, next, down);
                 depths.push(Depth {
-                    point: *point,
+                    station: *station,
                     depth,
                 })?;
                 depth
@@ -220,18 +310,18 @@ fn push_along(depths: &mut Vec<Depth>, way: &[u32]) -> Result<(), AllocError>
     Ok(())
 }
 
-// How deep the next known point lies, and how many steps it is away.
+// How deep the next known place lies, and how many steps it is away.
 #[derive(Clone, Copy)]
 struct Next {
     depth: u64,
     steps: u64,
 }
 
-// The next known point of the rest of a way.
+// The next known place of the rest of a way.
 fn next_known(depths: &[Depth], rest: &[u32]) -> Option<Next> {
     let mut steps: u64 = 0;
-    for point in rest {
-        if let Some(depth) = depth_of(depths, *point) {
+    for station in rest {
+        if let Some(depth) = depth_of(depths, *station) {
             return Some(Next { depth, steps });
         }
         steps = steps.saturating_add(1);
@@ -239,16 +329,26 @@ fn next_known(depths: &[Depth], rest: &[u32]) -> Option<Next> {
     None
 }
 
-// How deep a point lies that follows another: on the way to the next known one, or else further in the same direction.
+// How deep a place lies that follows another: further in the same direction, if no known place follows, or if the next one
+// lies behind and there are steps enough to turn later; else on the way to that one.
 fn depth_behind(before: u64, next: Option<Next>, down: bool) -> u64 {
-    match next {
-        Some(next) if next.depth > before => {
-            before.saturating_add((next.depth - before) / next.steps.saturating_add(1).max(1))
-        }
-        Some(next) if next.depth < before => {
-            before.saturating_sub((before - next.depth) / next.steps.saturating_add(1).max(1))
-        }
-        _ if down => before.saturating_add(STEP),
-        _ => before.saturating_sub(STEP),
+    let onward = if down {
+        before.saturating_add(STEP)
+    } else {
+        before.saturating_sub(STEP)
+    };
+    let Some(next) = next else {
+        return onward;
+    };
+    let far = before.abs_diff(next.depth);
+    let ahead = far > 0 && (next.depth > before) == down;
+    if !ahead && far.saturating_add(STEP) <= next.steps.saturating_mul(STEP) {
+        return onward;
+    }
+    let part = far / next.steps.saturating_add(1).max(1);
+    if next.depth > before {
+        before.saturating_add(part)
+    } else {
+        before.saturating_sub(part)
     }
 }

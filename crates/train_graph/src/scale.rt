@@ -32,7 +32,7 @@ impl Axes {
     fn row(&self, point: u32) -> usize
         ensures { result ≡ row_of self.now point }
     {
-        row_in(&self.rows, point).unwrap_or(self.rows.len())
+        place_in(&self.rows, point).unwrap_or(self.rows.len())
     }
 
     /// How far down a point lies.
@@ -100,9 +100,9 @@ impl Axes {
     }
 }
 
-// The place of a point in a list.
-fn row_in(rows: &[u32], point: u32) -> Option<usize>
-    ensures { result ≡ position (λ row. row == point) rows.now }
+// The first place of a number in a list.
+pub(crate) fn place_in(list: &[u32], number: u32) -> Option<usize>
+    ensures { result ≡ position (λ other. other == number) list.now }
 {
-    rows.iter().position(|row| *row == point)
+    list.iter().position(|other| *other == number)
 }

@@ -13,6 +13,7 @@ returns c =
       wide = lie.wide;
       apart = lie.apart;
       rows = lie.rows;
+      once = lie.once;
       broad = is.1;
       high = is.2;
       groups = is.0;
