@@ -26,6 +26,7 @@ name = "T1"
 route = ["V", "S", "L2", "E", "Y"]
 exit = false
 times = 3
+dwell = { default = 0, L2 = 0 }
 [[section]]
 name = "between the switches"
 limit = 4
@@ -67,6 +68,7 @@ name = "T1"
 route = ["V", "S", "L2", "E", "X"]
 exit = true
 times = { "V S" = 7 }
+dwell = 0
 [[table.section]]
 limit = 1
 points = ["S"]
@@ -85,7 +87,7 @@ NUMBERS += [0.5, 1.0, 4.0, float("inf"), float("nan"), 1e300]
 OTHERS = [datetime.date(2026, 1, 1), [], ["A"], ["A", "B"], ["T0"], [1], ["A", 1], [["A", "B"]], [[]], [{}], {}, {"T0": 1}, {"T0": "S"}]
 OTHERS += [{"default": 2}, {"default": "2"}, {"name": "T0"}, {"": 1}, {"0": ["W"]}, [{"name": "T9", "route": ["A"]}], {"W S": 3, "A": 1}]
 OTHERS += [{"T0": {"X": 1, "-": 2}}, {"T0": {"W": 5}}, {"T1": {}}, ["S", "L1", "E"], [["one", "in"]], {"in": ["W", "S", "L1"]}]
-KEYS = "lines switches open zones train section connection table name route start exit times limit points weight only from to holds".split()
+KEYS = "lines switches open zones train section connection table name route start exit times dwell limit points weight only from to holds".split()
 KEYS += "leaves after reached crossing ways parallel scissors tracks ladder leads roads default trains title via".split() + ["", "W S", "T0", "0", "15", "16"]
 
 
@@ -182,6 +184,12 @@ def numbers():
             plan["section"][4]["weight"] = {}
         for number in (least - 1, least, most, most + 1):
             yield with_value(plan, path, number), least <= number <= most
+    standing = {"train": [{"name": "T0", "route": ["A", "B", "C"], "dwell": {"default": 1000, "B": 5, "C": 0}}]}
+    for ticks, is_right in ((-1, False), (0, True), (999, True), (1000, None), (1001, False)):
+        yield with_value(standing, ("train", 0, "dwell", "B"), ticks), is_right
+        yield with_value(standing, ("train", 0, "dwell"), ticks), is_right
+    for point, is_right in (("B", True), ("C", True), ("A", None), ("Q", None), ("A B", False), ("", False), ("seventeen_letters", None)):
+        yield with_value(standing, ("train", 0, "dwell", point), 0), is_right
     yield zoned, True
     for zone in ("16", "01", "+1", "-1", "1.0", "", "west"):
         yield with_value(zoned, ("zones", zone), []), False

@@ -31,7 +31,7 @@ SECTION = {"limit": 1, "changes": [[0, 1, -1]]}
 # What planner says of a shape, and of a meaning.
 SHAPE = re.compile(
     r'" takes .*, and this is of type |"(zones|ways)" takes a table|(?<!"route)" is missing$|: no key "|: this is no table of keys$|'
-    r": the route is empty$|a (time|limit|weight|share) is \d+ to \d+, and this is |a table is due after 0 to 1000000 moves, and this is |"
+    r": the route is empty$|a (time|dwell|limit|weight|share) is \d+ to \d+, and this is |a table is due after 0 to 1000000 moves, and this is |"
     r'"(?!@|[^"]*\{\})[^"]*" is no (name: 1 to 16|zone: they are|link: two points)|: there is no train$|'
     r"^line \d+: train .*: the route has \d+ places|"
     r'"count" goes from 1 to 32, and this is |one (train|section|connection|table|pattern) too many|: there are \d+ ways; |'
@@ -44,7 +44,8 @@ MEANING = re.compile(
     r"has itself within it$|"
     r": another one has this name$|"
     r", so its name needs \{\} for the number$|: with these there are more than 32 trains$|: these are \d+ points; |"
-    r'" is no step of the route$|" is not on the route of train "|" comes more than once on the route of train "|'
+    r'" is no step of the route$|: the train doesn\'t come to "| ticks with its dwell: 1000 are the most$|'
+    r'" is not on the route of train "|" comes more than once on the route of train "|'
     r'" comes twice in a row$|" is the name of an earlier train too$|: starts at "|: without an exit it ends at "|" is never left: |'
     r': ends at "|: its route begins at "|is for all others, and is the name of a train too|"-" without an exit: train "|'
     r'" is changed twice by this table$|: a train doesn\'t wait for itself$|: no train of this section comes to "| alone takes \d+ of \d+$|'

@@ -130,6 +130,33 @@ reached = "M"
 line 13: connection 0: "M" comes more than once on the route of train "T0": write #1, #2 .. behind it
 ====
 plan
+# dwell: at points by name, and at all others; in the further table one train has its own, the other that of the first
+[[train]]
+name = "stops"
+route = ["A", "B", "C", "B"]
+exit = true
+times = { default = 2, "B C" = 5 }
+dwell = { default = 1, C = 3 }
+
+[[train]]
+name = "alike"
+route = ["D", "B", "E"]
+dwell = 4
+
+[[table]]
+after = 2
+
+[[table.train]]
+name = "stops"
+dwell = { B = 7 }
+
+[[table.train]]
+name = "alike"
+route = ["D", "B", "E", "G"]
+----
+{"links":[["A","B"],["B","C"],["D","B"],["B","E"],["E","G"]],"points":[["A",0],["B",0],["C",0],["D",0],["E",0],["G",0]],"start":[0,0],"tables":[{"after":0,"certificate":[],"connections":[],"exits":[true,false],"missions":[["A","B","C","B"],["D","B","E"]],"sections":[],"times":[[3,8,3,2],[5,5]]},{"after":2,"certificate":[],"connections":[],"exits":[true,false],"missions":[["A","B","C","B"],["D","B","E","G"]],"sections":[],"times":[[9,5,9,2],[5,5,5]]}],"trains":["stops","alike"],"version":3,"zones":1}
+====
+plan
 # a loop that is run twice, zones, times by link, weights and a stretch
 lines = [["A", "B", "C", "D", "A"]]
 
@@ -260,7 +287,7 @@ points = ["M", "N"]
 // are told. ` / ` ends a line, `;` is between two changes, and line 13 is after the last.
 const CHANGES: &str =
     r##"13: / [[connection]] / train = "T1" / leaves = "C" / after = "T0" / reached = "N" /  / [[table]] / after = 4 / [[table.train]] / name = "T1" / route = ["C", "N", "M", "A"] => {"links":[["A","M"],["M","N"],["N","B"],["C","N"],["M","D"]],"points":[["A",0],["M",0],["N",0],["B",0],["C",0],["D",0]],"start":[0,0],"tables":[{"after":0,"certificate":[],"connections":[[1,0,0,2]],"exits":[false,false],"missions":[["A","M","N","B"],["C","N","M","D"]],"sections":[{"changes":[[0,1,0,-1],[0,1,0,-1]],"limit":1}],"times":[[1,1,1],[1,1,1]]},{"after":4,"certificate":[],"connections":[[1,0,0,2]],"exits":[false,false],"missions":[["A","M","N","B"],["C","N","M","A"]],"sections":[{"changes":[[0,1,0,-1],[0,1,0,-1]],"limit":1}],"times":[[1,1,1],[1,1,1]]}],"trains":["T0","T1"],"version":3,"zones":1}
-7: exits = true / route = ["C", "N", "M", "D"] => line 7: train "T1": no key "exits"; the keys are name, pattern, count, route, start, exit, times
+7: exits = true / route = ["C", "N", "M", "D"] => line 7: train "T1": no key "exits"; the keys are name, pattern, count, route, start, exit, times, dwell
 3: start = "M" / route = ["A", "M", "N", "B"]; 7: start = "N" / route = ["C", "N", "M", "D"] => line 13: section "corridor": at the start 2 of 1 are taken, "T0" 1, "T1" 1
 3: start = "M" / route = ["A", "M", "N", "B"]; 6: name = "T\n{}"; 7: start = "N" / route = ["C", "N", "M", "D"] => line 7: train "T?{}": "T?{}" is no name: 1 to 16 of A-Z, a-z, 0-9 and _ / line 13: section "corridor": at the start 2 of 1 are taken, "T0" 1, "T?{}" 1
 7: start = "Q7" / route = ["C", "N", "M", "D"] => line 7: train "T1": no point "Q7"; the points are A, M, N, B, C, D
@@ -271,6 +298,11 @@ const CHANGES: &str =
 7: start = "M#01" / route = ["C", "N", "M", "D"] => line 7: train "T1": "M#01" is not on the route of train "T1"
 7: times = { "M N" = 3 } / route = ["C", "N", "M", "D"] => line 7: train "T1": "M N" is no step of the route
 7: times = { default = 0, "N M" = 1001 } / route = ["C", "N", "M", "D"] => line 7: train "T1": a time is 1 to 1000, and this is 0 / line 7: train "T1": a time is 1 to 1000, and this is 1001
+7: dwell = { default = -1, M = 1001, Nn = 2, C = 3 } / route = ["C", "N", "M", "D"] => line 7: train "T1": a dwell is 0 to 1000, and this is -1 / line 7: train "T1": the train doesn't come to "C" / line 7: train "T1": a dwell is 0 to 1000, and this is 1001 / line 7: train "T1": no point "Nn"; did you mean "N"?
+7: times = { default = 2, "N M" = 999 } / dwell = { default = 1, M = 2 } / route = ["C", "N", "M", "D"] => line 8: train "T1": the step from "N" to "M" takes 1001 ticks with its dwell: 1000 are the most
+7: times = 600 / dwell = 400 / route = ["C", "N", "M", "D"]; 13: / [[table]] / after = 4 / [[table.train]] / name = "T1" / dwell = { D = 401 } => line 20: table 1, train "T1": the step from "M" to "D" takes 1001 ticks with its dwell: 1000 are the most
+7: dwell = "3" / route = ["C", "N", "M", "D"] => line 7: train "T1": "dwell" takes a whole number, or a table of them, and this is of type string
+7: route = ["C", "@along", "D"] => line 7: train "T1": no way "along": the plan has no "ways"
 7: exit = "yes" / route = ["C", "N", "M", "D"] => line 7: train "T1": "exit" takes true or false, and this is of type string
 13: / [[table]] / after = 1000001 => line 15: table 1: a table is due after 0 to 1000000 moves, and this is 1000001
 3: route = ["A", "M", "N", "platform number 2"] => line 3: train "T0": "platform number 2" is no name: 1 to 16 of A-Z, a-z, 0-9 and _
@@ -281,7 +313,7 @@ const CHANGES: &str =
 13: / [[connection]] / train = "T1" / leave = "C" / leaves = "C" / after = "T0" / reached = "N" => line 16: connection 0: no key "leave"; the keys are train, leaves, after, reached
 13: weights = 2 => line 13: section "corridor": no key "weights"; the keys are name, limit, points, weight, only, from, to, holds
 13: / [[table]] / after = 4 / zones = 2 => line 16: table 1: no key "zones"; the keys are after, train, section, connection
-13: / [[table]] / after = 4 / [[table.train]] / name = "T1" / start = "C" => line 18: table 1, train "T1": no key "start"; the keys are name, pattern, count, route, exit, times
+13: / [[table]] / after = 4 / [[table.train]] / name = "T1" / start = "C" => line 18: table 1, train "T1": no key "start"; the keys are name, pattern, count, route, exit, times, dwell
 9: [[sections]] => line 9: no key "sections"; the keys are lines, open, switches, zones, ways, pattern, train, section, connection, crossing ..
 11: limit = 129 => line 11: section "corridor": a limit is 0 to 128, and this is 129
 13: / [[table]] / [[table.train]] / name = "T1" / exit = true => line 14: table 1: "after" is missing

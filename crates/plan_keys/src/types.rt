@@ -194,9 +194,11 @@ fn known_keys(kind: Kind, is_further: bool) -> &'static [&'static str] {
             "ladder",
             "table",
         ],
-        Kind::Train if is_further => &["name", "pattern", "count", "route", "exit", "times"],
+        Kind::Train if is_further => &[
+            "name", "pattern", "count", "route", "exit", "times", "dwell",
+        ],
         Kind::Train | Kind::Pattern => &[
-            "name", "pattern", "count", "route", "start", "exit", "times",
+            "name", "pattern", "count", "route", "start", "exit", "times", "dwell",
         ],
         Kind::Section => &[
             "name", "limit", "points", "weight", "only", "from", "to", "holds",
@@ -217,7 +219,7 @@ fn taken_by(kind: Kind, key: &str) -> Takes {
             "name" | "pattern" | "start" => Takes::Name,
             "count" | "limit" | "after" => Takes::Number,
             "exit" | "open" => Takes::Flag,
-            "times" | "weight" => Takes::Numbers,
+            "times" | "dwell" | "weight" => Takes::Numbers,
             "from" | "to" => Takes::Places,
             "holds" => Takes::Shares,
             "ways" => Takes::Ways,

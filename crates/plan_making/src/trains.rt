@@ -3,7 +3,7 @@ use crate::ground::Ground;
 use crate::lists::{copied, push};
 use crate::names::{find, tell_key, tell_of};
 use crate::routes::{Scope, place_of};
-use crate::times::{check_times, times_of};
+use crate::times::{check_steps, check_times, times_of};
 use plan_document::TablePlan;
 use plan_entries::{Entries, Entry, Faults, Part};
 use std::alloc::AllocError;
@@ -42,6 +42,12 @@ impl<'t> Service<'t> {
     fn times(&self) -> Option<&'t Value> {
         let own = self.change.value("times");
         own.or(self.first.value("times"))
+    }
+
+    // The dwell of the train.
+    fn dwell(&self) -> Option<&'t Value> {
+        let own = self.change.value("dwell");
+        own.or(self.first.value("dwell"))
     }
 
     // Whether this table says anything of the train.
@@ -135,7 +141,9 @@ fn add_train(faults: &mut Faults, service: &Service, points: &[&str], plan: &mut
     let exits = service.exits();
     check_train(faults, service, points, route, exits);
     let route = copied(faults, route);
-    match times_of(faults.alloc(), service.times(), &route, exits) {
+    let (times, dwell) = (service.times(), service.dwell());
+    check_steps(faults, &service.entry(), times, dwell, &route);
+    match times_of(faults.alloc(), times, dwell, &route, exits) {
         Ok(times) => push(faults, &mut plan.times, times),
         Err(AllocError) => faults.lose(),
     }

@@ -5,7 +5,7 @@ use Rattle.std.specs.declared.alloc.Global.{Global}
 use Rattle.toml.specs.Data.{Data, Members, no_items, item, no_members, member, string, integer, array, table}
 use Rattle.plan_reading.specs.Held.{are_shares, has_shares, said_share, stretch_of, weight_for}
 use Rattle.plan_reading.proofs.PlaceRows.{a, b, route}
-use Rattle.plan_reading.proofs.Texts.{text_of, vec_of}
+use Rattle.plan_patterns.proofs.GivenTexts.{text_of, vec_of}
 
 abbrev ic : String Global → String Global
 ic s = text_of s (codes "IC") (lit< tt) refl

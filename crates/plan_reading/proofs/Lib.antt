@@ -7,7 +7,6 @@ mod OnePlace
 mod PlaceRows
 mod Rows
 mod Steps
-mod Texts
 mod TimeRows
 mod TrackRows
 mod ZoneRows

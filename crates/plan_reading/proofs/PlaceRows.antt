@@ -3,7 +3,7 @@ use Rattle.std.proofs.Common.{◌≡◌, List, [], ◌∷◌, true, false, Strin
 use Rattle.std.specs.Fmt.{digits}
 use Rattle.std.specs.declared.alloc.Global.{Global}
 use Rattle.plan_reading.specs.Places.{is_place, place_of}
-use Rattle.plan_reading.proofs.Texts.{text_of}
+use Rattle.plan_patterns.proofs.GivenTexts.{text_of}
 
 -- the points, each made of some string
 abbrev pub a : String Global → String Global

@@ -3,7 +3,7 @@ use Rattle.std.proofs.Common.{◌≡◌, ℕ, List, [], ◌∷◌, pos, negsuc, 
 use Rattle.toml.specs.Data.{Data, Items, no_items, item, Members, no_members, member, string, integer, boolean, array, table, as_integer}
 use Rattle.plan_reading.specs.Agreeing.{agree_all, is_due, is_exit, is_number, says_yes, starts_at, text_at, value_at}
 use Rattle.plan_reading.specs.Said.{change_of, entries_in, first_named, has_zones, own_of, said_at}
-use Rattle.plan_reading.proofs.Texts.{text_of}
+use Rattle.plan_patterns.proofs.GivenTexts.{text_of}
 
 -- a train that says nothing of its start starts at its first place
 pub at_first : starts_at None [] 0 ≡ true

@@ -1,7 +1,7 @@
 -- Worked rows: which routes keep to two lines that part at the switch A and meet again at B.
 use Rattle.std.proofs.Common.{◌≡◌, List, [], ◌∷◌, true, false, None, Some, String, Vec, Global, codes, lit<, refl}
 use Rattle.plan_document.specs.Tracks.{goes, has_free_ends, is_no_switch, keeps}
-use Rattle.plan_reading.proofs.Texts.{text_of, vec_of}
+use Rattle.plan_patterns.proofs.GivenTexts.{text_of, vec_of}
 
 abbrev w : String Global → String Global
 w s = text_of s (codes "W") (lit< tt) refl

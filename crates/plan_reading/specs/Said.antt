@@ -54,17 +54,17 @@ route_in t train = points_of (slice_get t.routes.items train)
 abbrev pub exits_in : TablePlan → ℕ → Bool
 exits_in t train = slice_index_or t.exits.items train false
 
--- whether there are times, and they are those that are said for a route
-abbrev pub has_times : Option Data → List (String Global) → Bool → Option (List ℕ) → Bool
-has_times said route exits None = false
-has_times said route exits (Some times) = are_times said route exits times
+-- whether there are times, and they are those that are said for a route, with the dwell at its points
+abbrev pub has_times : Option Data → Option Data → List (String Global) → Bool → Option (List ℕ) → Bool
+has_times said dwell route exits None = false
+has_times said dwell route exits (Some times) = are_times said dwell route exits times
 
--- whether a train goes in a table as is said of it: its route, its exit and its times
+-- whether a train goes in a table as is said of it: its route, its exit, and its times with its dwell
 abbrev pub goes_as_said : Option Data → Option Data → TablePlan → ℕ → Bool
 goes_as_said change entry t train =
     is_route (said_at (codes "route") change entry) (route_in t train)
     && is_exit (said_at (codes "exit") change entry) (exits_in t train)
-    && has_times (said_at (codes "times") change entry) (route_in t train) (exits_in t train) (slice_get t.times.items train)
+    && has_times (said_at (codes "times") change entry) (said_at (codes "dwell") change entry) (route_in t train) (exits_in t train) (slice_get t.times.items train)
 
 -- whether a train of a plan goes in a table as the table says itself, or else the entry of the train
 abbrev pub goes_right : Items → Option Data → Plan → TablePlan → ℕ → Bool

@@ -6,6 +6,6 @@ use Rattle.std.specs.declared.alloc.Global.{Global}
 use Rattle.toml.specs.Data.{Data}
 use Rattle.plan_making.specs.Timed.{times_said}
 
--- whether a train's times are those that are said of it
-abbrev pub are_times : Option Data → List (String Global) → Bool → List ℕ → Bool
-are_times said route exits times = pointwise int_eq (times_said said route exits) (map pos times)
+-- whether a train's times are those that are said of it, with its dwell
+abbrev pub are_times : Option Data → Option Data → List (String Global) → Bool → List ℕ → Bool
+are_times said dwell route exits times = pointwise int_eq (times_said said dwell route exits) (map pos times)

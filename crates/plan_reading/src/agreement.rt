@@ -90,25 +90,26 @@ fn said_at<'t>(change: Option<&'t Value>, entry: Option<&'t Value>, key: &str) -
     }
 }
 
-// Whether a table has times of a train, and they are those that are said.
+// Whether a table has times of a train, and they are those that are said, with its dwell.
 fn has_times(
     alloc: Global,
     said: Option<&Value>,
+    dwell: Option<&Value>,
     table: &TablePlan,
     train: usize,
 ) -> Result<bool, AllocError>
-    ensures { IfOk result (λ right. right ≡ spec.has_times (seen said.entry) (spec.route_in table.now train) (spec.exits_in table.now train) (slice_get table.now.times.items train)) }
+    ensures { IfOk result (λ right. right ≡ spec.has_times (seen said.entry) (seen dwell.entry) (spec.route_in table.now train) (spec.exits_in table.now train) (slice_get table.now.times.items train)) }
 {
     match table.times.get(train) {
         Some(times) => {
             let exits = table.exits_at(train);
-            are_times(alloc, said, table.route(train), exits, times)
+            are_times(alloc, said, dwell, table.route(train), exits, times)
         }
         None => Ok(false),
     }
 }
 
-// Whether a train goes in a table as is said of it: its route, its exit and its times.
+// Whether a train goes in a table as is said of it: its route, its exit, and its times with its dwell.
 fn goes_as_said(
     alloc: Global,
     change: Option<&Value>,
@@ -121,7 +122,9 @@ fn goes_as_said(
     if is_route(said_at(change, entry, "route"), table.route(train))
         && is_exit(said_at(change, entry, "exit"), table.exits_at(train))
     {
-        return has_times(alloc, said_at(change, entry, "times"), table, train);
+        let said = said_at(change, entry, "times");
+        let dwell = said_at(change, entry, "dwell");
+        return has_times(alloc, said, dwell, table, train);
     }
     Ok(false)
 }

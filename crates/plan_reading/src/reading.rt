@@ -157,7 +157,9 @@ fn read_table(alloc: Global, text: &str, table: Table) -> Result<PlanRead, Alloc
 /// on a route is called `"M#2"` where a place is meant.
 ///
 /// - A train has a `name`, a `route`, and may have a `start` (else its first place), `exit` (else false) and `times`: a number
-///   for each step, or a table of them by steps, as `"A B" = 3`, with a `default` for the others (else 1).
+///   for each step, or a table of them by steps, as `"A B" = 3`, with a `default` for the others (else 1). `dwell` is a number
+///   for each point that it comes to, or a table of them by points, with a `default` for the others (else 0): the step to the
+///   point takes as much longer. The step out of the layout has none.
 /// - A section has a `limit` and `points`; a train takes its weight of it while it is at one of them. `weight` is a number for
 ///   all trains, or a table of them by trains, with a `default` for the others (else 1); `only` names the trains that the section
 ///   concerns (else all). `name` serves messages. A train with `from` takes its weight from its place at that point, and with
@@ -168,7 +170,7 @@ fn read_table(alloc: Global, text: &str, table: Table) -> Result<PlanRead, Alloc
 /// - A connection has `train`, `leaves`, `after` and `reached`: the train may not leave the first point before the train
 ///   `after` has reached the other.
 /// - A table is a further one, in force after `after` moves at the earliest. Its `train` lists trains with what differs from
-///   the first table: `route`, `exit`, `times`. Its `section` and `connection`, if there are any, replace those of the first
+///   the first table: `route`, `exit`, `times`, `dwell`. Its `section` and `connection`, if there are any, replace those of the first
 ///   table, which else hold by the names of their points.
 /// - A pattern has a `name` and any other keys of a train; a train, or another pattern, with `pattern` takes those that it lacks
 ///   itself. A train with a `count` stands for as many, with the numbers from 1 on in place of each `{}` in its texts. `ways` is

@@ -14,6 +14,6 @@ returns c =
     let after = YieldsList-from_skip 1 (YieldsList-from_slice c.args.route.now cc) cc in
     let road = YieldsList-from_zip (YieldsList-from_slice c.args.route.now cc) after in
     let all = (YieldsList-end road c.loop-from.yielded _ c.loop-from.yielded_by _ c.next.new.self c.in-None.is c.next.ensures.steps).0 in
-    let time = step_time (option_map (λ v. view v.now) c.args.said) in
+    let time = step_time (option_map (λ v. view v.now) c.args.said) (option_map (λ v. view v.now) c.args.dwell) in
     let whole : c.loop-from.times.items ≡ map (λ s. time s.0 s.1) (steps c.args.route.now) = c.loop-from.invariant ∙ all_steps time c.loop-from.yielded (steps c.args.route.now) all in
     elim c.if-exits.branch [ then-exits+in_ok-push-2 w ↦ grind (arith, common_steps, whole) | else-exits w ↦ grind (arith, common_steps, whole) ]
