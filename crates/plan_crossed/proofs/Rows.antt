@@ -5,7 +5,7 @@ use Rattle.plan_crossings.specs.Crossings.{Crossing}
 use Rattle.plan_crossings.specs.Numbers.{is_of}
 use Rattle.plan_crossed.specs.Numbered.{number_of, route_by_numbers}
 use Rattle.plan_crossed.specs.Said.{crossing_said, crossings_said, has_tracks, ladder_said, scissors_said}
-use Rattle.plan_crossed.proofs.Texts.{text_of}
+use Rattle.plan_patterns.proofs.GivenTexts.{text_of}
 
 -- four points, A, B, X and Y, by the numbers 0 to 3
 abbrev a : String Global → String Global

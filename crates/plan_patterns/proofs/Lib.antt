@@ -1,5 +1,6 @@
 pub mod Along
 pub mod Bases
+pub mod GivenTexts
 pub mod Members
 pub mod Plain
 mod Rows

@@ -1,6 +1,7 @@
 // All that is wrong with the patterns, counts and ways of a plan.
 use crate::lengths::Ways;
 use crate::names::{check_name, check_once, names_of};
+use crate::ways::name_in;
 use crate::writing::base_of;
 use plan_entries::{Entries, Entry, Faults, Kind, Origins, Part};
 use plan_keys::{check_counts, check_patterns};
@@ -90,13 +91,26 @@ fn check_train_name(faults: &mut Faults, entry: &Entry, patterns: &[Value]) {
     }
 }
 
+// Tells each way in a route, in a plan that has none.
+fn check_no_ways<'x>(faults: &mut Faults, at: &Entry<'x>, route: &'x [Value]) {
+    for item in route {
+        if let Some(name) = name_in(item) {
+            let form = "no way {}: the plan has no \"ways\"";
+            faults.tell(&at.of(name), form, &[Part::Name(name)]);
+        }
+    }
+}
+
 // Tells what is wrong with the ways in the route of an entry.
 fn check_route(faults: &mut Faults, entry: &Entry, ways: &Ways) {
-    if 0 < ways.count()
-        && let Some(route) = entry.names("route")
-    {
-        let at = entry.at("route");
+    let Some(route) = entry.names("route") else {
+        return;
+    };
+    let at = entry.at("route");
+    if 0 < ways.count() {
         ways.check_items(faults, &at, route);
+    } else {
+        check_no_ways(faults, &at, route);
     }
 }
 

@@ -1,3 +1,2 @@
 mod Rows
 mod SuspectRows
-mod Texts

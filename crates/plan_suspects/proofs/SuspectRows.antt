@@ -4,7 +4,7 @@ use Rattle.plan_document.specs.declared.plan.Plan.{Plan}
 use Rattle.plan_document.specs.declared.plan.TablePlan.{TablePlan}
 use Rattle.plan_suspects.specs.Letters.{is_one_letter_off}
 use Rattle.plan_suspects.specs.Suspects.{could_be, is_alone, lie_together, meant_at, suspects}
-use Rattle.plan_suspects.proofs.Texts.{text_of, vec_of}
+use Rattle.plan_patterns.proofs.GivenTexts.{text_of, vec_of}
 
 module _ (s : String Global) (v : Vec (String Global) Global) (p : Plan) (t : TablePlan) where
   abbrev a : String Global

@@ -1,4 +1,4 @@
--- Strings and vectors that hold what is given, made of others; for worked rows.
+-- Strings and vectors that hold what is given, made of others; for the worked rows of the crates above.
 use Rattle.std.proofs.Common.{◌≡◌, ◌<◌, ◌^◌, ℕ, zero, suc, List, [], ◌∷◌, String, Vec, Bool, true, nat_lt, refl, length, arith}
 use Rattle.std.specs.List.{list_all}
 use Rattle.std.specs.Str.{IsAscii}
