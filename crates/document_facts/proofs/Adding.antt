@@ -1,6 +1,6 @@
 -- How facts that are added one after the other come together.
-use Rattle.std.proofs.Common.{◌≡◌, ◌⊎◌, ◌<◌, ◌≤◌, ◌+◌, ℕ, inl, inr, true, subst, arith}
-use Rattle.std.specs.Prelude.{◌↔◌, IsTrue, Contains}
+use Rattle.std.proofs.Common.{◌≡◌, ◌+◌, ℕ, inl, inr, subst, arith}
+use Rattle.std.specs.Prelude.{◌↔◌, Contains}
 use Rattle.std.proofs.lemmas.Bool.{cases_lt}
 use Rattle.document_facts.specs.declared.fact.Fact.{Fact}
 use Rattle.document_facts.specs.declared.found.Found.{Found}

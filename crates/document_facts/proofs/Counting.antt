@@ -1,5 +1,5 @@
 -- How many of a kind there are is one number.
-use Rattle.std.proofs.Common.{◌≡◌, ◌⊎◌, ◌<◌, ◌≤◌, ◌+◌, ℕ, zero, suc, inl, inr, subst, ap, arith}
+use Rattle.std.proofs.Common.{◌≡◌, ◌≤◌, ◌+◌, ℕ, zero, suc, inl, inr, subst, arith}
 use Rattle.document_facts.specs.Counting.{Counts}
 
 pub counts_one : (K : ℕ → Type 0) (n a b : ℕ) → Counts K n a → Counts K n b → a ≡ b

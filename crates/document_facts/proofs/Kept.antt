@@ -1,9 +1,8 @@
 -- A section that isn't gone is there.
-use Rattle.std.proofs.Common.{◌⊎◌, ◌<◌, ℕ, inl, inr, length, arith}
+use Rattle.std.proofs.Common.{ℕ, inl, inr, length, arith}
 use Rattle.std.proofs.lemmas.Bool.{cases_lt}
 use Rattle.rail_model.specs.Table.{section}
 use Rattle.document_json.specs.Doc.{Doc, table_at}
-use Rattle.document_facts.specs.Facts.{IsSectionOf}
 use Rattle.document_facts.specs.Former.{HoldsSince, IsGone, IsThere, KeepsSections}
 use Rattle.document_facts.specs.declared.fact.Fact.{Fact}
 use Rattle.document_facts.specs.declared.fact.Fact.TheVariants.{SectionLost}

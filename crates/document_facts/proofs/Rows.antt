@@ -1,15 +1,14 @@
 -- Small cases of what is so of a document.
-use Rattle.std.proofs.Common.{◌≡◌, ◌≢◌, ◌<◌, ◌+◌, ℕ, List, ℤ, pos, [], ◌∷◌, true, false, refl, zero, suc, arith, inl, inr, lit<, lit≤}
-use Rattle.std.specs.Prelude.{Contains, ◌<ℤ◌}
-use Rattle.rail_model.specs.Layout.{Layout, Link}
+use Rattle.std.proofs.Common.{◌≡◌, ◌<◌, ℕ, pos, [], ◌∷◌, true, false, refl, zero, suc, arith, inl, inr, lit<, lit≤}
+use Rattle.rail_model.specs.Layout.{Link}
 use Rattle.rail_model.specs.Table.{Table, Section}
 use Rattle.rail_model.specs.State.{remaining}
 use Rattle.document_json.specs.Doc.{Doc, table_at}
 use Rattle.document_facts.specs.Counting.{AreMore, Counts, IsAmongFirst, IsFirst}
-use Rattle.document_facts.specs.Facts.{EndsAtNothing, Holds, IsMet, IsNeverDue, IsPassed, KeepsForGood, RiseOften, StartsFrom, StartsPast, greatest_in}
+use Rattle.document_facts.specs.Facts.{EndsAtNothing, Holds, IsMet, IsNeverDue, IsPassed, KeepsForGood, StartsFrom, StartsPast, greatest_in}
 use Rattle.document_facts.specs.Former.{HoldsSince, IsGone, IsThere}
 use Rattle.document_facts.specs.Used.{GoAlong, IsEntered, IsJoined, IsUsed, IsVisited, Joins, LeadsTo, Uses, Visits}
-use Rattle.document_facts.specs.declared.fact.Fact.TheVariants.{KeptForGood, NeverDue, SectionLost, SectionRepeated}
+use Rattle.document_facts.specs.declared.fact.Fact.TheVariants.{KeptForGood, SectionLost, SectionRepeated}
 
 -- a section of one train that is in it at its second place
 abbrev first : Section

@@ -1,5 +1,5 @@
 -- When what a remark says is so.
-use Rattle.std.specs.Prelude.{◌≡◌, ◌≢◌, ◌⊎◌, ◌<◌, ◌≤◌, ◌≤ℤ◌, ◌<ℤ◌, ◌-◌, ◌==◌, if◌then◌else◌, ℕ, ℤ, pos, List, [], length, slice_index_or, None}
+use Rattle.std.specs.Prelude.{◌≡◌, ◌≢◌, ◌<◌, ◌≤◌, ◌≤ℤ◌, ◌<ℤ◌, ◌-◌, ◌==◌, if◌then◌else◌, ℕ, ℤ, pos, List, [], length, slice_index_or, None}
 use Rattle.rail_model.specs.Table.{Table, Connection, trains, last, place, section, share}
 use Rattle.rail_model.specs.State.{remaining}
 use Rattle.document_json.specs.Doc.{Doc, doc_table, table_at}

@@ -1,5 +1,5 @@
 -- The facts that are found are all.
-use Rattle.std.proofs.Common.{◌≡◌, ◌⊎◌, inl, inr, List, [], Vec, true, false, ap, sym, subst, arith}
+use Rattle.std.proofs.Common.{◌≡◌, inl, inr, List, [], Vec, true, false, ap, sym, subst, arith}
 use Rattle.std.specs.Prelude.{Contains, length}
 use Rattle.std.specs.declared.alloc.Global.{Global}
 use Rattle.document_facts.specs.declared.fact.Fact.{Fact}

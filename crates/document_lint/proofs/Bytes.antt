@@ -1,5 +1,5 @@
 -- What is so of bytes, by what was read of them.
-use Rattle.std.proofs.Common.{◌≡◌, ◌⊎◌, ℕ, List, inl, inr, refl, sym, subst}
+use Rattle.std.proofs.Common.{◌≡◌, ℕ, List, inl, inr, sym, subst}
 use Rattle.std.specs.Prelude.{Result, Ok, Err, MatchResult}
 use Rattle.rail_model.specs.Turns.{AnswersAs}
 use Rattle.document_json.specs.Doc.{Doc}

@@ -1,5 +1,5 @@
 -- What is said of bytes: what is so of the document that they are, or that they are none.
-use Rattle.std.specs.Prelude.{◌≡◌, ◌⊎◌, ℕ, List, Option, Some, None, map, MatchResult, Contains}
+use Rattle.std.specs.Prelude.{◌≡◌, ℕ, List, Option, Some, None, map, MatchResult, Contains}
 use Rattle.document_json.specs.Reading.{doc_of}
 use Rattle.document_facts.specs.Adding.{Or}
 use Rattle.document_facts.specs.Facts.{Holds}

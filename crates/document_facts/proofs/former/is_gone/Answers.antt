@@ -1,4 +1,4 @@
-use Rattle.std.proofs.Common.{◌≡◌, subst}
+use Rattle.std.proofs.Common.{subst}
 use Rattle.document_json.specs.Doc.{table_at}
 use Rattle.rail_model.specs.Table.{section}
 use Rattle.document_facts.proofs.Tests.{not_so}

@@ -1,11 +1,10 @@
 use Rattle.std.proofs.Common.{◌≡◌, subst}
-use Rattle.document_facts.proofs.Adding.{nothing, one, only_one}
+use Rattle.document_facts.proofs.Adding.{one, only_one}
 use Rattle.document_facts.proofs.Tests.{always, first_one}
 use Rattle.document_facts.specs.Facts.{Holds}
 use Rattle.document_facts.specs.declared.fact.Fact.TheVariants.{SectionRepeated}
 use Rattle.document_json.specs.Doc.{table_at}
 use Rattle.rail_model.specs.Table.{section}
-use Rattle.document_facts.specs.Kinds.{OfDouble}
 use Rattle.document_facts.specs.Counting.{IsFirst}
 use Rattle.document_facts.proofs.sections.find_double.Goals as goal
 

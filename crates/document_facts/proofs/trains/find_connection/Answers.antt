@@ -1,4 +1,4 @@
-use Rattle.std.proofs.Common.{◌≡◌, subst}
+use Rattle.std.proofs.Common.{subst}
 use Rattle.document_facts.proofs.Adding.{both, one}
 use Rattle.document_facts.proofs.Tests.{there_at}
 use Rattle.document_facts.specs.Facts.{Holds, IsConnectionOf, IsMet, IsPassed, connection}

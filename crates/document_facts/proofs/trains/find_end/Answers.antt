@@ -1,4 +1,4 @@
-use Rattle.std.proofs.Common.{◌≡◌, ◌<◌, ℕ, subst}
+use Rattle.std.proofs.Common.{◌<◌, ℕ, subst}
 use Rattle.document_facts.proofs.Adding.{nothing, one, only_one}
 use Rattle.document_facts.proofs.Tests.{always, first_one}
 use Rattle.document_facts.specs.Facts.{Holds}

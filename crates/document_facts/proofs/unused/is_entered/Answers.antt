@@ -1,4 +1,4 @@
-use Rattle.std.proofs.Common.{◌≡◌, ap, arith}
+use Rattle.std.proofs.Common.{ap, arith}
 use Rattle.std.specs.Prelude.{length}
 use Rattle.document_facts.proofs.Tests.{never, none_more, refuted}
 use Rattle.document_facts.specs.Used.{IsEntered, IsEnteredAt}
