@@ -14,7 +14,7 @@ use std::alloc::Global;
 
 /// A header, and what it opens.
 #[derive(Drop)]
-pub struct Begun {
+pub(crate) struct Begun {
     pub header: Header,
     pub opened: Opened,
 }
@@ -24,7 +24,11 @@ pub struct Begun {
 /// # Errors
 ///
 /// There is no whole header; or it opens nothing.
-pub fn begin<S: Source>(alloc: Global, document: Vec<u8>, source: &mut S) -> Result<Begun, Failure>
+pub(crate) fn begin<S: Source>(
+    alloc: Global,
+    document: Vec<u8>,
+    source: &mut S,
+) -> Result<Begun, Failure>
     ensures whole { IfOk result (λ begun. begun.header.stage ≡ Live) }
     ensures heard { IfOk result (λ begun. (heard : List ℕ) × Consumes (S.left source.old) (S.left source.new) heard
         × (begun.header ≡ after_bytes (started document.items) heard)) }

@@ -15,10 +15,7 @@ mod top;
 
 pub use asking::{Order, words};
 pub use ats_words::WordsAnswered;
-pub use begun::{Begun, begin};
 pub use failure::Failure;
-pub use serving::serve_session;
-pub use session::converse;
 pub use status::{Status, code};
 pub use telling::{refuse, turn_down};
 pub use top::dispatch;

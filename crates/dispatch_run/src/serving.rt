@@ -46,7 +46,7 @@ fn talk<S: Source, K: Sink>(
 /// # Errors
 ///
 /// Out of memory; a fault of the source or of the sink.
-pub fn serve_session<S: Source, K: Sink>(
+pub(crate) fn serve_session<S: Source, K: Sink>(
     alloc: Global,
     opened: Opened,
     first: &[u8],

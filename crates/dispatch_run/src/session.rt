@@ -15,7 +15,7 @@ use std::alloc::Global;
 /// # Errors
 ///
 /// Out of memory; a fault of the source or of the sink.
-pub fn converse<L: LineServer, S: Source, K: Sink>(
+pub(crate) fn converse<L: LineServer, S: Source, K: Sink>(
     alloc: Global,
     server: &mut L,
     ready: &[u8],

@@ -10,6 +10,5 @@ mod service;
 
 pub use hearing::MOST_BYTES;
 pub use laws::{lines_are_heard, pieces_make_no_difference};
-pub use pieces::answer_piece;
 pub use server::{Course, LineServer, ServeFault};
-pub use service::{answer_next, serve_lines};
+pub use service::serve_lines;

@@ -76,7 +76,7 @@ fn answer_bytes<L: LineServer>(
 ///
 /// Out of memory, where nothing of the piece was answered; a fault of the sink, which then has taken a first part of
 /// the answers.
-pub fn answer_piece<L: LineServer, K: Sink>(
+pub(crate) fn answer_piece<L: LineServer, K: Sink>(
     alloc: Global,
     server: &mut L,
     begun: &mut Vec<u8>,

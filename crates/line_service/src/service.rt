@@ -21,7 +21,7 @@ const PIECE: usize = 4096;
 /// # Errors
 ///
 /// Out of memory; a fault of the source or of the sink.
-pub fn answer_next<L: LineServer, S: Source, K: Sink>(
+pub(crate) fn answer_next<L: LineServer, S: Source, K: Sink>(
     alloc: Global,
     server: &mut L,
     begun: &mut Vec<u8>,
