@@ -215,7 +215,7 @@ fn start<'a>(alloc: Global) -> Command<'a>
     ensures { IsBuiltAs spec.start result }
 {
     Command::new(alloc, "planner")
-        .version("1.13.0")
+        .version("1.14.0")
         .about(ABOUT)
         .no_binary_name(true)
         .subcommand_required(true)
