@@ -80,19 +80,19 @@ plan
 # a ladder needs no section: its ways have one point
 [[train]]
 name = "In"
-route = ["K", "L", "R1"]
+route = ["K", "L", "Short"]
 
 [[train]]
 name = "Out"
-route = ["R2", "L", "K", "H"]
+route = ["Long", "L", "K", "H"]
 exit = true
 
 [[ladder]]
 name = "L"
 leads = ["K"]
-roads = ["R1", "R2"]
+roads = ["Short", "Long"]
 ----
-{"links":[["K","L"],["L","R1"],["R2","L"],["K","H"]],"points":[["K",0],["L",0],["R1",0],["R2",0],["H",0]],"start":[0,0],"tables":[{"after":0,"certificate":[],"connections":[],"exits":[false,true],"missions":[["K","L","R1"],["R2","L","K","H"]],"sections":[],"times":[[1,1],[1,1,1,1]]}],"trains":["In","Out"],"version":3,"zones":1}
+{"links":[["K","L"],["L","Short"],["Long","L"],["K","H"]],"points":[["K",0],["L",0],["Short",0],["Long",0],["H",0]],"start":[0,0],"tables":[{"after":0,"certificate":[],"connections":[],"exits":[false,true],"missions":[["K","L","Short"],["Long","L","K","H"]],"sections":[],"times":[[1,1],[1,1,1,1]]}],"trains":["In","Out"],"version":3,"zones":1}
 ====
 plan
 train = [{ name = "T0", route = ["A", "M", "B"] }]

@@ -95,7 +95,7 @@ stands a b c at = rw (at.at_a, at.at_b, at.at_c)
 pub stands_alike : (a b c : String Global) → Corridor a b c → times_said (Some times) (Some (integer (pos 3))) (a ∷ b ∷ c ∷ []) true ≡ pos 6 ∷ pos 5 ∷ pos 2 ∷ []
 stands_alike a b c at = rw (at.at_a, at.at_b)
 
--- it stands at a point each time that it comes to it: from A to B, back and to B again it stands twice at B, and once at A
+-- it stands at a point each time that it comes to it: from A to B, back and to B again it has been at B two times, and at A once
 pub stands_twice : (a b c : String Global) → Corridor a b c → times_said None (Some dwell) (a ∷ b ∷ a ∷ b ∷ []) true ≡ pos 2 ∷ pos 5 ∷ pos 2 ∷ pos 1 ∷ []
 stands_twice a b c at = rw (at.at_a, at.at_b)
 
