@@ -2,7 +2,7 @@
 _planner() {
   local word=${COMP_WORDS[COMP_CWORD]} options
   if [ "$COMP_CWORD" -eq 1 ]; then
-    COMPREPLY=($(compgen -W "plan explain lint certify protect order timetable graph layout --help --version" -- "$word"))
+    COMPREPLY=($(compgen -W "plan explain lint certify protect order timetable graph report layout --help --version" -- "$word"))
     return
   fi
   case ${COMP_WORDS[COMP_CWORD-1]} in
@@ -22,6 +22,7 @@ _planner() {
     order) options="--of-run --journal --into --entries" ;;
     timetable) options="--csv --journal" ;;
     graph) options="--train --journal" ;;
+    report) options="--title --journal" ;;
     layout) options="--at --table --plan" ;;
   esac
   COMPREPLY=($(compgen -W "$options --help" -- "$word"))

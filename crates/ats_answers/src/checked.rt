@@ -7,7 +7,7 @@ ghost use Rattle.ats_answers.specs.Refusing.{RefusesDocument, RefusesCheck};
 ghost use Rattle.ats_answers.specs.declared.failure.Failure.TheVariants.{Memory as NoMemory};
 
 use crate::Failure;
-use accepted_documents::{Checked, check_document_par};
+use accepted_documents::{Checked, check_document as check_by_one, check_document_par};
 use document_json::{Doc, DocRefused, document};
 use std::alloc::Global;
 use std::thread::Threads;
@@ -42,6 +42,20 @@ pub fn check_document(
     ensures unchecked { IfErr result (λ e. (e ≡ NoMemory) ⊎ RefusesCheck input.now e) }
 {
     match check_document_par(rt, alloc, input) {
+        Ok(checked) => Ok(checked),
+        Err(refused) => Err(Failure::from(refused)),
+    }
+}
+
+/// What `check_document` answers, by one thread.
+pub(crate) fn check_alone(alloc: Global, input: &[u8]) -> Result<Checked, Failure>
+    ensures document { IfOk result (λ c. doc_of input.now ≡ Ok c.doc) }
+    ensures offers { IfOk result (λ c. c.tables.items ≡ offers_of c.doc) }
+    ensures accepted { IfOk result (λ c. AreAccepted c.doc c.certs.items) }
+
+    ensures unchecked { IfErr result (λ e. (e ≡ NoMemory) ⊎ RefusesCheck input.now e) }
+{
+    match check_by_one(alloc, input) {
         Ok(checked) => Ok(checked),
         Err(refused) => Err(Failure::from(refused)),
     }

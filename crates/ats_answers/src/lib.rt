@@ -29,7 +29,7 @@ pub use lines::{NO_MEMORY, fixed_line, line_of};
 pub use making::make;
 pub use migrating::migrate;
 pub use repairing::repair;
-pub use simulating::simulate;
+pub use simulating::{simulate, simulate_alone};
 pub use status::{Status, code};
 pub use turns::state_after;
 pub use verifying::verify;

@@ -12,7 +12,7 @@ ghost use Rattle.ats_answers.specs.Simulating.{IsSimulated, timed_text, last_tex
 ghost use Rattle.ats_answers.specs.declared.failure.Failure.TheVariants.{Memory as NoMemory};
 
 use crate::Failure;
-use crate::checked::check_document;
+use crate::checked::{check_alone, check_document};
 use accepted_documents::Checked;
 use cert_checker::Accepted;
 use document_json::Frame;
@@ -34,6 +34,20 @@ pub fn simulate(rt: &(impl Threads + Sync), alloc: Global, input: &[u8]) -> Resu
     ensures unchecked { IfErr result (λ e. (e ≡ NoMemory) ⊎ RefusesCheck input.now e) }
 {
     let checked = check_document(rt, alloc, input)?;
+    simulate_checked(alloc, &checked)
+}
+
+/// What `simulate` answers, with the certificates checked by one thread.
+///
+/// # Errors
+///
+/// Those of `simulate`.
+pub fn simulate_alone(alloc: Global, input: &[u8]) -> Result<Vec<u8>, Failure>
+    ensures simulated { IfOk result (λ text. IsDocWith input.now (λ D. IsSimulated D text.items)) }
+
+    ensures unchecked { IfErr result (λ e. (e ≡ NoMemory) ⊎ RefusesCheck input.now e) }
+{
+    let checked = check_alone(alloc, input)?;
     simulate_checked(alloc, &checked)
 }
 

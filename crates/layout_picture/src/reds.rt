@@ -14,9 +14,9 @@ use std::alloc::{AllocError, Global};
 // The colour of red trains.
 const RED: &str = "#d00000";
 
-// The colours of the other trains.
+// The colours of the other trains, which they have in graphs, too.
 const COLOURS: [&str; 8] = [
-    "#0b5fa5", "#b35900", "#00704f", "#6b2fa0", "#1f2933", "#8a6d00", "#a1246e", "#3a7d8c",
+    "#0b5fa5", "#b35900", "#20242a", "#00997a", "#7b4fc0", "#8a7400", "#3b9ad0", "#6b1020",
 ];
 
 // No trains.

@@ -120,6 +120,10 @@ fn answer_order(rt: &HostRuntime, order: &Order<'_>) -> Status {
         | Order::Graph {
             journal: Some(path),
             ..
+        }
+        | Order::Report {
+            journal: Some(path),
+            ..
         } => answer_with_journal(rt, order, path),
         _ => answer(rt, order, None, None, rt.stdin()),
     }

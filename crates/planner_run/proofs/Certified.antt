@@ -6,8 +6,8 @@ use Rattle.document_certificates.specs.declared.uncertified.Uncertified.{Uncerti
 use Rattle.document_json.specs.Doc.{Doc}
 use Rattle.document_json.specs.Reading.{doc_of}
 use Rattle.document_json.specs.declared.refused.DocRefused.{DocRefused}
-use Rattle.planner_run.specs.Answered.{IsCertifying, IsWrong, SaysWrong}
-use Rattle.planner_run.specs.Certifying.{IsCertifiedInput, SaysWhy, refused_line}
+use Rattle.planner_run.specs.Answered.{IsCertifying, IsWrong}
+use Rattle.planner_run.specs.Certifying.{IsCertifiedInput, IsCertifyingFault, SaysWhy, refused_line}
 use Rattle.planner_run.specs.declared.answer.Answer.{Answer}
 use Rattle.planner_run.specs.declared.answer.Answer.TheVariants.{Text, Remarks, Noted, Wrong}
 
@@ -22,9 +22,6 @@ module _ (input : List ℕ) (budget : ℕ) where
     pub certified_answers : (text : List ℕ) → IsCertified D budget text → IsCertifiedInput input budget text
     certified_answers text certified = record { document = D; is_read = is; is_certified = certified }
 
-    pub uncertified_answers : (why : Uncertified) (a : Answer) → HasNone D budget why → SaysWrong (SaysWhy D why) a → IsCertifying input budget a
-    uncertified_answers why (Text text) none wrong = absurd wrong
-    uncertified_answers why (Remarks lines) none wrong = absurd wrong
-    uncertified_answers why (Noted text lines) none wrong = absurd wrong
-    uncertified_answers why (Wrong lines) none wrong =
-        inr (record { document = D; is_read = is; tells = record { why = why; has_none = none; says = wrong } })
+    pub uncertified_answers : (why : Uncertified) (lines : List ℕ) → HasNone D budget why → SaysWhy D why lines → IsCertifyingFault input budget lines
+    uncertified_answers why lines none says =
+        inr (record { document = D; is_read = is; tells = record { why = why; has_none = none; says = says } })

@@ -3,7 +3,7 @@ use Rattle.std.proofs.Common.{◌≡◌, ◌⊎◌, inl, inr, ℕ, List, Option,
 use Rattle.std.specs.Prelude.{Result, Ok, Err, IfOk, IfSome, string_bytes}
 use Rattle.planner_words.specs.declared.orders.Effort.{Effort}
 use Rattle.planner_words.specs.declared.orders.Order.{Order}
-use Rattle.planner_words.specs.declared.orders.Order.TheVariants.{Plan as OfPlan, ExplainState, ExplainLine, Lint, Certify, Protect, AddOrders, OrderByRun, Timetable, Graph, Layout}
+use Rattle.planner_words.specs.declared.orders.Order.TheVariants.{Plan as OfPlan, ExplainState, ExplainLine, Lint, Certify, Protect, AddOrders, OrderByRun, Timetable, Graph, Report, Layout}
 use Rattle.planner_words.specs.declared.orders.Output.{Output}
 use Rattle.planner_run.specs.Answered.{AreWrongFor, HasNotes, IfText, IsAnswerFor, IsCertifying, IsLinted, IsOrdering, IsOrderingByRun, IsPlanning, IsProtecting, IsSuspected, IsTextFor}
 use Rattle.planner_run.specs.declared.answer.Answer.{Answer}
@@ -81,6 +81,7 @@ notes_of_read (Lint before file) left input is notes = absurd notes
 notes_of_read (Certify budget effort) left input is notes = absurd notes
 notes_of_read (Timetable csv journal) left input is notes = absurd notes
 notes_of_read (Graph train journal) left input is notes = absurd notes
+notes_of_read (Report title journal) left input is notes = absurd notes
 notes_of_read (Layout table at file) left input is notes = absurd notes
 
 pub quiet_as_read : (Quiet : Type 0) (order : Order) (left : Option (List ℕ)) (input : List ℕ) → IfSome left (λ all. input ≡ all) →

@@ -4,10 +4,9 @@ use Rattle.std.specs.declared.alloc.Global.{Global}
 use Rattle.ats_io.specs.Bytes.{AddsPrefix}
 use Rattle.decimal_number.specs.Decimal.{number_of}
 use Rattle.run_orders.specs.RunOrdered.{IsInputByRun}
-use Rattle.rail_model.specs.State.{Legal}
 use Rattle.refusal_lines.specs.Makers.{places_words}
 use Rattle.document_json.specs.Reading.{doc_of}
-use Rattle.document_json.specs.Doc.{Doc, names_of, table_at}
+use Rattle.document_json.specs.Doc.{Doc, names_of}
 use Rattle.plan_document.specs.declared.plan.Plan.{Plan}
 use Rattle.plan_crossed.specs.Read.{IsCrossedRead}
 use Rattle.plan_reading.specs.declared.reading.PlanRead.TheVariants.{Plan as AsPlan}
@@ -15,30 +14,27 @@ use Rattle.plan_input.specs.Standing.{AreFaultsOf, begins_as_document, IsPlanned
 use Rattle.plan_input.specs.declared.origin.PlanFile.{PlanFile}
 use Rattle.plan_input.specs.declared.standing.Standing.{Standing}
 use Rattle.plan_suspects.specs.Suspects.{has_suspects}
-use Rattle.refusal_sentences.specs.Explains.{ExplainsIn, sections_named}
+use Rattle.refusal_sentences.specs.Explains.{ExplainsIn}
 use Rattle.refusal_sentences.specs.ExplainedLines.{ExplainsLine}
 use Rattle.refusal_sentences.specs.declared.explained.Explained.{Explained}
 use Rattle.refusal_sentences.specs.declared.explained.Explained.TheVariants.{State, Refusal, NotLegal, NoTable, NoDocument, NoLine}
 use Rattle.run_sentences.specs.Told.{TellsRun}
 use Rattle.run_timetable.specs.declared.run.Run.{Run}
 use Rattle.run_timetable.specs.Csv.{csv_text}
-use Rattle.timed_reading.specs.Reads.{IsInputOf}
-use Rattle.rail_model.specs.Layout.{Layout as LayoutValue}
-use Rattle.train_graph.specs.Graph.{IsGraph}
-use Rattle.layout_picture.specs.Drawn.{IsDrawn}
 use Rattle.document_lint.specs.Told.{AreRemarks, IsSoOf}
 use Rattle.document_facts.specs.declared.fact.Fact.{Fact}
 use Rattle.document_lint.specs.declared.remark.Remark.{Remark}
-use Rattle.svg_text.specs.Tree.{Picture}
-use Rattle.svg_text.specs.Text.{svg_text}
 use Rattle.planner_words.specs.declared.orders.Order.{Order}
-use Rattle.planner_words.specs.declared.orders.Order.TheVariants.{Plan as OfPlan, ExplainState, ExplainLine, Lint, Certify, Protect, AddOrders, OrderByRun, Timetable, Graph, Layout}
+use Rattle.planner_words.specs.declared.orders.Order.TheVariants.{Plan as OfPlan, ExplainState, ExplainLine, Lint, Certify, Protect, AddOrders, OrderByRun, Timetable, Graph, Report, Layout}
 use Rattle.ats_words.specs.declared.answering.WordsAnswered.{WordsAnswered}
 use Rattle.ats_words.specs.declared.answering.WordsAnswered.TheVariants.{Shown, Refused, Memory}
 use Rattle.planner_run.specs.Certifying.{IsCertifiedInput, IsCertifyingFault}
+use Rattle.planner_run.specs.Drawn.{IsGraphOf, IsLayoutAt}
 use Rattle.planner_run.specs.Entering.{AsksForEntries, IsPut, output_of}
 use Rattle.planner_run.specs.Ordering.{IsOrderedInput}
 use Rattle.planner_run.specs.Protecting.{IsProtectedInput, IsProtectingFault}
+use Rattle.planner_run.specs.Reporting.{IsReportText}
+use Rattle.planner_run.specs.Running.{IsRunOf}
 use Rattle.planner_run.specs.declared.answer.Answer.{Answer}
 use Rattle.planner_run.specs.declared.answer.Answer.TheVariants.{Text, Remarks, Noted, Wrong}
 use Rattle.planner_run.specs.declared.top.Status.{Status}
@@ -97,17 +93,11 @@ pub record ExplainsWords (input : List ℕ) (names : List (Vec (String Global) G
   pub explains : ExplainsLine input names line told
   pub tells : ExplainsAs told text
 
--- The text is the graph of a timed run: a picture with one row for each point, by its name, and one mark for each step.
-pub record IsGraphOf (L : LayoutValue) (run : Run) (text : List ℕ) : Type 0 where
-  pub picture : Picture
-  pub is_graph : IsGraph L run picture
-  pub is_text : text ≡ svg_text picture
-
--- The input is a document and the text of a timed run of it, and the text is the graph of that run.
+-- The text is the graph of the input's run.
 pub record IsGraphText (input text : List ℕ) : Type 0 where
   pub document : Doc
   pub run : Run
-  pub is_input : IsInputOf input document run
+  pub is_run : IsRunOf input document run
   pub is_graph : IsGraphOf document.layout run text
 
 -- The text is the timetable of a run of a document: as comma-separated values, exactly these. Of columns nothing is said.
@@ -115,25 +105,17 @@ abbrev pub IsTimetableOf : Doc → Run → Bool → List ℕ → Type 0
 IsTimetableOf D run true text = text ≡ csv_text D.layout (names_of D) run
 IsTimetableOf D run false text = Unit {0}
 
--- The input is a document and the text of a timed run of it, and the text is the timetable of that run.
+-- The text is the timetable of the input's run.
 pub record IsTimetableText (input : List ℕ) (is_csv : Bool) (text : List ℕ) : Type 0 where
   pub document : Doc
   pub run : Run
-  pub is_input : IsInputOf input document run
+  pub is_run : IsRunOf input document run
   pub is_timetable : IsTimetableOf document run is_csv text
 
 -- The places are those that the words name; without words, those at the start.
 abbrev pub AreAsked : Doc → Option (Bor (List ℕ)) → List ℕ → Type 0
 AreAsked D (Some words) places = words.now ≡ places_words places
 AreAsked D None places = places ≡ D.start
-
--- The text is a picture of a document's layout under its table t, by these names of sections, and of its trains at these places, which are
--- legal there.
-pub record IsLayoutAt (D : Doc) (names : List (Vec (String Global) Global)) (t : ℕ) (places text : List ℕ) : Type 0 where
-  pub picture : Picture
-  pub legal : Legal (table_at D t) places
-  pub is_drawn : IsDrawn D.layout (sections_named names t) (table_at D t) places picture.width picture.height picture.groups
-  pub is_text : text ≡ svg_text picture
 
 -- The text is such a picture with the trains at the places asked for.
 pub record IsLayoutOf (D : Doc) (names : List (Vec (String Global) Global)) (t : ℕ) (asked : Option (Bor (List ℕ))) (text : List ℕ) : Type 0 where
@@ -170,6 +152,7 @@ WorksOn (AddOrders output) plan input text names = Stands plan input text names
 WorksOn (OrderByRun seed journal output) plan input text names = Stands plan input text names
 WorksOn (Timetable csv journal) plan input text names = Stands plan input text names
 WorksOn (Graph train journal) plan input text names = Stands plan input text names
+WorksOn (Report title journal) plan input text names = Stands plan input text names
 WorksOn (Layout table at file) plan input text names = Stands plan input text names
 
 -- The order works on this; or these lines say what is wrong with its input, or with the plan beside it.
@@ -188,6 +171,7 @@ IsTextFor (AddOrders output) former input names text = IsOrderedInput input text
 IsTextFor (OrderByRun seed journal output) former input names text = IsInputByRun input text
 IsTextFor (Timetable csv journal) former input names text = IsTimetableText input csv text
 IsTextFor (Graph train journal) former input names text = IsGraphText input text
+IsTextFor (Report title journal) former input names text = IsReportText input names title.now text
 IsTextFor (Layout table at file) former input names text = IsLayoutText input names table.now at text
 
 -- The text is what an order comes to on an input, with a plan beside it or without: on what it works on.
@@ -215,6 +199,7 @@ AreWrongFor (AddOrders output) input lines = Unit {0}
 AreWrongFor (OrderByRun seed journal output) input lines = Unit {0}
 AreWrongFor (Timetable csv journal) input lines = Unit {0}
 AreWrongFor (Graph train journal) input lines = Unit {0}
+AreWrongFor (Report title journal) input lines = Unit {0}
 AreWrongFor (Layout table at file) input lines = Unit {0}
 
 -- The lines are what is wrong with what an order works on.
@@ -257,6 +242,7 @@ AsksForRemarks (AddOrders output) = ⊥
 AsksForRemarks (OrderByRun seed journal output) = ⊥
 AsksForRemarks (Timetable csv journal) = ⊥
 AsksForRemarks (Graph train journal) = ⊥
+AsksForRemarks (Report title journal) = ⊥
 AsksForRemarks (Layout table at file) = ⊥
 
 -- The input is a plan, and a point of it is probably mistyped.
@@ -278,6 +264,7 @@ HasNotes (Lint before file) read = ⊥
 HasNotes (Certify budget effort) read = ⊥
 HasNotes (Timetable csv journal) read = ⊥
 HasNotes (Graph train journal) read = ⊥
+HasNotes (Report title journal) read = ⊥
 HasNotes (Layout table at file) read = ⊥
 
 -- The answer has no remarks and no notes, and where it is a text, this holds of it.

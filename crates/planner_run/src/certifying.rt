@@ -2,7 +2,7 @@
 ghost use Rattle.std.specs.Prelude.{◌≡◌, ◌++◌, IfOk, Ok, Err, OnOk, codes, string_bytes};
 ghost use Rattle.document_certificates.specs.Certified.{HasNone};
 ghost use Rattle.document_json.specs.Reading.{doc_of};
-ghost use Rattle.planner_run.specs.Answered.{IsCertifying, SaysWrong};
+ghost use Rattle.planner_run.specs.Answered.{IsCertifying};
 ghost use Rattle.planner_run.specs.Certifying.{SaysWhy, TellsStuck, gave_up_words};
 
 use crate::Answer;
@@ -60,21 +60,21 @@ fn certified<W: Watcher>(
     match certified_text(alloc, doc, budget, searches_of(effort), watcher) {
         Ok(text) => Ok(Answer::Text(text)),
         Err(Uncertified::Memory) => Err(AllocError),
-        Err(why) => uncertified(alloc, doc, &why),
+        Err(why) => Ok(Answer::Wrong(lines_on(alloc, doc, &why)?)),
     }
 }
 
-// The lines that say why a document gets no certificates.
-fn uncertified(alloc: Global, doc: &Doc, why: &Uncertified) -> Result<Answer, AllocError>
-    ensures { IfOk result (SaysWrong (SaysWhy doc.now why.now)) }
+/// The lines that say why a document gets no certificates.
+pub(crate) fn lines_on(alloc: Global, doc: &Doc, why: &Uncertified) -> Result<String, AllocError>
+    ensures { IfOk result (λ lines. SaysWhy doc.now why.now (string_bytes lines)) }
 {
     match why {
-        Uncertified::Stuck { table, at } => Ok(Answer::Wrong(stuck(alloc, doc, *table, at)?)),
+        Uncertified::Stuck { table, at } => stuck(alloc, doc, *table, at),
         Uncertified::GaveUp { table, nodes } => {
             let mut line = String::new(alloc);
             push_gave_up(&mut line, *table, *nodes)?;
             line.push_str("\n")?;
-            Ok(Answer::Wrong(line))
+            Ok(line)
         }
         Uncertified::Memory => Err(AllocError),
     }

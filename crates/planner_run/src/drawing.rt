@@ -1,6 +1,7 @@
 // Pictures of layouts.
 ghost use Rattle.std.specs.Prelude.{◌≡◌, IfOk};
-ghost use Rattle.planner_run.specs.Answered.{IfText, IsLayoutText, IsLayoutOf, IsLayoutAt, IsWrong};
+ghost use Rattle.planner_run.specs.Answered.{IfText, IsLayoutText, IsLayoutOf, IsWrong};
+ghost use Rattle.planner_run.specs.Drawn.{IsLayoutAt};
 ghost use Rattle.planner_run.specs.Certifying.{refused_line};
 
 use crate::Answer;
@@ -53,8 +54,8 @@ fn layout_at(
     }
 }
 
-// The layout with the trains in a state.
-fn picture_of(
+/// The layout with the trains in a state.
+pub(crate) fn picture_of(
     alloc: Global,
     doc: &Doc,
     names: &[Vec<String>],

@@ -10,6 +10,8 @@ mod linting;
 mod ordering;
 mod planning;
 mod protecting;
+mod reporting;
+mod running;
 mod timing;
 mod top;
 

@@ -1,24 +1,32 @@
 // Timetables and graphs of timed runs.
 ghost use Rattle.std.specs.Prelude.{◌≡◌, IfOk};
 ghost use Rattle.timed_reading.specs.Runs.{IsToldRun};
-ghost use Rattle.planner_run.specs.Answered.{IfText, IsGraphOf, IsGraphText, IsTimetableOf, IsTimetableText};
+ghost use Rattle.planner_run.specs.Answered.{IfText, IsGraphText, IsTimetableOf, IsTimetableText};
+ghost use Rattle.planner_run.specs.Drawn.{IsGraphOf};
 
 use crate::Answer;
+use crate::running::{Ran, find_run};
+use cert_search::Watcher;
 use document_json::{Doc, layout_of, names_of};
 use rail_model::Names;
 use run_timetable::{Run, columns, csv};
 use std::alloc::{AllocError, Global};
 use svg_text::text;
-use timed_reading::{Timed, timed_run};
 use train_graph::train_graph;
 
 /// The timetable of a timed run.
-pub(crate) fn timetable(alloc: Global, input: &[u8], is_csv: bool) -> Result<Answer, AllocError>
+pub(crate) fn timetable<W: Watcher>(
+    alloc: Global,
+    input: &[u8],
+    is_csv: bool,
+    watcher: &W,
+) -> Result<Answer, AllocError>
     ensures { IfOk result (IfText (IsTimetableText input.now is_csv)) }
 {
-    match timed_run(alloc, input)? {
-        Timed::Run { doc, run } => timetable_of(alloc, &doc, &run, is_csv),
-        Timed::Fault(words) => Ok(Answer::Wrong(words)),
+    match find_run(alloc, input, watcher)? {
+        Ran::Given { doc, run } => timetable_of(alloc, &doc, &run, is_csv),
+        Ran::Own { doc, run } => timetable_of(alloc, &doc, &run, is_csv),
+        Ran::Not(lines) => Ok(Answer::Wrong(lines)),
     }
 }
 
@@ -36,12 +44,18 @@ fn timetable_of(alloc: Global, doc: &Doc, run: &Run, is_csv: bool) -> Result<Ans
 }
 
 /// The graph of a timed run, along the route of a train if one is named.
-pub(crate) fn graph(alloc: Global, input: &[u8], train: Option<&str>) -> Result<Answer, AllocError>
+pub(crate) fn graph<W: Watcher>(
+    alloc: Global,
+    input: &[u8],
+    train: Option<&str>,
+    watcher: &W,
+) -> Result<Answer, AllocError>
     ensures { IfOk result (IfText (IsGraphText input.now)) }
 {
-    match timed_run(alloc, input)? {
-        Timed::Run { doc, run } => graph_of(alloc, &doc, &run, train),
-        Timed::Fault(words) => Ok(Answer::Wrong(words)),
+    match find_run(alloc, input, watcher)? {
+        Ran::Given { doc, run } => graph_of(alloc, &doc, &run, train),
+        Ran::Own { doc, run } => graph_of(alloc, &doc, &run, train),
+        Ran::Not(lines) => Ok(Answer::Wrong(lines)),
     }
 }
 
@@ -57,8 +71,21 @@ fn graph_of(alloc: Global, doc: &Doc, run: &Run, train: Option<&str>) -> Result<
         },
         None => None,
     };
+    Ok(Answer::Text(graph_text(alloc, doc, run, chosen)?))
+}
+
+/// The graph of a run of a document, along the route of a train if one is chosen.
+pub(crate) fn graph_text(
+    alloc: Global,
+    doc: &Doc,
+    run: &Run,
+    chosen: Option<u32>,
+) -> Result<Vec<u8>, AllocError>
+    requires { IsToldRun doc.now run.now }
+    ensures { IfOk result (λ text. IsGraphOf doc.now.layout run.now text.items) }
+{
     let picture = train_graph(alloc, layout_of(doc), names_of(doc), run, chosen)?;
-    Ok(Answer::Text(text(alloc, &picture)?))
+    text(alloc, &picture)
 }
 
 // The number of the train of this name, if there is one.

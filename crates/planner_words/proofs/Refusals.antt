@@ -15,7 +15,7 @@ use Rattle.planner_words.specs.Named.{AsksFor, IsEffort, IsOutput, budget_in, is
 use Rattle.planner_words.specs.declared.orders.Output.{Output}
 use Rattle.planner_words.specs.declared.orders.Output.TheVariants.{Document as OfDocument, Plan as OfPlan, Entries as OfEntries}
 use Rattle.planner_words.specs.declared.orders.Order.{Order}
-use Rattle.planner_words.specs.declared.orders.Order.TheVariants.{Plan, ExplainState, ExplainLine, Lint, Certify, Protect, AddOrders, OrderByRun, Timetable, Graph, Layout}
+use Rattle.planner_words.specs.declared.orders.Order.TheVariants.{Plan, ExplainState, ExplainLine, Lint, Certify, Protect, AddOrders, OrderByRun, Timetable, Graph, Report, Layout}
 use Rattle.ats_words.specs.declared.answering.WordsAnswered.{WordsAnswered}
 use Rattle.ats_words.specs.declared.answering.WordsAnswered.TheVariants.{Shown, Refused, Memory}
 
@@ -67,6 +67,7 @@ none_explained given no_places no_line (AddOrders output) asked = differ _ _ ref
 none_explained given no_places no_line (OrderByRun seed journal output) asked = differ _ _ refl asked.0
 none_explained given no_places no_line (Timetable csv journal) asked = differ _ _ refl asked.0
 none_explained given no_places no_line (Graph train journal) asked = differ _ _ refl asked.0
+none_explained given no_places no_line (Report title journal) asked = differ _ _ refl asked.0
 none_explained given no_places no_line (Layout table at plan) asked = differ _ _ refl asked.0
 
 -- an order of the command `certify` has its values
@@ -81,6 +82,7 @@ asks_to_certify given (AddOrders output) asked = absurd (differ _ _ refl asked.0
 asks_to_certify given (OrderByRun seed journal output) asked = absurd (differ _ _ refl asked.0)
 asks_to_certify given (Timetable csv journal) asked = absurd (differ _ _ refl asked.0)
 asks_to_certify given (Graph train journal) asked = absurd (differ _ _ refl asked.0)
+asks_to_certify given (Report title journal) asked = absurd (differ _ _ refl asked.0)
 asks_to_certify given (Layout table at plan) asked = absurd (differ _ _ refl asked.0)
 
 -- the command `certify` asks for nothing with a number that is no budget
@@ -106,6 +108,7 @@ asks_to_protect given (AddOrders output) asked = absurd (differ _ _ refl asked.0
 asks_to_protect given (OrderByRun seed journal output) asked = absurd (differ _ _ refl asked.0)
 asks_to_protect given (Timetable csv journal) asked = absurd (differ _ _ refl asked.0)
 asks_to_protect given (Graph train journal) asked = absurd (differ _ _ refl asked.0)
+asks_to_protect given (Report title journal) asked = absurd (differ _ _ refl asked.0)
 asks_to_protect given (Layout table at plan) asked = absurd (differ _ _ refl asked.0)
 
 -- the command `protect` asks for nothing with a number of nodes or of rounds that is out of range
@@ -140,6 +143,7 @@ no_output_ordered given no_output (AddOrders output) asked = no_output output as
 no_output_ordered given no_output (OrderByRun seed journal output) asked = no_output output asked.1.2
 no_output_ordered given no_output (Timetable csv journal) asked = differ _ _ refl asked.0
 no_output_ordered given no_output (Graph train journal) asked = differ _ _ refl asked.0
+no_output_ordered given no_output (Report title journal) asked = differ _ _ refl asked.0
 no_output_ordered given no_output (Layout table at plan) asked = differ _ _ refl asked.0
 
 -- no output is two
@@ -162,6 +166,7 @@ none_ordered given word found none (OrderByRun seed journal output) asked =
     let both : Some seed ≡ None = sym number ∙ none in cc
 none_ordered given word found none (Timetable csv journal) asked = differ _ _ refl asked.0
 none_ordered given word found none (Graph train journal) asked = differ _ _ refl asked.0
+none_ordered given word found none (Report title journal) asked = differ _ _ refl asked.0
 none_ordered given word found none (Layout table at plan) asked = differ _ _ refl asked.0
 
 -- nor with a journal and no number
@@ -178,6 +183,7 @@ none_ordered_by given file none found (OrderByRun seed journal output) asked =
     subst (λ o. IsSomeAnd o (λ w. number_of w ≡ Some seed)) (sym none) asked.1.0
 none_ordered_by given file none found (Timetable csv journal) asked = differ _ _ refl asked.0
 none_ordered_by given file none found (Graph train journal) asked = differ _ _ refl asked.0
+none_ordered_by given file none found (Report title journal) asked = differ _ _ refl asked.0
 none_ordered_by given file none found (Layout table at plan) asked = differ _ _ refl asked.0
 
 -- a word that is none of the three is for no effort

@@ -7,7 +7,7 @@ use Rattle.clap.proofs.OnLiterals.{clap_on_literals}
 use Rattle.ats_words.specs.Built.{leaf}
 use Rattle.decimal_number.specs.Decimal.{number_of}
 use Rattle.planner_words.specs.Line.{planner}
-use Rattle.planner_words.specs.Named.{budget_in, is_up, nodes_in, rounds_in, table_in}
+use Rattle.planner_words.specs.Named.{budget_in, is_up, nodes_in, rounds_in, table_in, title_in}
 
 -- the words of a line, which single spaces part
 abbrev words_of : Text → List Text
@@ -21,6 +21,11 @@ the_train = refl
 the_journals : map (λ line. option_map (λ found. first_of (codes "journal") found.1) (subcommand_of planner (words_of line))) (codes "graph" ∷ codes "timetable --journal runs" ∷ []) ≡ Some None ∷ Some (Some (codes "runs")) ∷ []
 unfolding clap_on_literals leaf
 the_journals = refl
+
+-- A page has a plain title where none is named.
+the_titles : map (λ line. option_map (λ found. title_in found.1) (subcommand_of planner (words_of line))) (codes "report" ∷ codes "report --journal runs --title Metro" ∷ []) ≡ Some (codes "Report") ∷ Some (codes "Metro") ∷ []
+unfolding clap_on_literals leaf
+the_titles = refl
 
 -- The plan of a document is in a file where one is named.
 the_plans : map (λ line. option_map (λ found. first_of (codes "plan") found.1) (subcommand_of planner (words_of line))) (codes "layout" ∷ codes "lint --before old --plan yard" ∷ []) ≡ Some None ∷ Some (Some (codes "yard")) ∷ []

@@ -62,6 +62,9 @@ timetable = leaf (codes "timetable") (flag (codes "csv") ∷ valued (codes "jour
 abbrev pub graph : Shape
 graph = leaf (codes "graph") (valued (codes "train") ∷ valued (codes "journal") ∷ [])
 
+abbrev pub report : Shape
+report = leaf (codes "report") (valued (codes "title") ∷ valued (codes "journal") ∷ [])
+
 abbrev pub layout : Shape
 layout = leaf (codes "layout") (valued (codes "at") ∷ valued (codes "table") ∷ valued (codes "plan") ∷ [])
 
@@ -78,7 +81,7 @@ makers = certify ∷ protect ∷ order ∷ []
 
 -- those that read a run, or draw
 abbrev pub pictures : List Shape
-pictures = timetable ∷ graph ∷ layout ∷ []
+pictures = timetable ∷ graph ∷ report ∷ layout ∷ []
 
 -- the whole command
 abbrev pub planner : App

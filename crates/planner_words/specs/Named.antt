@@ -10,7 +10,7 @@ use Rattle.ats_words.specs.Options as options
 use Rattle.decimal_number.specs.Decimal.{number_of}
 use Rattle.planner_words.specs.Line.{planner}
 use Rattle.planner_words.specs.declared.orders.Order.{Order}
-use Rattle.planner_words.specs.declared.orders.Order.TheVariants.{Plan, ExplainState, ExplainLine, Lint, Certify, Protect, AddOrders, OrderByRun, Timetable, Graph, Layout}
+use Rattle.planner_words.specs.declared.orders.Order.TheVariants.{Plan, ExplainState, ExplainLine, Lint, Certify, Protect, AddOrders, OrderByRun, Timetable, Graph, Report, Layout}
 
 -- the word that asks for an order
 abbrev pub name_of : Order → List ℕ
@@ -24,11 +24,16 @@ name_of (AddOrders output) = codes "order"
 name_of (OrderByRun seed journal output) = codes "order"
 name_of (Timetable csv journal) = codes "timetable"
 name_of (Graph train journal) = codes "graph"
+name_of (Report title journal) = codes "report"
 name_of (Layout table at plan) = codes "layout"
 
 -- the table that is named, or the first one
 abbrev pub table_in : List Row → Text
 table_in given = unwrap_or (first_of (codes "table") given) (codes "0")
+
+-- the title that is named, or this one
+abbrev pub title_in : List Row → Text
+title_in given = unwrap_or (first_of (codes "title") given) (codes "Report")
 
 -- the number of nodes that is named, if it is one from 1 to 1000000, or the greatest one
 abbrev pub budget_in : List Row → Option ℕ
@@ -113,6 +118,7 @@ HasValues given (Certify budget effort) = (budget_in given ≡ Some budget) × I
 HasValues given (Timetable csv journal) = IsFlag (one_of (codes "csv") given) csv × IsFile (first_of (codes "journal") given) journal
 HasValues given (Graph train journal) =
     (option_map (λ s. s.now) train ≡ first_of (codes "train") given) × IsFile (first_of (codes "journal") given) journal
+HasValues given (Report title journal) = (title.now ≡ title_in given) × IsFile (first_of (codes "journal") given) journal
 HasValues given (Layout table at plan) =
     (table.now ≡ table_in given) × (option_map (λ s. s.now) at ≡ first_of (codes "at") given) × IsFile (first_of (codes "plan") given) plan
 

@@ -137,6 +137,12 @@ const TRAIN: Choice = Choice::Value {
     help: "The train whose route is the axis of places (default: the longest route)",
 };
 
+const TITLE: Choice = Choice::Value {
+    name: "title",
+    value: "WORDS",
+    help: "The title of the page (default: Report)",
+};
+
 const AT_OR_START: Choice = Choice::Value {
     name: "at",
     value: "PLACES",
@@ -150,7 +156,7 @@ struct Subcommand {
     choices: &'static [Choice],
 }
 
-const SUBCOMMANDS: [Subcommand; 9] = [
+const SUBCOMMANDS: [Subcommand; 10] = [
     Subcommand {
         name: "plan",
         about: "Reads a plan (TOML) and writes its document, for `ats make`",
@@ -183,13 +189,18 @@ const SUBCOMMANDS: [Subcommand; 9] = [
     },
     Subcommand {
         name: "timetable",
-        about: "Reads a document, a line `journal` and what `ats sim` wrote; writes when each train arrives, leaves and waits",
+        about: "Reads a document, or also, after a line `journal`, what `ats sim` wrote; writes when each train arrives, leaves and waits",
         choices: &[CSV, JOURNAL],
     },
     Subcommand {
         name: "graph",
         about: "Reads what `timetable` reads; writes a picture (SVG) of the trains over time",
         choices: &[TRAIN, JOURNAL],
+    },
+    Subcommand {
+        name: "report",
+        about: "Reads what `timetable` reads; writes a page (HTML) with the pictures and the timetable, on which the run can be played",
+        choices: &[TITLE, JOURNAL],
     },
     Subcommand {
         name: "layout",
@@ -215,7 +226,7 @@ fn start<'a>(alloc: Global) -> Command<'a>
     ensures { IsBuiltAs spec.start result }
 {
     Command::new(alloc, "planner")
-        .version("1.14.0")
+        .version("1.15.0")
         .about(ABOUT)
         .no_binary_name(true)
         .subcommand_required(true)

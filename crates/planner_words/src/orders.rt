@@ -75,6 +75,11 @@ pub enum Order<'a> {
         train: Option<&'a str>,
         journal: Option<&'a str>,
     },
+    /// Write a page of a timed run, whose lines may be in a file, with this title.
+    Report {
+        title: &'a str,
+        journal: Option<&'a str>,
+    },
     /// Draw the layout of a document, with its trains at the start of a table or at these positions.
     Layout {
         table: &'a str,

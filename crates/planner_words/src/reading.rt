@@ -3,7 +3,7 @@ ghost use Rattle.std.specs.Prelude.{◌≡◌, IfErr, IfNone, IfOk, IfSome, IsSo
 ghost use Rattle.clap.specs.Words.{first_of, found_of, rows_of, subcommand_of, subcommand_rows_of, takes};
 ghost use Rattle.planner_words.specs.Answered.{MissesNone};
 ghost use Rattle.planner_words.specs.Line.{planner};
-ghost use Rattle.planner_words.specs.Named.{AsksFor, IsAsked, IsEffort, IsOutput, is_up, table_in, word_of};
+ghost use Rattle.planner_words.specs.Named.{AsksFor, IsAsked, IsEffort, IsOutput, is_up, table_in, title_in, word_of};
 ghost use Rattle.planner_words.specs.declared.orders.Effort as declared;
 ghost use Rattle.planner_words.specs.declared.orders.Output as declared_output;
 
@@ -116,6 +116,10 @@ fn order_called<'a>(
             train: matches.get_str("train"),
             journal: matches.get_str("journal"),
         }),
+        "report" => Ok(Order::Report {
+            title: title_in(matches),
+            journal: matches.get_str("journal"),
+        }),
         "layout" => Ok(Order::Layout {
             table: table_in(matches),
             at: matches.get_str("at"),
@@ -130,6 +134,13 @@ fn table_in<'a>(matches: &ArgMatches<'a>) -> &'a str
     ensures { result.now ≡ table_in (rows_of (found_of matches.now)) }
 {
     matches.get_str("table").unwrap_or("0")
+}
+
+// The title that is named, or a plain one.
+fn title_in<'a>(matches: &ArgMatches<'a>) -> &'a str
+    ensures { result.now ≡ title_in (rows_of (found_of matches.now)) }
+{
+    matches.get_str("title").unwrap_or("Report")
 }
 
 fn certify<'a>(alloc: Global, matches: &ArgMatches<'a>) -> Result<Order<'a>, WordsAnswered>

@@ -5,7 +5,7 @@ ghost use Rattle.svg_text.specs.Text.{escape, escape_byte};
 use std::alloc::AllocError;
 
 /// Adds text as it is.
-pub(crate) fn push_raw(out: &mut Vec<u8>, text: &str) -> Result<(), AllocError>
+pub fn push_raw(out: &mut Vec<u8>, text: &str) -> Result<(), AllocError>
     ensures { OnOk result (out.new.items ≡ out.old.items ++ text.now) }
 {
     out.extend_from_slice(text.as_bytes())
@@ -24,8 +24,8 @@ fn push_byte(out: &mut Vec<u8>, byte: u8) -> Result<(), AllocError>
     }
 }
 
-/// Adds words, with the references for `&`, `<`, `>` and `"`.
-pub(crate) fn push_escaped(out: &mut Vec<u8>, words: &str) -> Result<(), AllocError>
+/// Adds words, with the references for `&`, `<`, `>` and `"`: in an element or in the value of an attribute they are read as these words.
+pub fn push_escaped(out: &mut Vec<u8>, words: &str) -> Result<(), AllocError>
     ensures { OnOk result (out.new.items ≡ out.old.items ++ escape words.now) }
 {
     for byte in words.as_bytes() {

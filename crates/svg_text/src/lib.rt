@@ -7,6 +7,7 @@ mod shapes;
 mod tree;
 mod writing;
 
+pub use escaping::{push_escaped, push_raw};
 pub use shapes::{Spot, circle, label, line, polygon};
 pub use tree::{Attribute, Group, Picture, Shape};
 pub use writing::text;

@@ -9,4 +9,4 @@ mod running;
 mod ticks;
 
 pub use parts::cut;
-pub use reading::{Timed, timed_run};
+pub use reading::{Timed, timed_document, timed_run};

@@ -42,8 +42,8 @@ pub fn timed_run(alloc: Global, input: &[u8]) -> Result<Timed, AllocError>
     }
 }
 
-// A document, and the run that a journal gives.
-fn timed_document(alloc: Global, doc: Doc, journal: &[u8]) -> Result<Timed, AllocError>
+/// A document, and the run of it that a journal gives, which is what `ats sim` wrote of it.
+pub fn timed_document(alloc: Global, doc: Doc, journal: &[u8]) -> Result<Timed, AllocError>
     ensures { IfOk result (ToldBy doc journal.now) }
 {
     match run_of(alloc, &doc, journal) {

@@ -1,18 +1,18 @@
 // How the trains of a picture look.
 use std::alloc::{AllocError, Global};
 
-// Eight colours whose lightness differs too, so that they can be told apart in grey; those that follow one another
-// differ much.
+// The colours that trains have in pictures of layouts, too. Their lightness differs, so that those that follow one another
+// can be told apart in grey.
 fn colour(train: u32) -> &'static str {
     match train % 8 {
-        0 => "#0b57c0",
-        1 => "#d1420f",
-        2 => "#000000",
-        3 => "#2f9fd8",
-        4 => "#7f0026",
-        5 => "#c07a00",
-        6 => "#4b0a6b",
-        _ => "#0a7d45",
+        0 => "#0b5fa5",
+        1 => "#b35900",
+        2 => "#20242a",
+        3 => "#00997a",
+        4 => "#7b4fc0",
+        5 => "#8a7400",
+        6 => "#3b9ad0",
+        _ => "#6b1020",
     }
 }
 

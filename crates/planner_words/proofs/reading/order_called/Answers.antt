@@ -23,6 +23,10 @@ returns-in-graph-clause-asked c =
     let found = first_value-rows (found_of c.args.matches.now) in
     (search rules, (c.get_str-in-graph.ensures ∙ found (codes "train"), c.get_str-in-graph-2.ensures ∙ found (codes "journal")))
 
+pub returns-in-report-clause-asked : goal.returns-in-report-clause-asked
+returns-in-report-clause-asked c =
+    (search rules, (c.title_in.ensures, c.get_str-in-report.ensures ∙ first_value-rows (found_of c.args.matches.now) (codes "journal")))
+
 pub returns-in-layout-clause-asked : goal.returns-in-layout-clause-asked
 returns-in-layout-clause-asked c =
     let found = first_value-rows (found_of c.args.matches.now) in

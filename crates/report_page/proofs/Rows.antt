@@ -1,0 +1,30 @@
+-- Worked rows: parts of a page.
+use Rattle.std.proofs.Common.{◌≡◌, [], ◌∷◌, Some, None, refl}
+use Rattle.std.specs.Prelude.{codes}
+use Rattle.std.specs.Fmt.{digits}
+use Rattle.rail_model.specs.Layout.{Layout}
+use Rattle.rail_model.specs.Names.{Names}
+use Rattle.run_timetable.specs.declared.rows.Row.{Row}
+use Rattle.report_page.specs.Page.{row_text}
+
+abbrev corridor : Layout
+corridor = record { points = record { name = codes "A&B"; zone = 0 } ∷ record { name = codes "C"; zone = 0 } ∷ []; links = []; zones = 1 }
+
+abbrev names : Names
+names = record { points = codes "A&B" ∷ codes "C" ∷ []; trains = codes "T0" ∷ codes "T1" ∷ [] }
+
+-- a train at its first point doesn't arrive there, and waits from tick 0 on; names are escaped
+abbrev first : Row
+first = record { train = 1; point = Some 0; arrives = None; leaves = Some 7 }
+
+first_row : row_text corridor names first ≡ codes "<tr><td>T1</td><td>A&amp;B</td><td></td><td>7</td><td>7</td></tr>\n"
+unfolding digits row_text
+first_row = refl
+
+-- a train that is out of the layout
+abbrev out : Row
+out = record { train = 0; point = None; arrives = Some 12; leaves = None }
+
+out_row : row_text corridor names out ≡ codes "<tr><td>T0</td><td>-</td><td>12</td><td></td><td></td></tr>\n"
+unfolding digits row_text
+out_row = refl
