@@ -12,14 +12,14 @@ use Rattle.planner_run.specs.Certifying.{TellsWhyNone}
 use Rattle.planner_run.specs.Drawn.{IsGraphOf, IsLayoutAt}
 use Rattle.planner_run.specs.Running.{IsRunOf}
 
--- Each table of the document has a certificate: a search found one of at most 50,000 nodes, or the document itself has it.
+-- Each table of the document has a certificate: a search found one of at most 1,000,000 nodes, or the document itself has it.
 abbrev pub HasCertificates : Doc → Type 0
-HasCertificates D = ((text : List ℕ) × IsCertified D 50000 text) ⊎ ((trees : List Tree) × AreAccepted D trees)
+HasCertificates D = ((text : List ℕ) × IsCertified D 1000000 text) ⊎ ((trees : List Tree) × AreAccepted D trees)
 
 -- What a page says of certificates: nothing, if each table has one; or lines that say why the search found none.
 abbrev pub IsVerdictOn : Doc → Option (List ℕ) → Type 0
 IsVerdictOn D None = HasCertificates D
-IsVerdictOn D (Some lines) = TellsWhyNone D 50000 lines
+IsVerdictOn D (Some lines) = TellsWhyNone D 1000000 lines
 
 -- The text is the page of a run of a document, with this title, and by these names of sections: its layout has the trains at the start, under
 -- table 0.

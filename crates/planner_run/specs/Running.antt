@@ -22,7 +22,7 @@ pub record IsOwnRun (input : List ℕ) (D : Doc) (run : Run) : Type 0 where
   pub document : Doc
   pub text : List ℕ
   pub is_read : doc_of input ≡ Ok document
-  pub is_certified : IsCertified document 50000 text
+  pub is_certified : IsCertified document 1000000 text
   pub is_run : IsSimulatedRun text D run
 
 -- The run is the one whose lines stand behind the document that the input begins with; or the input is a document alone, and the run its own.

@@ -14,7 +14,7 @@ use std::alloc::{AllocError, Global};
 use timed_reading::{Timed, cut, timed_document, timed_run};
 
 /// The most nodes of a certificate that is searched for.
-pub(crate) const MOST_NODES: u32 = 50_000;
+pub(crate) const MOST_NODES: u32 = 1_000_000;
 
 const UNTRUE: &str =
     "the document with certificates didn't pass its test; please report this document\n";
