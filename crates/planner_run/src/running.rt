@@ -53,6 +53,12 @@ pub(crate) fn find_run<W: Watcher>(
 fn refused_line(alloc: Global, refused: &DocRefused) -> Result<String, AllocError> {
     let mut line = String::from_str(alloc, "the document is refused: ")?;
     push_document(&mut line, refused)?;
+    line_of(line)
+}
+
+// Words as a line.
+fn line_of(words: String) -> Result<String, AllocError> {
+    let mut line = words;
     line.push_str("\n")?;
     Ok(line)
 }
@@ -63,7 +69,7 @@ fn given(alloc: Global, input: &[u8]) -> Result<Ran, AllocError>
 {
     match timed_run(alloc, input)? {
         Timed::Run { doc, run } => Ok(Ran::Given { doc, run }),
-        Timed::Fault(words) => Ok(Ran::Not(words)),
+        Timed::Fault(words) => Ok(Ran::Not(line_of(words)?)),
     }
 }
 
@@ -99,6 +105,6 @@ fn told(alloc: Global, doc: Doc, lines: &[u8]) -> Result<Ran, AllocError>
 {
     match timed_document(alloc, doc, lines)? {
         Timed::Run { doc, run } => Ok(Ran::Own { doc, run }),
-        Timed::Fault(words) => Ok(Ran::Not(words)),
+        Timed::Fault(words) => Ok(Ran::Not(line_of(words)?)),
     }
 }
