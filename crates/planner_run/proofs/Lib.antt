@@ -3,4 +3,5 @@ mod Protected
 mod Remarked
 mod Standing
 mod Suits
+mod Verdicts
 mod Weaker

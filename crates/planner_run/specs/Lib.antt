@@ -1,6 +1,7 @@
 pub mod Entering
 pub mod Certifying
 pub mod Answered
+pub mod Explaining
 pub mod Ordering
 pub mod Protecting
 pub mod Drawn

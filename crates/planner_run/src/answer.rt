@@ -10,7 +10,7 @@ use crate::linting::remarks;
 use crate::ordering::{add_orders, order_by_run};
 use crate::planning::plan;
 use crate::protecting::protect;
-use crate::reporting::report;
+use crate::reporting::{Asked, report};
 use crate::timing::{graph, timetable};
 use cert_search::Watcher;
 use plan_input::{PlanFile, Standing, document_for, is_document};
@@ -127,7 +127,15 @@ fn answer_for<W: Watcher>(
         Order::OrderByRun { seed, .. } => order_by_run(alloc, document, *seed),
         Order::Timetable { csv, .. } => timetable(alloc, document, *csv, watcher),
         Order::Graph { train, .. } => graph(alloc, document, *train, watcher),
-        Order::Report { title, .. } => report(alloc, document, names, title, watcher),
+        Order::Report { title, .. } => report(
+            alloc,
+            Asked {
+                input: document,
+                names,
+                title,
+            },
+            watcher,
+        ),
         Order::Layout { table, at, .. } => layout(alloc, document, names, table, *at),
     }
 }

@@ -1,6 +1,7 @@
 // Explanations of states and of lines.
 ghost use Rattle.std.specs.Prelude.{◌≡◌, IfOk, string_bytes};
-ghost use Rattle.planner_run.specs.Answered.{IfText, ExplainsAs, ExplainsPlaces, ExplainsPlacesIn, ExplainsWords, IsToldWithRun, TellsState};
+ghost use Rattle.planner_run.specs.Answered.{IfText};
+ghost use Rattle.planner_run.specs.Explaining.{ExplainsAs, ExplainsPlaces, ExplainsPlacesIn, ExplainsWords, IsToldWithRun, TellsState};
 
 use crate::Answer;
 use decimal_number::number_of;
@@ -81,7 +82,7 @@ fn with_run(
 {
     match explained {
         Explained::State(text) => if run {
-            add_run(alloc, doc, table, places, text)
+            Ok(Answer::Text(add_run(alloc, doc, table, &State::from(places), text)?.into_bytes()))
         } else {
             Ok(Answer::Text(text.into_bytes()))
         },
@@ -89,19 +90,19 @@ fn with_run(
     }
 }
 
-// The text on a state, and what is known of runs to it.
-fn add_run(
+/// The text on a state, and behind it what is known of runs to it.
+pub(crate) fn add_run(
     alloc: Global,
     doc: &Doc,
     table: u32,
-    places: Vec<u32>,
+    at: &State,
     mut text: String,
-) -> Result<Answer, AllocError>
-    ensures { IfOk result (IfText (IsToldWithRun doc.now table places.items (string_bytes text))) }
+) -> Result<String, AllocError>
+    ensures { IfOk result (λ told. IsToldWithRun doc.now table at.now (string_bytes text) (string_bytes told)) }
 {
-    let told = runs_told(alloc, doc, table, &State::from(places), MOST_STATES)?;
-    text.push_str(told.as_str())?;
-    Ok(Answer::Text(text.into_bytes()))
+    let run = runs_told(alloc, doc, table, at, MOST_STATES)?;
+    text.push_str(run.as_str())?;
+    Ok(text)
 }
 
 /// What a line of `ats` means for the document that the input is, by the names of the sections of each table.

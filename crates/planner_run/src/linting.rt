@@ -1,7 +1,8 @@
 // Remarks on documents.
-ghost use Rattle.std.specs.Prelude.{IfOk};
+ghost use Rattle.std.specs.Prelude.{◌≡◌, ◌++◌, IfOk, OnOk, flat_map, string_bytes};
 ghost use Rattle.document_lint.specs.Told.{AreRemarks, IsSoOf};
 ghost use Rattle.planner_run.specs.Answered.{IsLinted};
+ghost use Rattle.planner_run.specs.Reporting.{remark_line};
 
 use crate::Answer;
 use document_lint::{Remark, lint, lint_after};
@@ -38,13 +39,30 @@ pub(crate) fn remarks(
     Ok(Answer::Remarks(lines_of(alloc, &found)?))
 }
 
-// A line for each remark.
-fn lines_of(alloc: Global, remarks: &[Remark]) -> Result<String, AllocError> {
-    let mut lines = String::new(alloc);
+// Adds the line of a remark.
+fn push_line(out: &mut String, remark: &Remark) -> Result<(), AllocError>
+    ensures { OnOk result (string_bytes out.new ≡ string_bytes out.old ++ remark_line remark.now) }
+{
+    let place = remark.place.as_str();
+    let words = remark.words.as_str();
+    write!(out, "{place}: {words}\n")
+}
+
+// Adds a line for each remark.
+fn push_lines(out: &mut String, remarks: &[Remark]) -> Result<(), AllocError>
+    ensures { OnOk result (string_bytes out.new ≡ string_bytes out.old ++ flat_map remark_line remarks.now) }
+{
     for remark in remarks {
-        let place = remark.place.as_str();
-        let words = remark.words.as_str();
-        write!(lines, "{place}: {words}\n")?;
+        push_line(out, remark)?;
     }
+    Ok(())
+}
+
+/// A line for each remark.
+pub(crate) fn lines_of(alloc: Global, remarks: &[Remark]) -> Result<String, AllocError>
+    ensures { IfOk result (λ lines. string_bytes lines ≡ flat_map remark_line remarks.now) }
+{
+    let mut lines = String::new(alloc);
+    push_lines(&mut lines, remarks)?;
     Ok(lines)
 }

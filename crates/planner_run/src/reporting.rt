@@ -1,76 +1,231 @@
-// Pages of timed runs.
-ghost use Rattle.std.specs.Prelude.{◌≡◌, IfOk, option_map, string_bytes};
+// Pages.
+ghost use Rattle.std.specs.Prelude.{◌≡◌, ◌<◌, IfOk, length, option_map, string_bytes};
+ghost use Rattle.document_certificates.specs.Certified.{HasNone};
+ghost use Rattle.document_json.specs.Doc.{table_at};
+ghost use Rattle.rail_model.specs.State.{Legal};
 ghost use Rattle.timed_reading.specs.Runs.{IsToldRun};
 ghost use Rattle.planner_run.specs.Answered.{IfText};
-ghost use Rattle.planner_run.specs.Reporting.{IsReportOf, IsReportText, IsVerdictOn};
+ghost use Rattle.planner_run.specs.Reporting.{AreRemarksOn, IsDocumentIn, IsLayoutFor, IsOpenReportOf, IsReportOf, IsReportText, IsVerdictOn, SaysWhyNot, TellsPlaces, stuck_table};
 
 use crate::Answer;
 use crate::certifying::lines_on;
 use crate::drawing::picture_of;
+use crate::explaining::add_run;
+use crate::linting::lines_of;
 use crate::running::{MOST_NODES, Ran, find_run};
 use crate::timing::graph_text;
 use cert_search::{Effort, Watcher};
 use document_certificates::{Uncertified, certified_text};
-use document_json::{Doc, layout_of, names_of, start_of};
-use report_page::{Report, page};
+use document_json::{Doc, layout_of, names_of, start_of, table_of};
+use document_lint::lint;
+use rail_model::State;
+use refusal_sentences::sections_named;
+use report_page::{Report, Verdict, page};
 use run_timetable::Run;
+use state_sentences::{Scene, text_of};
 use std::alloc::{AllocError, Global};
+use timed_reading::cut;
 
-/// The page of a run, with this title, and by the names of the sections of each table.
+/// What a page is asked for: the input, the names of the sections of each table, and a title.
+#[derive(Clone, Copy)]
+pub(crate) struct Asked<'a> {
+    pub(crate) input: &'a [u8],
+    pub(crate) names: &'a [Vec<String>],
+    pub(crate) title: &'a str,
+}
+
+/// The page of a run, or of a document for which no certificates are found.
 pub(crate) fn report<W: Watcher>(
     alloc: Global,
-    input: &[u8],
-    names: &[Vec<String>],
-    title: &str,
+    asked: Asked<'_>,
     watcher: &W,
 ) -> Result<Answer, AllocError>
-    ensures { IfOk result (IfText (IsReportText input.now names.now title.now)) }
+    ensures { IfOk result (IfText (IsReportText asked.entry.input.now asked.entry.names.now asked.entry.title.now)) }
 {
-    match find_run(alloc, input, watcher)? {
+    match find_run(alloc, asked.input, watcher)? {
         Ran::Given { doc, run } => {
-            let why = verdict(alloc, &doc, watcher)?;
-            report_of(alloc, &doc, &run, names, title, why.as_deref())
+            let verdict = verdict_on(alloc, &doc, asked.names, watcher)?;
+            report_of(alloc, &doc, &run, asked, &verdict)
         }
-        Ran::Own { doc, run } => report_of(alloc, &doc, &run, names, title, None),
+        Ran::Own { doc, run } => report_of(alloc, &doc, &run, asked, &Verdict::Certified),
+        Ran::Open { doc, why } => open_report_of(alloc, &doc, &why, asked),
         Ran::Not(lines) => Ok(Answer::Wrong(lines)),
     }
 }
 
-// The page of a run of a document, with lines that say why it has no certificates, if it has none.
-fn report_of(
+// The page of a run of a document.
+fn report_of<'a>(
     alloc: Global,
-    doc: &Doc,
-    run: &Run,
-    names: &[Vec<String>],
-    title: &str,
-    uncertified: Option<&str>,
+    doc: &'a Doc,
+    run: &'a Run,
+    asked: Asked<'a>,
+    verdict: &'a Verdict,
 ) -> Result<Answer, AllocError>
     requires told { IsToldRun doc.now run.now }
-    requires verdict { IsVerdictOn doc.now (option_map (λ s. s.now) uncertified) }
-    ensures { IfOk result (IfText (IsReportOf doc.now names.now title.now run.now)) }
+    requires verdict { IsVerdictOn doc.now asked.names.now verdict.now }
+    ensures { IfOk result (IfText (IsReportOf asked.entry.input.now doc.now asked.entry.names.now asked.entry.title.now run.now)) }
 {
-    let layout = match picture_of(alloc, doc, names, 0, start_of(doc))? {
-        Answer::Text(layout) => layout,
+    let tracks = match picture_of(alloc, doc, asked.names, 0, start_of(doc))? {
+        Answer::Text(tracks) => tracks,
         other => return Ok(other),
     };
     let graph = graph_text(alloc, doc, run, None)?;
+    let remarks = remarks_on(alloc, asked.input, asked.names)?;
+    let played = Some(run);
+    let lines = remarks.as_deref();
     let shown = Report {
-        title,
-        uncertified,
-        layout: &layout,
+        title: asked.title,
+        verdict,
+        tracks: &tracks,
+        run: played,
         graph: &graph,
+        layout: layout_of(doc),
+        trains: names_of(doc),
+        table: table_of(doc, 0),
+        sections: sections_named(asked.names, 0),
+        remarks: lines,
     };
-    let text = page(alloc, &shown, layout_of(doc), names_of(doc), run)?;
-    Ok(Answer::Text(text))
+    Ok(Answer::Text(page(alloc, &shown)?))
 }
 
-// Why a document has no certificates, in lines, if searches found none.
-fn verdict<W: Watcher>(alloc: Global, doc: &Doc, watcher: &W) -> Result<Option<String>, AllocError>
-    ensures { IfOk result (λ why. IsVerdictOn doc.now (option_map string_bytes why)) }
+// The page of a document for which no certificates were found.
+fn open_report_of<'a>(
+    alloc: Global,
+    doc: &'a Doc,
+    why: &Uncertified,
+    asked: Asked<'a>,
+) -> Result<Answer, AllocError>
+    requires { HasNone doc.now 1000000 why.now }
+    ensures { IfOk result (IfText (IsOpenReportOf asked.entry.input.now doc.now asked.entry.names.now asked.entry.title.now why.now)) }
+{
+    let tracks = match layout_for(alloc, doc, asked.names, why)? {
+        Answer::Text(tracks) => tracks,
+        other => return Ok(other),
+    };
+    let verdict = why_not(alloc, doc, asked.names, why)?;
+    let remarks = remarks_on(alloc, asked.input, asked.names)?;
+    let table = table_in(why);
+    let played = None;
+    let lines = remarks.as_deref();
+    let shown = Report {
+        title: asked.title,
+        verdict: &verdict,
+        tracks: &tracks,
+        run: played,
+        graph: &[],
+        layout: layout_of(doc),
+        trains: names_of(doc),
+        table: table_of(doc, table),
+        sections: sections_named(asked.names, table),
+        remarks: lines,
+    };
+    Ok(Answer::Text(page(alloc, &shown)?))
+}
+
+// The table of which a state is stuck, or table 0.
+fn table_in(why: &Uncertified) -> u32
+    ensures { result ≡ stuck_table why.now }
+{
+    match why {
+        Uncertified::Stuck { table, .. } => *table,
+        Uncertified::GaveUp { .. } => 0,
+        Uncertified::Memory => 0,
+    }
+}
+
+// The layout with the trains where they are stuck, or at the start.
+fn layout_for(
+    alloc: Global,
+    doc: &Doc,
+    names: &[Vec<String>],
+    why: &Uncertified,
+) -> Result<Answer, AllocError>
+    ensures { IfOk result (IfText (IsLayoutFor doc.now names.now why.now)) }
+{
+    match why {
+        Uncertified::Stuck { table, at } => picture_of(alloc, doc, names, *table, at),
+        Uncertified::GaveUp { .. } => picture_of(alloc, doc, names, 0, start_of(doc)),
+        Uncertified::Memory => Err(AllocError),
+    }
+}
+
+// Whether certificates of a document are found.
+#[tactic(auto, using(crate::proofs::Verdicts::verdict_said))]
+fn verdict_on<W: Watcher>(
+    alloc: Global,
+    doc: &Doc,
+    names: &[Vec<String>],
+    watcher: &W,
+) -> Result<Verdict, AllocError>
+    ensures { IfOk result (IsVerdictOn doc.now names.now) }
 {
     match certified_text(alloc, doc, MOST_NODES, Effort::Usual, watcher) {
-        Ok(_) => Ok(None),
-        Err(Uncertified::Memory) => Err(AllocError),
-        Err(why) => Ok(Some(lines_on(alloc, doc, &why)?)),
+        Ok(_) => Ok(Verdict::Certified),
+        Err(why) => why_not(alloc, doc, names, &why),
     }
+}
+
+// Why no certificates were found.
+fn why_not(
+    alloc: Global,
+    doc: &Doc,
+    names: &[Vec<String>],
+    why: &Uncertified,
+) -> Result<Verdict, AllocError>
+    requires { HasNone doc.now 1000000 why.now }
+    ensures { IfOk result (SaysWhyNot doc.now names.now why.now) }
+{
+    match why {
+        Uncertified::Stuck { table, at } => {
+            Ok(Verdict::Stuck(stuck_lines(alloc, doc, names, *table, at)?))
+        }
+        Uncertified::GaveUp { .. } => Ok(Verdict::Undecided(lines_on(alloc, doc, why)?)),
+        Uncertified::Memory => Err(AllocError),
+    }
+}
+
+// What holds each train in a state, and what is known of runs to it.
+fn stuck_lines(
+    alloc: Global,
+    doc: &Doc,
+    names: &[Vec<String>],
+    table: u32,
+    at: &State,
+) -> Result<String, AllocError>
+    requires within { table < length doc.now.tables }
+    requires legal { Legal (table_at doc.now table) at.now }
+    ensures { IfOk result (λ lines. TellsPlaces doc.now names.now table at.now (string_bytes lines)) }
+{
+    let scene = Scene {
+        names: names_of(doc),
+        table: table_of(doc, table),
+        state: at,
+    };
+    let words = text_of(alloc, &scene, sections_named(names, table), table)?;
+    add_run(alloc, doc, table, at, words)
+}
+
+// The document of an input, which lines of a run may follow.
+fn document_in(input: &[u8]) -> &[u8]
+    ensures { IsDocumentIn input.now result.now }
+{
+    match cut(input) {
+        Some((document, _)) => document,
+        None => input,
+    }
+}
+
+// The remarks on the document of an input, in lines, if there are some.
+fn remarks_on(
+    alloc: Global,
+    input: &[u8],
+    names: &[Vec<String>],
+) -> Result<Option<String>, AllocError>
+    ensures { IfOk result (λ shown. AreRemarksOn input.now (option_map string_bytes shown)) }
+{
+    let found = lint(alloc, document_in(input), names)?;
+    if found.is_empty() {
+        return Ok(None);
+    }
+    Ok(Some(lines_of(alloc, &found)?))
 }

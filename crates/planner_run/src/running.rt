@@ -3,7 +3,6 @@ ghost use Rattle.std.specs.Prelude.{IfOk, Ok, ◌≡◌};
 ghost use Rattle.document_json.specs.Reading.{doc_of};
 ghost use Rattle.planner_run.specs.Running.{IsRan, IsRanBy, IsToldAs};
 
-use crate::certifying::lines_on;
 use ats_answers::{Failure, simulate_alone};
 use cert_search::{Effort, Watcher};
 use document_certificates::{Uncertified, certified_text};
@@ -26,6 +25,8 @@ pub(crate) enum Ran {
     Given { doc: Doc, run: Run },
     /// The document with certificates that were found, and its run by its travel times.
     Own { doc: Doc, run: Run },
+    /// No certificates of the document were found, for this reason.
+    Open { doc: Doc, why: Uncertified },
     /// There is no run, for this reason: lines.
     Not(String),
 }
@@ -43,7 +44,7 @@ pub(crate) fn find_run<W: Watcher>(
         return given(alloc, input);
     }
     match document(alloc, input) {
-        Ok(doc) => own(alloc, input, &doc, watcher),
+        Ok(doc) => own(alloc, input, doc, watcher),
         Err(DocRefused::Memory) => Err(AllocError),
         Err(refused) => Ok(Ran::Not(refused_line(alloc, &refused)?)),
     }
@@ -74,14 +75,14 @@ fn given(alloc: Global, input: &[u8]) -> Result<Ran, AllocError>
 }
 
 // The run of a document with certificates that are found by search.
-fn own<W: Watcher>(alloc: Global, input: &[u8], doc: &Doc, watcher: &W) -> Result<Ran, AllocError>
-    requires { doc_of input.now ≡ Ok doc.now }
+fn own<W: Watcher>(alloc: Global, input: &[u8], doc: Doc, watcher: &W) -> Result<Ran, AllocError>
+    requires { doc_of input.now ≡ Ok doc }
     ensures { IfOk result (IsRan input.now) }
 {
-    match certified_text(alloc, doc, MOST_NODES, Effort::Usual, watcher) {
+    match certified_text(alloc, &doc, MOST_NODES, Effort::Usual, watcher) {
         Ok(text) => own_of(alloc, &text),
         Err(Uncertified::Memory) => Err(AllocError),
-        Err(why) => Ok(Ran::Not(lines_on(alloc, doc, &why)?)),
+        Err(why) => Ok(Ran::Open { doc, why }),
     }
 }
 

@@ -5,6 +5,7 @@ ghost use Rattle.planner_run.specs.Answered.{IfText, IsGraphText, IsTimetableOf,
 ghost use Rattle.planner_run.specs.Drawn.{IsGraphOf};
 
 use crate::Answer;
+use crate::certifying::lines_on;
 use crate::running::{Ran, find_run};
 use cert_search::Watcher;
 use document_json::{Doc, layout_of, names_of};
@@ -26,6 +27,7 @@ pub(crate) fn timetable<W: Watcher>(
     match find_run(alloc, input, watcher)? {
         Ran::Given { doc, run } => timetable_of(alloc, &doc, &run, is_csv),
         Ran::Own { doc, run } => timetable_of(alloc, &doc, &run, is_csv),
+        Ran::Open { doc, why } => Ok(Answer::Wrong(lines_on(alloc, &doc, &why)?)),
         Ran::Not(lines) => Ok(Answer::Wrong(lines)),
     }
 }
@@ -55,6 +57,7 @@ pub(crate) fn graph<W: Watcher>(
     match find_run(alloc, input, watcher)? {
         Ran::Given { doc, run } => graph_of(alloc, &doc, &run, train),
         Ran::Own { doc, run } => graph_of(alloc, &doc, &run, train),
+        Ran::Open { doc, why } => Ok(Answer::Wrong(lines_on(alloc, &doc, &why)?)),
         Ran::Not(lines) => Ok(Answer::Wrong(lines)),
     }
 }

@@ -1,10 +1,13 @@
-//! The page of a run (HTML): whether its document has certificates, two pictures, the timetable, and a script that plays the run.
+//! A page (HTML) on a document: whether trains can block one another, the layout, the graph and the timetable of a run, a script that plays it,
+//! and remarks.
 #![tactic(auto)]
 
+mod cells;
 mod markup;
 mod script;
+mod sections;
 mod style;
 mod timetable;
 mod writing;
 
-pub use writing::{Report, page};
+pub use writing::{Report, Verdict, page};

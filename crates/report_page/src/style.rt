@@ -21,7 +21,7 @@ h2 { margin: 26px 0 8px; font-size: 19px; line-height: 1.3; }
 #verdict h2 { display: flex; gap: 10px; align-items: center; margin: 0; }
 #verdict h2::before { flex: none; width: 1.4em; border-radius: 50%; color: var(--paper); line-height: 1.4; text-align: center; }
 #verdict p { margin: 4px 0 0; }
-#verdict pre { margin: 8px 0 0; font: 13px/1.5 ui-monospace, Menlo, Consolas, monospace; white-space: pre-wrap; overflow-wrap: anywhere; }
+pre { margin: 8px 0 0; font: 13px/1.5 ui-monospace, Menlo, Consolas, monospace; white-space: pre-wrap; overflow-wrap: anywhere; }
 #verdict h2 { color: var(--bad); }
 #verdict h2::before { content: "!"; background: var(--bad); }
 #verdict.certified { border-color: var(--good); background: var(--good-card); }
@@ -34,6 +34,7 @@ h2 { margin: 26px 0 8px; font-size: 19px; line-height: 1.3; }
 #run > ul, #run::after { order: 2; }
 #graph { order: 3; }
 #timetable { order: 4; }
+#remarks { order: 5; }
 #run > div { position: sticky; top: 0; z-index: 2; display: flex; flex-wrap: wrap; gap: 8px; align-items: center; min-height: var(--bar); margin-top: 12px; background: var(--paper); border-bottom: 1px solid var(--line); }
 #run:not(:empty) + #layout > h2 { margin-top: 14px; }
 button, select { height: 38px; padding: 0 12px; border: 1px solid var(--line); border-radius: 6px; background: var(--card); color: var(--ink); font: inherit; white-space: nowrap; cursor: pointer; }

@@ -1,46 +1,15 @@
 // The timetable of a page.
 ghost use Rattle.std.specs.Prelude.{◌≡◌, ◌++◌, OnOk, flat_map};
-ghost use Rattle.run_timetable.specs.Csv.{number_text, place_text};
+ghost use Rattle.run_timetable.specs.Csv.{place_text};
 ghost use Rattle.run_timetable.specs.Timetable.{trains_of};
-ghost use Rattle.svg_text.specs.Text.{escape};
 ghost use Rattle.report_page.specs.Page as spec;
 
+use crate::cells::{push_number, push_words};
 use crate::markup::{Part, markup};
 use rail_model::{Layout, Names};
 use run_timetable::{Row, Run, point_name, rows_of, train_name};
 use std::alloc::{AllocError, Global};
-use svg_text::{push_escaped, push_raw};
-
-// Adds a cell with words.
-fn push_words(out: &mut Vec<u8>, words: &str) -> Result<(), AllocError>
-    ensures { OnOk result (out.new.items ≡ out.old.items ++ spec.cell (escape words.now)) }
-{
-    push_raw(out, "<td>")?;
-    push_escaped(out, words)?;
-    push_raw(out, "</td>")
-}
-
-// Adds the digits of a number, if there is one.
-fn push_digits(alloc: Global, out: &mut Vec<u8>, number: Option<u64>) -> Result<(), AllocError>
-    ensures { OnOk result (out.new.items ≡ out.old.items ++ number_text number) }
-{
-    match number {
-        Some(number) => {
-            let digits = format!(in alloc; "{number}")?;
-            push_raw(out, digits.as_str())
-        }
-        None => Ok(()),
-    }
-}
-
-// Adds a cell with a number, or an empty one.
-fn push_number(alloc: Global, out: &mut Vec<u8>, number: Option<u64>) -> Result<(), AllocError>
-    ensures { OnOk result (out.new.items ≡ out.old.items ++ spec.cell (number_text number)) }
-{
-    push_raw(out, "<td>")?;
-    push_digits(alloc, out, number)?;
-    push_raw(out, "</td>")
-}
+use svg_text::push_raw;
 
 // The name of a point, or a dash for a train that is out of the layout.
 fn place_name(layout: &Layout, point: Option<u32>) -> &str
@@ -130,5 +99,6 @@ pub(crate) fn push_timetable(
     ensures { OnOk result (out.new.items ≡ out.old.items ++ spec.timetable_text layout.now names.now run.now) }
 {
     push_raw(out, markup(Part::Timetable))?;
-    push_trains(alloc, out, layout, names, run)
+    push_trains(alloc, out, layout, names, run)?;
+    push_raw(out, markup(Part::AfterRows))
 }

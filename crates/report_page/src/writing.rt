@@ -4,21 +4,39 @@ ghost use Rattle.report_page.specs.Page as spec;
 
 use crate::markup::{Part, markup};
 use crate::script::SCRIPT;
+use crate::sections::push_sections;
 use crate::style::STYLE;
 use crate::timetable::push_timetable;
-use rail_model::{Layout, Names};
+use rail_model::{Layout, Names, Table};
 use run_timetable::Run;
 use std::alloc::{AllocError, Global};
 use svg_text::{push_escaped, push_raw};
 
-/// What a page shows beside a timetable: its title, lines that say why the document has no certificates, if it has none, and two pictures as
-/// SVG text.
+/// Whether trains can block one another.
+#[derive(Drop)]
+pub enum Verdict {
+    /// Each table has a certificate.
+    Certified,
+    /// A state is stuck, of which these lines tell.
+    Stuck(String),
+    /// Searches gave up, as these lines say.
+    Undecided(String),
+}
+
+/// What a page shows: its title, the verdict, the tracks as SVG text, a run if there is one with its graph as SVG text, the sections of a
+/// table by their names, and remarks in lines if there are some. Points and trains have the names of `layout` and `trains`.
 #[derive(Clone, Copy)]
 pub struct Report<'a> {
     pub title: &'a str,
-    pub uncertified: Option<&'a str>,
-    pub layout: &'a [u8],
+    pub verdict: &'a Verdict,
+    pub tracks: &'a [u8],
+    pub run: Option<&'a Run>,
     pub graph: &'a [u8],
+    pub layout: &'a Layout,
+    pub trains: &'a Names,
+    pub table: &'a Table,
+    pub sections: &'a [String],
+    pub remarks: Option<&'a str>,
 }
 
 // Adds what stands before the verdict.
@@ -33,31 +51,59 @@ fn push_head(out: &mut Vec<u8>, title: &str, style: &str) -> Result<(), AllocErr
     push_escaped(out, title)
 }
 
-// Adds whether the document has certificates.
-fn push_verdict(out: &mut Vec<u8>, uncertified: Option<&str>) -> Result<(), AllocError>
-    ensures { OnOk result (out.new.items ≡ out.old.items ++ spec.verdict_text uncertified.entry) }
+// Adds words behind a fixed part.
+fn push_words(out: &mut Vec<u8>, part: Part, words: &str) -> Result<(), AllocError>
+    ensures { OnOk result (out.new.items ≡ out.old.items ++ spec.words_text part words.now) }
 {
-    match uncertified {
-        None => push_raw(out, markup(Part::Certified)),
-        Some(lines) => {
-            push_raw(out, markup(Part::Uncertified))?;
-            push_escaped(out, lines)?;
-            push_raw(out, markup(Part::AfterLines))
-        }
+    push_raw(out, markup(part))?;
+    push_escaped(out, words)?;
+    push_raw(out, markup(Part::AfterWords))
+}
+
+// Adds the verdict.
+fn push_verdict(out: &mut Vec<u8>, verdict: &Verdict) -> Result<(), AllocError>
+    ensures { OnOk result (out.new.items ≡ out.old.items ++ spec.verdict_text verdict.now) }
+{
+    match verdict {
+        Verdict::Certified => push_raw(out, markup(Part::Certified)),
+        Verdict::Stuck(words) => push_words(out, Part::Stuck, words.as_str()),
+        Verdict::Undecided(words) => push_words(out, Part::Undecided, words.as_str()),
     }
 }
 
-// Adds the two pictures.
-fn push_pictures(out: &mut Vec<u8>, layout: &[u8], graph: &[u8]) -> Result<(), AllocError>
-    ensures { OnOk result (out.new.items ≡ out.old.items ++ spec.pictures_text layout.now graph.now) }
+// Adds a picture behind a fixed part.
+fn push_picture(out: &mut Vec<u8>, part: Part, picture: &[u8]) -> Result<(), AllocError>
+    ensures { OnOk result (out.new.items ≡ out.old.items ++ spec.picture_text part picture.now) }
 {
-    push_raw(out, markup(Part::Tracks))?;
-    out.extend_from_slice(layout)?;
-    push_raw(out, markup(Part::Graph))?;
-    out.extend_from_slice(graph)
+    push_raw(out, markup(part))?;
+    out.extend_from_slice(picture)?;
+    push_raw(out, markup(Part::AfterPicture))
 }
 
-// Adds what stands behind the timetable.
+// Adds the graph and the timetable of a run, if there is one.
+fn push_run(alloc: Global, out: &mut Vec<u8>, report: &Report<'_>) -> Result<(), AllocError>
+    ensures { OnOk result (out.new.items ≡ out.old.items ++ spec.run_text report.now) }
+{
+    match report.run {
+        Some(run) => {
+            push_picture(out, Part::Graph, report.graph)?;
+            push_timetable(alloc, out, report.layout, report.trains, run)
+        }
+        None => Ok(()),
+    }
+}
+
+// Adds remarks, if there are some.
+fn push_remarks(out: &mut Vec<u8>, remarks: Option<&str>) -> Result<(), AllocError>
+    ensures { OnOk result (out.new.items ≡ out.old.items ++ spec.remarks_text remarks.entry) }
+{
+    match remarks {
+        Some(lines) => push_words(out, Part::Remarks, lines),
+        None => Ok(()),
+    }
+}
+
+// Adds the script and the end of the page.
 fn push_end(out: &mut Vec<u8>, script: &str) -> Result<(), AllocError>
     ensures { OnOk result (out.new.items ≡ out.old.items ++ spec.end_text script.now) }
 {
@@ -72,31 +118,24 @@ fn page_with(
     style: &str,
     script: &str,
     report: &Report<'_>,
-    layout: &Layout,
-    names: &Names,
-    run: &Run,
 ) -> Result<Vec<u8>, AllocError>
-    ensures { IfOk result (λ text. text.items ≡ spec.page_text style.now script.now report.now layout.now names.now run.now) }
+    ensures { IfOk result (λ text. text.items ≡ spec.page_text style.now script.now report.now) }
 {
     let mut out = Vec::new(alloc);
     push_head(&mut out, report.title, style)?;
-    push_verdict(&mut out, report.uncertified)?;
-    push_pictures(&mut out, report.layout, report.graph)?;
-    push_timetable(alloc, &mut out, layout, names, run)?;
+    push_verdict(&mut out, report.verdict)?;
+    push_picture(&mut out, Part::Tracks, report.tracks)?;
+    push_run(alloc, &mut out, report)?;
+    push_sections(alloc, &mut out, report)?;
+    push_remarks(&mut out, report.remarks)?;
     push_end(&mut out, script)?;
     Ok(out)
 }
 
-/// The page of a run: one HTML file that needs nothing else. Words are escaped; the pictures stand in it as they are. Of its style and its
-/// script the contract says nothing.
-pub fn page(
-    alloc: Global,
-    report: &Report<'_>,
-    layout: &Layout,
-    names: &Names,
-    run: &Run,
-) -> Result<Vec<u8>, AllocError>
-    ensures { IfOk result (λ text. spec.IsPage report.now layout.now names.now run.now text.items) }
+/// The page: one HTML file that needs nothing else. Words are escaped; the pictures stand in it as they are. Of its style and its script the
+/// contract says nothing.
+pub fn page(alloc: Global, report: &Report<'_>) -> Result<Vec<u8>, AllocError>
+    ensures { IfOk result (λ text. spec.IsPage report.now text.items) }
 {
-    page_with(alloc, STYLE, SCRIPT, report, layout, names, run)
+    page_with(alloc, STYLE, SCRIPT, report)
 }
