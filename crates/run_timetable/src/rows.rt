@@ -60,7 +60,7 @@ pub fn rows_of(
 }
 
 /// The rows of a train of a run.
-pub(crate) fn rows_in(alloc: Global, run: &Run, train: u32) -> Result<Vec<Row>, AllocError>
+pub fn rows_in(alloc: Global, run: &Run, train: u32) -> Result<Vec<Row>, AllocError>
     ensures { IfOk result (λ rows. rows.items ≡ rows_of_train run.now train) }
 {
     rows_of(alloc, &run.steps, train, run.start(train))

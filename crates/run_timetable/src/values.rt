@@ -7,8 +7,8 @@ use crate::{Row, Run, point_name, train_name};
 use rail_model::{Layout, Names};
 use std::alloc::{AllocError, Global};
 
-// Adds a number, if there is one.
-fn push_number(out: &mut String, number: Option<u64>) -> Result<(), AllocError>
+/// Adds a number, if there is one.
+pub fn push_number(out: &mut String, number: Option<u64>) -> Result<(), AllocError>
     ensures { OnOk result (string_bytes out.new ≡ string_bytes out.old ++ spec.number_text number) }
 {
     match number {
@@ -18,7 +18,7 @@ fn push_number(out: &mut String, number: Option<u64>) -> Result<(), AllocError>
 }
 
 /// The name of a point, or a dash for a train that is out of the layout.
-pub(crate) fn place_name(layout: &Layout, point: Option<u32>) -> &str
+pub fn place_name(layout: &Layout, point: Option<u32>) -> &str
     ensures { result.now ≡ spec.place_text layout.now point }
 {
     match point {
@@ -58,8 +58,8 @@ fn push_rows(
     Ok(())
 }
 
-// Adds the rows of a train.
-fn push_train(
+/// Adds the rows of a train.
+pub fn push_train(
     alloc: Global,
     out: &mut String,
     layout: &Layout,
