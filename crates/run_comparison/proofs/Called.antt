@@ -1,5 +1,5 @@
 -- The place of a name among names, no two of which are the same.
-use Rattle.std.proofs.Common.{◌≡◌, ◌<◌, ℕ, Bool, false, List, [], length, Option, Some, None, IfSome, IfNone, get_or, position, bytes_eq, sym, ap, ◌∙◌, refl, arith}
+use Rattle.std.proofs.Common.{◌≡◌, ◌<◌, ℕ, List, [], length, Option, Some, None, IfSome, IfNone, get_or, position, bytes_eq, sym, ◌∙◌, arith}
 use Rattle.std.specs.Cmp.Lexicographic.{bytes_decides}
 use Rattle.std.proofs.lemmas.Bool.{false_from_ne_true}
 use Rattle.std.proofs.lemmas.List.{get_or_default}
@@ -12,9 +12,9 @@ called_at name names i formed within is =
     sym
     (position_is (bytes_eq name) names i [] within
     (λ k below. false_from_ne_true _ (λ equal.
-        let same : get_or names k [] ≡ get_or names i [] = sym ((bytes_decides name (get_or names k [])).0 equal) ∙ is in
-        let one : k ≡ i = formed.apart k i (omega arith) within same in
-        omega arith))
+    let same : get_or names k [] ≡ get_or names i [] = sym ((bytes_decides name (get_or names k [])).0 equal) ∙ is in
+    let one : k ≡ i = formed.apart k i (omega arith) within same in
+    omega arith))
     ((bytes_decides name (get_or names i [])).1 is))
 
 -- the name is nowhere
@@ -23,7 +23,7 @@ called_nowhere name names not_there =
     sym
     (position_past (bytes_eq name) names
     (λ k d lt. false_from_ne_true _ (λ equal.
-        not_there k lt ((bytes_decides name (get_or names k d)).0 equal ∙ get_or_default names k d [] lt))))
+    not_there k lt ((bytes_decides name (get_or names k d)).0 equal ∙ get_or_default names k d [] lt))))
 
 -- what is found by a search is the place of the name
 pub is_called : (name : List ℕ) (names : List (List ℕ)) (found : Option ℕ) → AreNames names

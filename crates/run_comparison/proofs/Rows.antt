@@ -5,7 +5,6 @@ use Rattle.std.specs.Fmt.{digits}
 use Rattle.rail_model.specs.Layout.{Layout}
 use Rattle.rail_model.specs.Names.{Names}
 use Rattle.run_timetable.specs.declared.rows.Row.{Row}
-use Rattle.run_comparison.specs.declared.times.Times.{Times}
 use Rattle.run_comparison.specs.Columns.{line_text, only_head, only_text, further_text, only_line, pair_text}
 use Rattle.run_comparison.specs.Csv.{cells, row_text}
 use Rattle.run_comparison.specs.Sides.{counterpart, same_train}

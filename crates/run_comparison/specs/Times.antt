@@ -1,5 +1,5 @@
 -- When trains end, and how long they wait in all.
-use Rattle.std.specs.Prelude.{ℕ, zero, suc, ◌+◌, ◌-◌, ◌^◌, max, min, List, fold, Option, Some, None, option_map, unwrap_or}
+use Rattle.std.specs.Prelude.{ℕ, zero, suc, ◌+◌, ◌-◌, ◌^◌, max, min, List, fold, Option, option_map, unwrap_or}
 use Rattle.run_timetable.specs.Timetable.{end_of, rows_in, trains_of, wait_of}
 use Rattle.run_timetable.specs.declared.rows.Row.{Row}
 use Rattle.run_timetable.specs.declared.run.Run.{Run}

@@ -52,7 +52,13 @@ fn push_line(
     };
     push_left(out, name, width)?;
     push_pair(alloc, out, ends, first.ends, second.map(|times| times.ends))?;
-    push_pair(alloc, out, waits, first.waits, second.map(|times| times.waits))?;
+    push_pair(
+        alloc,
+        out,
+        waits,
+        first.waits,
+        second.map(|times| times.waits),
+    )?;
     out.push_str("\n")
 }
 
@@ -69,7 +75,14 @@ fn push_train(
 {
     let times = train_times(alloc, first.run, train)?;
     let others = same_times(alloc, first, second, train)?;
-    push_line(alloc, out, width, train_name(first.names, train), times, others)
+    push_line(
+        alloc,
+        out,
+        width,
+        train_name(first.names, train),
+        times,
+        others,
+    )
 }
 
 // Adds the lines of all trains of the first run.
