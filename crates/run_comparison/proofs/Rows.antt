@@ -57,7 +57,8 @@ unfolding digits row_text cells
 alone = refl
 
 -- a line of columns: the train ends 3 ticks later, and waits 2 ticks less
-line : line_text 5 (codes "T0") (record { ends = 8; waits = 4 }) (Some (record { ends = 11; waits = 2 })) ≡ codes "T0        8    11     +3      4     2      -2\n"
+line : line_text 5 (codes "T0") (record { ends = 8; waits = 4 }) (Some (record { ends = 11; waits = 2 }))
+    ≡ codes "T0        8    11     +3      4     2      -2\n"
 unfolding digits line_text pair_text
 line = refl
 

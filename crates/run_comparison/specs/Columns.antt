@@ -1,5 +1,6 @@
 -- The comparison of two runs by trains, in columns.
-use Rattle.std.specs.Prelude.{ℕ, zero, suc, ◌-◌, ◌==◌, ◌&&◌, nat_lt, max, length, List, [], ◌∷◌, ◌++◌, codes, decimal, flat_map, Option, Some, None, option_map, if◌then◌else◌}
+use Rattle.std.specs.Prelude.{ℕ, zero, suc, ◌-◌, ◌==◌, ◌&&◌, nat_lt, max, length, List}
+use Rattle.std.specs.Prelude.{[], ◌∷◌, ◌++◌, codes, decimal, flat_map, Option, Some, None, option_map, if◌then◌else◌}
 use Rattle.rail_model.specs.Names.{Names, train_name}
 use Rattle.run_timetable.specs.Timetable.{trains_of}
 use Rattle.run_comparison.specs.declared.cells.Pair.{Pair}

@@ -1,5 +1,6 @@
 -- The comparison of two runs as comma-separated values.
-use Rattle.std.specs.Prelude.{ℕ, zero, suc, ◌+◌, ◌-◌, nat_lt, List, [], ◌∷◌, ◌++◌, codes, decimal, slice_get, Option, Some, None, if◌then◌else◌}
+use Rattle.std.specs.Prelude.{ℕ, zero, suc, ◌+◌, ◌-◌, nat_lt, List, []}
+use Rattle.std.specs.Prelude.{◌∷◌, ◌++◌, codes, decimal, slice_get, Option, Some, None, if◌then◌else◌}
 use Rattle.rail_model.specs.Layout.{Layout}
 use Rattle.rail_model.specs.Names.{Names, train_name}
 use Rattle.run_timetable.specs.Csv.{number_text, place_text}
@@ -62,4 +63,5 @@ trains_text first second (suc n) = trains_text first second n ++ train_text firs
 -- a row of headings, and the rows of all trains of the first run
 abbrev pub csv_text : Side → Side → List ℕ
 csv_text first second =
-    codes "train,point,arrives,arrives then,later,waits,waits then,longer\n" ++ trains_text first second (trains_of first.run.now.starts.items)
+    codes "train,point,arrives,arrives then,later,waits,waits then,longer\n"
+    ++ trains_text first second (trains_of first.run.now.starts.items)

@@ -1,5 +1,6 @@
 -- Which trains only one run has, and whether both runs are the same.
-use Rattle.std.specs.Prelude.{ℕ, zero, suc, Bool, true, false, ◌&&◌, bytes_eq, List, [], ◌∷◌, ◌++◌, Option, Some, None, is_none, if◌then◌else◌}
+use Rattle.std.specs.Prelude.{ℕ, zero, suc, Bool, true, false, ◌&&◌, bytes_eq}
+use Rattle.std.specs.Prelude.{List, [], ◌∷◌, ◌++◌, Option, Some, None, is_none, if◌then◌else◌}
 use Rattle.run_timetable.specs.Csv.{csv_train}
 use Rattle.run_timetable.specs.Timetable.{trains_of}
 use Rattle.run_comparison.specs.declared.sides.Side.{Side}

@@ -1,10 +1,10 @@
 // The comparison of two runs as comma-separated values.
 ghost use Rattle.std.specs.Prelude.{◌≡◌, ◌++◌, IfOk, OnOk, string_bytes};
 ghost use Rattle.run_comparison.specs.Csv as spec;
-ghost use Rattle.run_comparison.specs.Sides.{same_rows as rows_of_same};
 
 use crate::Side;
 use crate::sides::{counterpart, same_rows};
+use rail_model::{Layout, Names};
 use run_timetable::{Row, place_name, push_number, rows_in, train_name};
 use std::alloc::{AllocError, Global};
 
@@ -68,14 +68,15 @@ fn wait_at(row: Option<Row>) -> Option<u64>
 #[tactic(auto, unfolding(crate::specs::Csv::row_text))]
 fn push_row(
     out: &mut String,
-    side: Side<'_>,
+    layout: &Layout,
+    names: &Names,
     row: &Row,
     other: Option<Row>,
 ) -> Result<(), AllocError>
-    ensures { OnOk result (string_bytes out.new ≡ string_bytes out.old ++ spec.row_text side.entry.layout.now side.entry.names.now row.now other) }
+    ensures { OnOk result (string_bytes out.new ≡ string_bytes out.old ++ spec.row_text layout.now names.now row.now other) }
 {
-    let train = train_name(side.names, row.train);
-    let point = place_name(side.layout, row.point);
+    let train = train_name(names, row.train);
+    let point = place_name(layout, row.point);
     write!(out, "{train},{point}")?;
     push_cells(out, row.arrives, arrival_at(other))?;
     push_cells(out, row.wait(), wait_at(other))?;
@@ -95,7 +96,7 @@ fn push_row_beside(
     ensures { OnOk result (string_bytes out.new ≡ string_bytes out.old ++ spec.row_beside first.entry second.entry others.now k row.now) }
 {
     let other = counterpart(first, second, row, others.get(k).copied());
-    push_row(out, first, row, other)
+    push_row(out, first.layout, first.names, row, other)
 }
 
 // Adds rows, each beside the other row of its number.
