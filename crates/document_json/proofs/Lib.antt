@@ -19,3 +19,4 @@ pub mod MoreSections
 pub mod FormedDoc
 pub mod Offered
 pub mod KeptLemmas
+pub mod Retimed

@@ -75,7 +75,7 @@ module _ {X : Type 0} (f : DocTable → X → DocTable) (D : Doc) (xs : List X) 
   member-all found i done h = h ∙ ap (map put) (take_all i changed (omega (arith, done, length-each_with f D.tables xs same)))
 
   -- and where each is made, and the start is not refused, nothing is
-  changed-is-taken : (taken : IsTaken D) (none : X) → ((t : ℕ) → t < length D.tables → IsMade D.layout (length D.trains) D.version t (f (doc_table D t) (get_or xs t none)))
+  pub changed-is-taken : (taken : IsTaken D) (none : X) → ((t : ℕ) → t < length D.tables → IsMade D.layout (length D.trains) D.version t (f (doc_table D t) (get_or xs t none)))
       → start_refusal (f (doc_table D 0) (get_or xs 0 none)).table D.start ≡ None → IsTaken (record D { tables = changed })
   changed-is-taken taken none each start =
       let made = makes (members_in D) D taken in

@@ -9,3 +9,4 @@ pub mod Written
 pub mod Replaced
 pub mod Migrated
 pub mod Kept
+pub mod Retimed

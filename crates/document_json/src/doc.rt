@@ -91,6 +91,7 @@ impl Doc {
     ghost use Rattle.std.specs.Prelude.{◌≡◌, IfOk, map};
     ghost use Rattle.document_json.specs.Doc.{IsDoc};
     ghost use Rattle.document_json.specs.Keeps.{HasParts, doc_of_parts, untimed};
+    ghost use Rattle.document_json.specs.Retimed.{AreTimesOf, retimed};
 
     /// The document of these parts.
     pub(crate) fn new(
@@ -123,6 +124,18 @@ impl Doc {
         ensures formed { IsDoc self }
     {
         (self.frame, self.tables)
+    }
+
+    /// The document with other travel times, all else equal.
+    pub fn with_times(self, times: Times) -> Self
+        requires { AreTimesOf self times }
+        ensures { result ≡ retimed self times }
+    {
+        let (frame, tables) = self.into_parts();
+        Doc {
+            frame: frame.with_times(times),
+            tables,
+        }
     }
 }
 

@@ -2,6 +2,7 @@
 ghost use Rattle.std.specs.Prelude.{◌≡◌, ◌<◌, ◌≤◌, ℕ, IfOk, length, map};
 ghost use Rattle.document_json.specs.Doc.{IsDoc, names_of, times_of, doc_table};
 ghost use Rattle.document_json.specs.Keeps.{HasParts, IsTaken, doc_of_parts};
+ghost use Rattle.document_json.specs.Retimed.{AreTimesOf, retimed};
 
 use crate::doc::Untimed;
 use rail_model::{Layout, Names, State, Times};
@@ -118,5 +119,14 @@ impl Frame {
         ensures formed { IsDoc self.now }
     {
         &self.start
+    }
+    /// The frame of the document with other travel times, all else equal.
+    pub(crate) fn with_times(mut self, times: Times) -> Self
+        requires { AreTimesOf self times }
+        ensures frame { result ≡ retimed self times }
+        ensures formed { IsDoc result }
+    {
+        self.times = times;
+        self
     }
 }
