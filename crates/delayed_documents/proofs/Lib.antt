@@ -1,0 +1,2 @@
+pub mod LaterTimes
+mod Rows
