@@ -1,16 +1,16 @@
 -- The times of a document with a delay.
-use Rattle.std.proofs.Common.{◌≡◌, ◌≢◌, ◌∙◌, ℕ, ◌+◌, ◌<◌, ◌≤◌, true, false, List, [], ◌∷◌, Option, Some, None, length, map, get_or, set, drop, refl, sym, ap, ap₂, subst, arith, inl, inr}
+use Rattle.std.proofs.Common.{◌≡◌, ◌∙◌, ℕ, ◌+◌, ◌<◌, ◌≤◌, true, false, List, [], ◌∷◌, Option, Some, None, length, map, get_or, set, drop, refl, sym, ap, ap₂, subst, arith, inl, inr}
 use Rattle.std.proofs.lemmas.Bool.Decides.{eqb_tells}
 use Rattle.std.proofs.lemmas.List.{length-drop, length-map, length-set, get_or-map, get_or_default, get_or-set_same, get_or-set_other}
 use Rattle.std.proofs.lemmas.List.Quantifiers.{position-Some}
 use Rattle.rail_model.specs.Layout.{Layout}
 use Rattle.rail_model.specs.Table.{Table, Mission, mission, trains, last, last_of}
-use Rattle.rail_model.specs.Times.{AreTimes, time, train_times}
+use Rattle.rail_model.specs.Times.{AreTimes, time}
 use Rattle.document_json.specs.Doc.{Doc, DocTable, IsDoc, doc_table, table_at, times_of}
 use Rattle.document_json.specs.Replaced.{each_with}
 use Rattle.document_json.specs.Retimed.{AreTimesOf, retimed, retimed_table}
 use Rattle.document_json.proofs.FormedDoc.{no_table}
-use Rattle.delayed_documents.specs.Delayed.{Fits, IsFirstStep, first_step_to, is_called, longer, with_delay, with_delay_under, with_longer}
+use Rattle.delayed_documents.specs.Delayed.{FitsAll, IsFirstStep, first_step_to, is_called, longer, with_delay, with_delay_under, with_longer}
 use Rattle.delayed_documents.specs.declared.delay.Delay.{Delay}
 
 -- ---- a step to a point is a step of the way
@@ -108,7 +108,7 @@ retimed-is-delayed D i delay =
     (each-retimed (with_delay_under D.layout i delay)
     (λ t. longer-retimed i delay.ticks t (first_step_to D.layout delay.point.now (mission t.table i))) D.tables)
 
-module _ (D : Doc) (is : IsDoc D) (i : ℕ) (in_range : i < length D.trains) (delay : Delay) (fits : (t : ℕ) → t < length D.tables → Fits D i delay t) where
+module _ (D : Doc) (is : IsDoc D) (i : ℕ) (in_range : i < length D.trains) (delay : Delay) (fits : FitsAll D i delay) where
   abbrev times_at : DocTable → List (List ℕ)
   times_at t = (with_delay_under D.layout i delay t).times
 

@@ -54,6 +54,10 @@ with_delay D i delay = record D { tables = map (with_delay_under D.layout i dela
 abbrev pub Fits : Doc → ℕ → Delay → ℕ → Type 0
 Fits D i delay t = (k : ℕ) → IsFirstStep D i delay.point.now t k → time (times_of D) t i k + delay.ticks ≤ 1000
 
+-- So it does under each table.
+abbrev pub FitsAll : Doc → ℕ → Delay → Type 0
+FitsAll D i delay = (t : ℕ) → t < length D.tables → Fits D i delay t
+
 -- Train i is called so.
 abbrev pub IsTrain : Doc → ℕ → List ℕ → Type 0
 IsTrain D i name = (i < length D.trains) × (slice_index_or D.trains i [] ≡ name)
@@ -63,7 +67,7 @@ pub record IsDelayed (D : Doc) (delay : Delay) (E : Doc) : Type 0 where
   pub train : ℕ
   pub called : IsTrain D train delay.train.now
   pub leads : LeadsTo D train delay.point.now
-  pub fits : (t : ℕ) → t < length D.tables → Fits D train delay t
+  pub fits : FitsAll D train delay
   pub is : E ≡ with_delay D train delay
 
 -- ---- why there is none

@@ -1,7 +1,7 @@
 // Travel times with a delay.
-ghost use Rattle.std.specs.Prelude.{◌≡◌, ◌<◌, ◌≤◌, ◌+◌, ℕ, IfOk, length, map, slice_index};
+ghost use Rattle.std.specs.Prelude.{◌≡◌, ◌<◌, ◌≤◌, ◌+◌, IfOk, length, map, slice_index};
 ghost use Rattle.document_json.specs.Doc.{doc_table};
-ghost use Rattle.delayed_documents.specs.Delayed.{Fits, longer, with_delay_under};
+ghost use Rattle.delayed_documents.specs.Delayed.{Fits, FitsAll, longer, with_delay_under};
 
 use crate::Delay;
 use crate::steps::step_to;
@@ -61,7 +61,7 @@ pub(crate) fn times_with(
     delay: &Delay<'_>,
 ) -> Result<Times, AllocError>
     requires train { train < length doc.now.trains }
-    requires fits { (t : ℕ) → t < length doc.now.tables → Fits doc.now train delay.now t }
+    requires fits { FitsAll doc.now train delay.now }
     ensures { IfOk result (λ v. v ≡ map (λ t. (with_delay_under doc.now.layout train delay.now t).times) doc.now.tables) }
 {
     let mut found = Vec::new(alloc);

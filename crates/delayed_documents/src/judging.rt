@@ -1,7 +1,7 @@
 // Whether a train can come to a point later.
-ghost use Rattle.std.specs.Prelude.{◌≡◌, ◌<◌, ◌↔◌, ℕ, IsTrue, MatchOption, length};
+ghost use Rattle.std.specs.Prelude.{◌≡◌, ◌<◌, ◌↔◌, IsTrue, MatchOption, length};
 ghost use Rattle.document_json.specs.Doc.{IsDoc};
-ghost use Rattle.delayed_documents.specs.Delayed.{Fits, IsTooLong, IsTooLongUnder, LeadsTo};
+ghost use Rattle.delayed_documents.specs.Delayed.{Fits, FitsAll, IsTooLong, IsTooLongUnder, LeadsTo};
 
 use crate::Delay;
 use crate::steps::step_to;
@@ -45,7 +45,7 @@ fn too_long_under(doc: &Doc, table: u32, train: u32, delay: &Delay<'_>) -> Optio
 /// How long a train's step takes, if with the delay it would take too long, under the first such table.
 pub(crate) fn too_long(doc: &Doc, train: u32, delay: &Delay<'_>) -> Option<u32>
     requires { train < length doc.now.trains }
-    ensures { MatchOption result ((t : ℕ) → t < length doc.now.tables → Fits doc.now train delay.now t) (IsTooLong doc.now train delay.now) }
+    ensures { MatchOption result (FitsAll doc.now train delay.now) (IsTooLong doc.now train delay.now) }
 {
     for table in 0..tables_of(doc) {
         if let Some(takes) = too_long_under(doc, table, train, delay) {

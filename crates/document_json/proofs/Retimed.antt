@@ -1,6 +1,5 @@
 -- Documents with other travel times are taken.
-use Rattle.std.proofs.Common.{◌≡◌, ◌∙◌, ℕ, ◌<◌, ◌≤◌, List, [], ◌∷◌, None, length, map, get_or, refl, sym, ap, subst, arith}
-use Rattle.std.specs.Prelude.{nat_le, ◌&&◌}
+use Rattle.std.proofs.Common.{◌≡◌, ℕ, ◌<◌, ◌≤◌, List, [], ◌∷◌, None, length, map, get_or, refl, sym, ap, subst, arith}
 use Rattle.std.proofs.lemmas.Bool.Decides.{nat_tests}
 use Rattle.std.proofs.lemmas.List.{get_or_default}
 use Rattle.rail_model.specs.Layout.{Layout}
@@ -9,13 +8,13 @@ use Rattle.rail_model.specs.Table.{Table, trains, last}
 use Rattle.rail_model.specs.Times.{AreTimes}
 use Rattle.rail_model.specs.Turns.{first_below}
 use Rattle.rail_model.proofs.Firsts.{option_or-both, first_below-all}
-use Rattle.document_json.specs.Doc.{Doc, DocTable, doc_table, table_at}
+use Rattle.document_json.specs.Doc.{Doc, DocTable, table_at}
 use Rattle.document_json.specs.Keeps.{Untimed, untimed, timed, doc_of_parts, HasParts, IsTaken}
 use Rattle.document_json.specs.Members.{members_in}
 use Rattle.document_json.specs.Replaced.{each_with}
 use Rattle.document_json.specs.Retimed.{retimed, retimed_table, AreTimesOf}
 use Rattle.document_json.specs.Tables.{other_lists, bad_length, bad_time, bad_times, times_refusal}
-use Rattle.document_json.proofs.FormedDoc.{IsFormed, from, taken-is-formed}
+use Rattle.document_json.proofs.FormedDoc.{from, taken-is-formed}
 use Rattle.document_json.proofs.NamedLemmas.{of-version}
 use Rattle.document_json.proofs.Remade.{changed-is-taken}
 use Rattle.document_json.proofs.Taken.{makes}

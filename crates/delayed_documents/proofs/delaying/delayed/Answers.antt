@@ -1,7 +1,6 @@
-use Rattle.std.proofs.Common.{◌≡◌, ◌∙◌, ℕ, ◌<◌, List, length, sym, ap, subst, rules}
-use Rattle.document_json.specs.Doc.{Doc, IsDoc}
+use Rattle.std.proofs.Common.{◌∙◌, ◌<◌, length, sym, ap, subst, rules}
 use Rattle.document_json.specs.Retimed.{AreTimesOf, retimed}
-use Rattle.delayed_documents.specs.Delayed.{Fits, IsTrain, LeadsTo}
+use Rattle.delayed_documents.specs.Delayed.{IsTrain, LeadsTo}
 use Rattle.delayed_documents.proofs.LaterTimes.{delayed-are-times, retimed-is-delayed}
 use Rattle.delayed_documents.proofs.delaying.delayed.Goals as goal
 
