@@ -24,7 +24,8 @@ step-within L name way k h =
       | false ↦ omega (arith, below)
     ]
 
-module _ (D : Doc) (is : IsDoc D) (i : ℕ) (in_range : i < length D.trains) (name : List ℕ) (t k : ℕ) (first : IsFirstStep D i name t k) where
+module _ (D : Doc) (is : IsDoc D) (i : ℕ) (in_range : i < length D.trains) (name : List ℕ) (t k : ℕ)
+    (first : IsFirstStep D i name t k) where
   a_train : i < trains (table_at D t)
   a_train = omega (arith, in_range, is.trains t first.0)
 
@@ -65,7 +66,8 @@ module _ (T : Table) (times : List (List ℕ)) (i k ticks : ℕ) (are : AreTimes
     | inl e ↦ elim (eqb_tells n k) [
       | inl f ↦
           subst P
-          (sym (ap₂ (λ a b. get_or (get_or (set times i new) a []) b 1) e.1 f.1 ∙ ap (λ (l : List ℕ). get_or l k 1) own ∙ get_or-set_same steps k (get_or steps k 0 + ticks) 1 here))
+          (sym (ap₂ (λ a b. get_or (get_or (set times i new) a []) b 1) e.1 f.1 ∙ ap (λ (l : List ℕ). get_or l k 1) own
+          ∙ get_or-set_same steps k (get_or steps k 0 + ticks) 1 here))
           at
       | inr g ↦
           subst P
@@ -78,7 +80,8 @@ module _ (T : Table) (times : List (List ℕ)) (i k ticks : ℕ) (are : AreTimes
 
   lengths : (j : ℕ) → j < trains T → length (get_or (set times i new) j []) ≡ last T j
   lengths j lt = elim (eqb_tells j i) [
-    | inl e ↦ ap (λ a. length (get_or (set times i new) a [])) e.1 ∙ ap length own ∙ length-set steps k _ ∙ are.per_step i a_train ∙ ap (last T) (sym e.1)
+    | inl e ↦ ap (λ a. length (get_or (set times i new) a [])) e.1 ∙ ap length own ∙ length-set steps k _
+        ∙ are.per_step i a_train ∙ ap (last T) (sym e.1)
     | inr d ↦ ap length (get_or-set_other times i j new [] d.1) ∙ are.per_step j lt
   ]
 
@@ -86,14 +89,15 @@ module _ (T : Table) (times : List (List ℕ)) (i k ticks : ℕ) (are : AreTimes
   longer-are-times = record {
     one_each = length-set times i new ∙ are.one_each;
     per_step = lengths;
-    not_below = each (λ v. 1 ≤ v) (let low = are.not_below i k a_train a_step in omega (arith, low, get_or_default steps k 0 1 here)) are.not_below;
+    not_below = each (λ v. 1 ≤ v) (omega (arith, are.not_below i k a_train a_step, get_or_default steps k 0 1 here)) are.not_below;
     not_above = each (λ v. v ≤ 1000) fits are.not_above;
   }
 
 -- ---- the document
 
 -- a table with a delay differs in its times alone
-longer-retimed : (i ticks : ℕ) (t : DocTable) (step : Option ℕ) → retimed_table t (with_longer i ticks t step).times ≡ with_longer i ticks t step
+longer-retimed : (i ticks : ℕ) (t : DocTable) (step : Option ℕ)
+    → retimed_table t (with_longer i ticks t step).times ≡ with_longer i ticks t step
 longer-retimed i ticks t None = refl
 longer-retimed i ticks t (Some k) = refl
 
@@ -102,7 +106,8 @@ module _ (g : DocTable → DocTable) (kept : (t : DocTable) → retimed_table t 
   each-retimed [] = refl
   each-retimed (t ∷ ts) = ap₂ (λ (u : DocTable) (us : List DocTable). u ∷ us) (kept t) (each-retimed ts)
 
-pub retimed-is-delayed : (D : Doc) (i : ℕ) (delay : Delay) → retimed D (map (λ t. (with_delay_under D.layout i delay t).times) D.tables) ≡ with_delay D i delay
+pub retimed-is-delayed : (D : Doc) (i : ℕ) (delay : Delay)
+    → retimed D (map (λ t. (with_delay_under D.layout i delay t).times) D.tables) ≡ with_delay D i delay
 retimed-is-delayed D i delay =
     ap (λ (ts : List DocTable). record D { tables = ts })
     (each-retimed (with_delay_under D.layout i delay)
@@ -117,7 +122,8 @@ module _ (D : Doc) (is : IsDoc D) (i : ℕ) (in_range : i < length D.trains) (de
   with-step t None lt at = is.times t lt
   with-step t (Some k) lt at =
       let first : IsFirstStep D i delay.point.now t k = (lt, at) in
-      longer-are-times (table_at D t) (doc_table D t).times i k delay.ticks (is.times t lt) (a_train D is i in_range delay.point.now t k first)
+      longer-are-times (table_at D t) (doc_table D t).times i k delay.ticks (is.times t lt)
+      (a_train D is i in_range delay.point.now t k first)
       (a_step D is i in_range delay.point.now t k first)
       (omega (arith, fits t lt k first, time-is D is i in_range delay.point.now t k first))
 

@@ -13,10 +13,14 @@ layout = record {
   zones = 1;
 }
 
--- a train waits at C, and another goes this way
+-- T0 leaves the layout from C, and T1 goes this way
 abbrev table_of : List ℕ → List ℕ → DocTable
 table_of points times = record {
-  table = record { missions = record { points = 2 ∷ []; exits = true } ∷ record { points = points; exits = false } ∷ []; sections = []; connections = [] };
+  table = record {
+    missions = record { points = 2 ∷ []; exits = true } ∷ record { points = points; exits = false } ∷ [];
+    sections = [];
+    connections = [];
+  };
   after = 0;
   times = (1 ∷ []) ∷ times ∷ [];
   nodes = [];
@@ -27,7 +31,8 @@ document = record {
   version = 3;
   layout = layout;
   trains = codes "T0" ∷ codes "T1" ∷ [];
-  tables = table_of (0 ∷ 1 ∷ 2 ∷ []) (3 ∷ 4 ∷ []) ∷ table_of (0 ∷ 1 ∷ 2 ∷ 1 ∷ []) (5 ∷ 6 ∷ 7 ∷ []) ∷ table_of (2 ∷ 1 ∷ 0 ∷ []) (8 ∷ 9 ∷ []) ∷ [];
+  tables = table_of (0 ∷ 1 ∷ 2 ∷ []) (3 ∷ 4 ∷ []) ∷ table_of (0 ∷ 1 ∷ 2 ∷ 1 ∷ []) (5 ∷ 6 ∷ 7 ∷ [])
+      ∷ table_of (2 ∷ 1 ∷ 0 ∷ []) (8 ∷ 9 ∷ []) ∷ [];
   start = 0 ∷ 0 ∷ [];
 }
 

@@ -1,6 +1,5 @@
 // Whether a train can come to a point later.
 ghost use Rattle.std.specs.Prelude.{◌≡◌, ◌<◌, ◌↔◌, IsTrue, MatchOption, length};
-ghost use Rattle.document_json.specs.Doc.{IsDoc};
 ghost use Rattle.delayed_documents.specs.Delayed.{Fits, FitsAll, IsTooLong, IsTooLongUnder, LeadsTo};
 
 use crate::Delay;

@@ -1,8 +1,8 @@
 // The steps of trains.
-ghost use Rattle.std.specs.Prelude.{◌≡◌, ◌<◌, bytes_eq, drop, length, position};
+ghost use Rattle.std.specs.Prelude.{◌≡◌, ◌<◌, length};
 ghost use Rattle.rail_model.specs.Table.{mission};
 ghost use Rattle.document_json.specs.Doc.{IsDoc, table_at};
-ghost use Rattle.delayed_documents.specs.Delayed.{first_step_to, is_called, point_called};
+ghost use Rattle.delayed_documents.specs.Delayed.{first_step_to, point_called};
 
 use document_json::{Doc, layout_of, table_of};
 use rail_model::{Layout, Mission};

@@ -44,7 +44,8 @@ times-none t T times h =
     (λ k step.
     let here : k < last T i = omega (arith, step, h.per_step i lt) in
     let same = get_or_default steps k 1 0 step in
-    in_bounds t i k (get_or steps k 0) (subst (λ v. 1 ≤ v) same (h.not_below i k lt here)) (subst (λ v. v ≤ 1000) same (h.not_above i k lt here)))))
+    in_bounds t i k (get_or steps k 0) (subst (λ v. 1 ≤ v) same (h.not_below i k lt here))
+    (subst (λ v. v ≤ 1000) same (h.not_above i k lt here)))))
     refl))
 
 -- ---- the document
@@ -59,11 +60,14 @@ retimed-is-taken D times taken h =
     (x.0, x.1, record { due = x.2.due; table = x.2.table; times = times-none t (table_at D t) (get_or times t []) (h.each t lt) }))
     made.start
 
-timed-again : (ts : List Untimed) (xs ys : List (List (List ℕ))) → length ts ≡ length xs → length ts ≡ length ys → timed ts ys ≡ each_with retimed_table (timed ts xs) ys
+timed-again : (ts : List Untimed) (xs ys : List (List (List ℕ))) → length ts ≡ length xs → length ts ≡ length ys
+    → timed ts ys ≡ each_with retimed_table (timed ts xs) ys
 timed-again [] xs ys h k = refl
 timed-again (t ∷ ts) [] ys h k = absurd cc
 timed-again (t ∷ ts) (x ∷ xs) [] h k = absurd cc
-timed-again (t ∷ ts) (x ∷ xs) (y ∷ ys) h k = ap (λ (rest : List DocTable). record { table = t.table; after = t.after; times = y; nodes = t.nodes } ∷ rest) (timed-again ts xs ys (omega (arith, h)) (omega (arith, k)))
+timed-again (t ∷ ts) (x ∷ xs) (y ∷ ys) h k =
+    ap (λ (rest : List DocTable). record { table = t.table; after = t.after; times = y; nodes = t.nodes } ∷ rest)
+    (timed-again ts xs ys (omega (arith, h)) (omega (arith, k)))
 
 -- the parts with other times are those of the document with these times
 module _ (version : ℕ) (L : Layout) (N : Names) (ts : List Untimed) (xs ys : List (List (List ℕ))) (start : List ℕ)
@@ -90,11 +94,13 @@ module _ (version : ℕ) (L : Layout) (N : Names) (ts : List Untimed) (xs ys : L
     taken = taken;
   }
 
-untimed-again : (ts : List DocTable) (ys : List (List (List ℕ))) → length ys ≡ length ts → map untimed (each_with retimed_table ts ys) ≡ map untimed ts
+untimed-again : (ts : List DocTable) (ys : List (List (List ℕ))) → length ys ≡ length ts
+    → map untimed (each_with retimed_table ts ys) ≡ map untimed ts
 untimed-again [] ys h = refl
 untimed-again (t ∷ ts) [] h = absurd (omega (arith, h))
 untimed-again (t ∷ ts) (y ∷ ys) h = ap (λ (rest : List Untimed). untimed t ∷ rest) (untimed-again ts ys (omega (arith, h)))
 
 -- the tables without their times stay
-pub untimed-retimed : (D : Doc) (times : List (List (List ℕ))) → AreTimesOf D times → map untimed (retimed D times).tables ≡ map untimed D.tables
+pub untimed-retimed : (D : Doc) (times : List (List (List ℕ))) → AreTimesOf D times
+    → map untimed (retimed D times).tables ≡ map untimed D.tables
 untimed-retimed D times h = untimed-again D.tables times h.one_each
