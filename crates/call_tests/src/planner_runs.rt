@@ -152,4 +152,76 @@ end moves=6 tables=0 last=4
 ----
 a text with <h1>A &amp; B</h1>
 <section id="verdict" class="certified">
+====
+compare|--delay|T0=M+5
+{"version":1,"points":[["A",0],["M",0],["N",0],["B",0],["C",0],["D",0]],"links":[["A","M"],["M","N"],["N","B"],["C","N"],["M","D"]],"zones":1,"trains":["T0","T1"],"start":[0,0],"tables":[{"missions":[["A","M","N","B"],["C","N","M","D"]],"sections":[{"limit":1,"changes":[[0,1,0,-1],[0,1,0,-1]]}],"certificate":[[0,0,0],[0,1,0],[4,0],[0,1,2],[4,1],[4,0],[0,0,2],[0,1,0],[4,0],[0,1,2],[2,0],[4,0],[0,1,2],[4,1],[3]]}]}
+----
+train  ends  then  later  waits  then  longer
+T0        3     8     +5      0     0       0
+T1        5    10     +5      2     7      +5
+all       5    10     +5      2     7      +5
+====
+compare|--csv|--delay|T0=M+5
+{"version":1,"points":[["A",0],["M",0],["N",0],["B",0],["C",0],["D",0]],"links":[["A","M"],["M","N"],["N","B"],["C","N"],["M","D"]],"zones":1,"trains":["T0","T1"],"start":[0,0],"tables":[{"missions":[["A","M","N","B"],["C","N","M","D"]],"sections":[{"limit":1,"changes":[[0,1,0,-1],[0,1,0,-1]]}],"certificate":[[0,0,0],[0,1,0],[4,0],[0,1,2],[4,1],[4,0],[0,0,2],[0,1,0],[4,0],[0,1,2],[2,0],[4,0],[0,1,2],[4,1],[3]]}]}
+----
+train,point,arrives,arrives then,later,waits,waits then,longer
+T0,A,,,,0,0,0
+T0,M,1,6,5,0,0,0
+T0,N,2,7,5,0,0,0
+T0,B,3,8,5,,,
+T1,C,,,,2,7,5
+T1,N,3,8,5,0,0,0
+T1,M,4,9,5,0,0,0
+T1,D,5,10,5,,,
+====
+timetable|--csv|--delay|T1=N+7
+{"version":1,"points":[["A",0],["M",0],["N",0],["B",0],["C",0],["D",0]],"links":[["A","M"],["M","N"],["N","B"],["C","N"],["M","D"]],"zones":1,"trains":["T0","T1"],"start":[0,0],"tables":[{"missions":[["A","M","N","B"],["C","N","M","D"]],"sections":[{"limit":1,"changes":[[0,1,0,-1],[0,1,0,-1]]}],"certificate":[[0,0,0],[0,1,0],[4,0],[0,1,2],[4,1],[4,0],[0,0,2],[0,1,0],[4,0],[0,1,2],[2,0],[4,0],[0,1,2],[4,1],[3]]}]}
+----
+train,point,arrives,leaves,waits
+T0,A,,0,0
+T0,M,1,1,0
+T0,N,2,2,0
+T0,B,3,,
+T1,C,,2,2
+T1,N,10,10,0
+T1,M,11,11,0
+T1,D,12,,
+====
+compare|--delay|T9=M+5
+{"version":1,"points":[["A",0],["M",0],["N",0],["B",0],["C",0],["D",0]],"links":[["A","M"],["M","N"],["N","B"],["C","N"],["M","D"]],"zones":1,"trains":["T0","T1"],"start":[0,0],"tables":[{"missions":[["A","M","N","B"],["C","N","M","D"]],"sections":[{"limit":1,"changes":[[0,1,0,-1],[0,1,0,-1]]}],"certificate":[[0,0,0],[0,1,0],[4,0],[0,1,2],[4,1],[4,0],[0,0,2],[0,1,0],[4,0],[0,1,2],[2,0],[4,0],[0,1,2],[4,1],[3]]}]}
+----
+--delay: there is no train "T9"
+====
+graph|--delay|T0=C+5
+{"version":1,"points":[["A",0],["M",0],["N",0],["B",0],["C",0],["D",0]],"links":[["A","M"],["M","N"],["N","B"],["C","N"],["M","D"]],"zones":1,"trains":["T0","T1"],"start":[0,0],"tables":[{"missions":[["A","M","N","B"],["C","N","M","D"]],"sections":[{"limit":1,"changes":[[0,1,0,-1],[0,1,0,-1]]}],"certificate":[[0,0,0],[0,1,0],[4,0],[0,1,2],[4,1],[4,0],[0,0,2],[0,1,0],[4,0],[0,1,2],[2,0],[4,0],[0,1,2],[4,1],[3]]}]}
+----
+--delay: the way of T0 leads to no point "C"
+====
+report|--delay|T0=M+1000
+{"version":1,"points":[["A",0],["M",0],["N",0],["B",0],["C",0],["D",0]],"links":[["A","M"],["M","N"],["N","B"],["C","N"],["M","D"]],"zones":1,"trains":["T0","T1"],"start":[0,0],"tables":[{"missions":[["A","M","N","B"],["C","N","M","D"]],"sections":[{"limit":1,"changes":[[0,1,0,-1],[0,1,0,-1]]}],"certificate":[[0,0,0],[0,1,0],[4,0],[0,1,2],[4,1],[4,0],[0,0,2],[0,1,0],[4,0],[0,1,2],[2,0],[4,0],[0,1,2],[4,1],[3]]}]}
+----
+--delay: the step of T0 to M takes 1 ticks, and with the delay more than 1000
+====
+report|--title|Knot
+# A train waits for another one, which waits for a section that the first one has: a knot, and no circle by points.
+[[train]]
+name = "T0"
+route = ["A", "M", "N", "B"]
+
+[[train]]
+name = "T1"
+route = ["C", "N", "K", "D"]
+
+[[section]]
+name = "crossing"
+limit = 1
+points = ["M", "K"]
+----
+a text with <h2>Not certified: a state is stuck</h2>
+<pre>T0 is at M, place 1 of 3, and wants N: T1 is there
+====
+report
+{"version":1,"points":[["A",0],["M",0],["N",0],["B",0],["C",0],["D",0]],"links":[["A","M"],["M","N"],["N","B"],["C","N"],["M","D"]],"zones":1,"trains":["T0","T1"],"start":[0,0],"tables":[{"missions":[["A","M","N","B"],["C","N","M","D"]],"sections":[{"limit":1,"changes":[[0,1,0,-1],[0,1,0,-1]]}],"certificate":[[0,0,0],[0,1,0],[4,0],[0,1,2],[4,1],[4,0],[0,0,2],[0,1,0],[4,0],[0,1,2],[2,0],[4,0],[0,1,2],[4,1],[3]]}]}
+----
+a text with <tr><td>section 0</td><td>1</td><td><div><b>T0</b> M N</div><div><b>T1</b> N M</div></td></tr>
 "##;

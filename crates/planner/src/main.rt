@@ -1,4 +1,4 @@
-//! The program `planner`: its words, the standard streams, the files of `--before`, `--plan` and `--journal`, and progress on a
+//! The program `planner`: its words, the standard streams, the files of `--before`, `--with`, `--plan` and `--journal`, and progress on a
 //! terminal, handed to the calls of `planner_run`.
 #![tactic(auto)]
 
@@ -74,16 +74,17 @@ fn answer_with_plan(
     }
 }
 
-// Answers an order that names a file with a former document, and one with a plan or none.
+// Answers an order that names a file with a former document, or with another run, and one with a plan or none.
 fn answer_with_former(
     rt: &HostRuntime,
     order: &Order<'_>,
     path: &str,
+    stop: Stop,
     plan: Option<&str>,
 ) -> Status {
     match content(rt, path) {
         Some(former) => answer_with_plan(rt, order, Some(&former), plan),
-        None => end_unread(Stop::Former, &mut Writing::new(rt.stderr())),
+        None => end_unread(stop, &mut Writing::new(rt.stderr())),
     }
 }
 
@@ -104,7 +105,8 @@ fn answer_order(rt: &HostRuntime, order: &Order<'_>) -> Status {
         Order::Lint {
             before: Some(path),
             plan,
-        } => answer_with_former(rt, order, path, plan),
+        } => answer_with_former(rt, order, path, Stop::Former, plan),
+        Order::CompareWith { other, .. } => answer_with_former(rt, order, other, Stop::Other, None),
         Order::Lint { before: None, plan }
         | Order::ExplainState { plan, .. }
         | Order::ExplainLine { plan, .. }

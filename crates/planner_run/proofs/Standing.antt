@@ -5,7 +5,7 @@ use Rattle.plan_input.specs.declared.origin.PlanFile.{PlanFile}
 use Rattle.plan_input.specs.declared.standing.Standing.{Standing}
 use Rattle.plan_input.specs.declared.standing.Standing.TheVariants.{Itself, Named, Plan as AsDocument, Wrong as Mistaken}
 use Rattle.planner_words.specs.declared.orders.Order.{Order}
-use Rattle.planner_words.specs.declared.orders.Order.TheVariants.{Plan as OfPlan, ExplainState, ExplainLine, Lint, Certify, Protect, AddOrders, OrderByRun, Timetable, Graph, Report, Layout}
+use Rattle.planner_words.specs.declared.orders.Order.TheVariants.{Plan as OfPlan, ExplainState, ExplainLine, Lint, Certify, Protect, AddOrders, OrderByRun, Timetable, Graph, Report, CompareWith, CompareDelayed, Layout}
 use Rattle.planner_run.specs.Answered.{HasNotes, IsAnswerFor, IsMadeFor, IsSuspected, IsWorkedOn, WorksOn}
 use Rattle.planner_run.specs.declared.answer.Answer.{Answer}
 use Rattle.planner_run.specs.declared.answer.Answer.TheVariants.{Text, Remarks, Noted, Wrong}
@@ -22,9 +22,11 @@ works_on_standing (Certify budget effort) plan input text names other stands = s
 works_on_standing (Protect budget effort rounds output) plan input text names other stands = stands
 works_on_standing (AddOrders output) plan input text names other stands = stands
 works_on_standing (OrderByRun seed journal output) plan input text names other stands = stands
-works_on_standing (Timetable csv journal) plan input text names other stands = stands
-works_on_standing (Graph train journal) plan input text names other stands = stands
-works_on_standing (Report title journal) plan input text names other stands = stands
+works_on_standing (Timetable csv journal delay) plan input text names other stands = stands
+works_on_standing (Graph train journal delay) plan input text names other stands = stands
+works_on_standing (Report title journal delay) plan input text names other stands = stands
+works_on_standing (CompareWith csv file) plan input text names other stands = stands
+works_on_standing (CompareDelayed csv delay) plan input text names other stands = stands
 works_on_standing (Layout table at file) plan input text names other stands = stands
 
 pub worked_on : (order : Order) (plan : Option (Bor PlanFile)) (input : List ℕ) (found : Standing) → (order ≡ OfPlan → ⊥) → IsStanding plan input found →
@@ -45,9 +47,11 @@ notes_there (ExplainState table at run file) plan input document names works not
 notes_there (ExplainLine line file) plan input document names works notes = absurd notes
 notes_there (Lint before file) plan input document names works notes = absurd notes
 notes_there (Certify budget effort) plan input document names works notes = absurd notes
-notes_there (Timetable csv journal) plan input document names works notes = absurd notes
-notes_there (Graph train journal) plan input document names works notes = absurd notes
-notes_there (Report title journal) plan input document names works notes = absurd notes
+notes_there (Timetable csv journal delay) plan input document names works notes = absurd notes
+notes_there (Graph train journal delay) plan input document names works notes = absurd notes
+notes_there (Report title journal delay) plan input document names works notes = absurd notes
+notes_there (CompareWith csv file) plan input document names works notes = absurd notes
+notes_there (CompareDelayed csv delay) plan input document names works notes = absurd notes
 notes_there (Layout table at file) plan input document names works notes = absurd notes
 
 module _ (order : Order) (former : Option (Bor (List ℕ))) (plan : Option (Bor PlanFile)) (input document : List ℕ) (names : List (Vec (String Global) Global))

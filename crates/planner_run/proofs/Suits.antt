@@ -3,7 +3,7 @@ use Rattle.std.proofs.Common.{◌≡◌, ◌⊎◌, inl, inr, ℕ, List, Option,
 use Rattle.std.specs.Prelude.{Result, Ok, Err, IfOk, IfSome, string_bytes}
 use Rattle.planner_words.specs.declared.orders.Effort.{Effort}
 use Rattle.planner_words.specs.declared.orders.Order.{Order}
-use Rattle.planner_words.specs.declared.orders.Order.TheVariants.{Plan as OfPlan, ExplainState, ExplainLine, Lint, Certify, Protect, AddOrders, OrderByRun, Timetable, Graph, Report, Layout}
+use Rattle.planner_words.specs.declared.orders.Order.TheVariants.{Plan as OfPlan, ExplainState, ExplainLine, Lint, Certify, Protect, AddOrders, OrderByRun, Timetable, Graph, Report, CompareWith, CompareDelayed, Layout}
 use Rattle.planner_words.specs.declared.orders.Output.{Output}
 use Rattle.planner_run.specs.Answered.{AreWrongFor, HasNotes, IfText, IsAnswerFor, IsCertifying, IsLinted, IsOrdering, IsOrderingByRun, IsPlanning, IsProtecting, IsSuspected, IsTextFor}
 use Rattle.planner_run.specs.declared.answer.Answer.{Answer}
@@ -79,9 +79,11 @@ notes_of_read (ExplainState table at run file) left input is notes = absurd note
 notes_of_read (ExplainLine line file) left input is notes = absurd notes
 notes_of_read (Lint before file) left input is notes = absurd notes
 notes_of_read (Certify budget effort) left input is notes = absurd notes
-notes_of_read (Timetable csv journal) left input is notes = absurd notes
-notes_of_read (Graph train journal) left input is notes = absurd notes
-notes_of_read (Report title journal) left input is notes = absurd notes
+notes_of_read (Timetable csv journal delay) left input is notes = absurd notes
+notes_of_read (Graph train journal delay) left input is notes = absurd notes
+notes_of_read (Report title journal delay) left input is notes = absurd notes
+notes_of_read (CompareWith csv file) left input is notes = absurd notes
+notes_of_read (CompareDelayed csv delay) left input is notes = absurd notes
 notes_of_read (Layout table at file) left input is notes = absurd notes
 
 pub quiet_as_read : (Quiet : Type 0) (order : Order) (left : Option (List ℕ)) (input : List ℕ) → IfSome left (λ all. input ≡ all) →

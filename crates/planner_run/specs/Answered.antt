@@ -20,10 +20,11 @@ use Rattle.document_lint.specs.Told.{AreRemarks, IsSoOf}
 use Rattle.document_facts.specs.declared.fact.Fact.{Fact}
 use Rattle.document_lint.specs.declared.remark.Remark.{Remark}
 use Rattle.planner_words.specs.declared.orders.Order.{Order}
-use Rattle.planner_words.specs.declared.orders.Order.TheVariants.{Plan as OfPlan, ExplainState, ExplainLine, Lint, Certify, Protect, AddOrders, OrderByRun, Timetable, Graph, Report, Layout}
+use Rattle.planner_words.specs.declared.orders.Order.TheVariants.{Plan as OfPlan, ExplainState, ExplainLine, Lint, Certify, Protect, AddOrders, OrderByRun, Timetable, Graph, Report, CompareWith, CompareDelayed, Layout}
 use Rattle.ats_words.specs.declared.answering.WordsAnswered.{WordsAnswered}
 use Rattle.ats_words.specs.declared.answering.WordsAnswered.TheVariants.{Shown, Refused, Memory}
 use Rattle.planner_run.specs.Certifying.{IsCertifiedInput, IsCertifyingFault}
+use Rattle.planner_run.specs.Comparing.{IsComparison, IsComparisonWith}
 use Rattle.planner_run.specs.Drawn.{IsGraphOf, IsLayoutAt}
 use Rattle.planner_run.specs.Explaining.{ExplainsPlaces, ExplainsWords}
 use Rattle.planner_run.specs.Entering.{AsksForEntries, IsPut, output_of}
@@ -37,11 +38,11 @@ use Rattle.planner_run.specs.declared.top.Status.{Status}
 use Rattle.planner_run.specs.declared.top.Status.TheVariants.{Done, Faulty, Failed}
 use denote.Ref.{Bor}
 
--- The text is the graph of the input's run.
-pub record IsGraphText (input text : List ℕ) : Type 0 where
+-- The text is the graph of the input's run, with a delay if one is named.
+pub record IsGraphText (input : List ℕ) (delay : Option (Bor (List ℕ))) (text : List ℕ) : Type 0 where
   pub document : Doc
   pub run : Run
-  pub is_run : IsRunOf input document run
+  pub is_run : IsRunOf input delay document run
   pub is_graph : IsGraphOf document.layout run text
 
 -- The text is the timetable of a run of a document: as comma-separated values, exactly these. Of columns nothing is said.
@@ -49,11 +50,11 @@ abbrev pub IsTimetableOf : Doc → Run → Bool → List ℕ → Type 0
 IsTimetableOf D run true text = text ≡ csv_text D.layout (names_of D) run
 IsTimetableOf D run false text = Unit {0}
 
--- The text is the timetable of the input's run.
-pub record IsTimetableText (input : List ℕ) (is_csv : Bool) (text : List ℕ) : Type 0 where
+-- The text is the timetable of the input's run, with a delay if one is named.
+pub record IsTimetableText (input : List ℕ) (delay : Option (Bor (List ℕ))) (is_csv : Bool) (text : List ℕ) : Type 0 where
   pub document : Doc
   pub run : Run
-  pub is_run : IsRunOf input document run
+  pub is_run : IsRunOf input delay document run
   pub is_timetable : IsTimetableOf document run is_csv text
 
 -- The places are those that the words name; without words, those at the start.
@@ -94,14 +95,21 @@ WorksOn (Certify budget effort) plan input text names = Stands plan input text n
 WorksOn (Protect budget effort rounds output) plan input text names = Stands plan input text names
 WorksOn (AddOrders output) plan input text names = Stands plan input text names
 WorksOn (OrderByRun seed journal output) plan input text names = Stands plan input text names
-WorksOn (Timetable csv journal) plan input text names = Stands plan input text names
-WorksOn (Graph train journal) plan input text names = Stands plan input text names
-WorksOn (Report title journal) plan input text names = Stands plan input text names
+WorksOn (Timetable csv journal delay) plan input text names = Stands plan input text names
+WorksOn (Graph train journal delay) plan input text names = Stands plan input text names
+WorksOn (Report title journal delay) plan input text names = Stands plan input text names
+WorksOn (CompareWith csv file) plan input text names = Stands plan input text names
+WorksOn (CompareDelayed csv delay) plan input text names = Stands plan input text names
 WorksOn (Layout table at file) plan input text names = Stands plan input text names
 
 -- The order works on this; or these lines say what is wrong with its input, or with the plan beside it.
 abbrev pub IsWorkedOn : Order → Option (Bor PlanFile) → List ℕ → Standing → Type 0
 IsWorkedOn order plan input standing = IsStandingAs (WorksOn order plan input) (AreFaultsOf plan input) input standing
+
+-- This holds of the bytes of a file, which there are.
+abbrev pub IfThere : Option (Bor (List ℕ)) → (List ℕ → Type 0) → Type 0
+IfThere None Holds = ⊥
+IfThere (Some file) Holds = Holds file.now
 
 -- The text is what an order comes to on a document, with a former one for remarks, and with names of sections for explanations.
 abbrev pub IsTextFor : Order → Option (Bor (List ℕ)) → List ℕ → List (Vec (String Global) Global) → List ℕ → Type 0
@@ -113,9 +121,11 @@ IsTextFor (Certify budget effort) former input names text = IsCertifiedInput inp
 IsTextFor (Protect budget effort rounds output) former input names text = IsProtectedInput input text
 IsTextFor (AddOrders output) former input names text = IsOrderedInput input text
 IsTextFor (OrderByRun seed journal output) former input names text = IsInputByRun input text
-IsTextFor (Timetable csv journal) former input names text = IsTimetableText input csv text
-IsTextFor (Graph train journal) former input names text = IsGraphText input text
-IsTextFor (Report title journal) former input names text = IsReportText input names title.now text
+IsTextFor (Timetable csv journal delay) former input names text = IsTimetableText input delay csv text
+IsTextFor (Graph train journal delay) former input names text = IsGraphText input delay text
+IsTextFor (Report title journal delay) former input names text = IsReportText input delay names title.now text
+IsTextFor (CompareWith csv file) former input names text = IfThere former (λ other. IsComparisonWith input other csv text)
+IsTextFor (CompareDelayed csv delay) former input names text = IsComparison input input (Some delay) csv text
 IsTextFor (Layout table at file) former input names text = IsLayoutText input names table.now at text
 
 -- The text is what an order comes to on an input, with a plan beside it or without: on what it works on.
@@ -141,9 +151,11 @@ AreWrongFor (ExplainLine line file) input lines = Unit {0}
 AreWrongFor (Lint before file) input lines = Unit {0}
 AreWrongFor (AddOrders output) input lines = Unit {0}
 AreWrongFor (OrderByRun seed journal output) input lines = Unit {0}
-AreWrongFor (Timetable csv journal) input lines = Unit {0}
-AreWrongFor (Graph train journal) input lines = Unit {0}
-AreWrongFor (Report title journal) input lines = Unit {0}
+AreWrongFor (Timetable csv journal delay) input lines = Unit {0}
+AreWrongFor (Graph train journal delay) input lines = Unit {0}
+AreWrongFor (Report title journal delay) input lines = Unit {0}
+AreWrongFor (CompareWith csv file) input lines = Unit {0}
+AreWrongFor (CompareDelayed csv delay) input lines = Unit {0}
 AreWrongFor (Layout table at file) input lines = Unit {0}
 
 -- The lines are what is wrong with what an order works on.
@@ -184,9 +196,11 @@ AsksForRemarks (Certify budget effort) = ⊥
 AsksForRemarks (Protect budget effort rounds output) = ⊥
 AsksForRemarks (AddOrders output) = ⊥
 AsksForRemarks (OrderByRun seed journal output) = ⊥
-AsksForRemarks (Timetable csv journal) = ⊥
-AsksForRemarks (Graph train journal) = ⊥
-AsksForRemarks (Report title journal) = ⊥
+AsksForRemarks (Timetable csv journal delay) = ⊥
+AsksForRemarks (Graph train journal delay) = ⊥
+AsksForRemarks (Report title journal delay) = ⊥
+AsksForRemarks (CompareWith csv file) = ⊥
+AsksForRemarks (CompareDelayed csv delay) = ⊥
 AsksForRemarks (Layout table at file) = ⊥
 
 -- The input is a plan, and a point of it is probably mistyped.
@@ -206,9 +220,11 @@ HasNotes (ExplainState table at run file) read = ⊥
 HasNotes (ExplainLine line file) read = ⊥
 HasNotes (Lint before file) read = ⊥
 HasNotes (Certify budget effort) read = ⊥
-HasNotes (Timetable csv journal) read = ⊥
-HasNotes (Graph train journal) read = ⊥
-HasNotes (Report title journal) read = ⊥
+HasNotes (Timetable csv journal delay) read = ⊥
+HasNotes (Graph train journal delay) read = ⊥
+HasNotes (Report title journal delay) read = ⊥
+HasNotes (CompareWith csv file) read = ⊥
+HasNotes (CompareDelayed csv delay) read = ⊥
 HasNotes (Layout table at file) read = ⊥
 
 -- The answer has no remarks and no notes, and where it is a text, this holds of it.

@@ -2,7 +2,7 @@
 use Rattle.std.specs.Prelude.{◌≡◌, ℕ, Bool, true, false, IsTrue, List}
 use Rattle.plan_sections.specs.Entered.{IsEntered}
 use Rattle.planner_words.specs.declared.orders.Order.{Order}
-use Rattle.planner_words.specs.declared.orders.Order.TheVariants.{Plan as OfPlan, ExplainState, ExplainLine, Lint, Certify, Protect, AddOrders, OrderByRun, Timetable, Graph, Report, Layout}
+use Rattle.planner_words.specs.declared.orders.Order.TheVariants.{Plan as OfPlan, ExplainState, ExplainLine, Lint, Certify, Protect, AddOrders, OrderByRun, Timetable, Graph, Report, CompareWith, CompareDelayed, Layout}
 use Rattle.planner_words.specs.declared.orders.Output.{Output}
 use Rattle.planner_words.specs.declared.orders.Output.TheVariants.{Document, Plan, Entries}
 use Rattle.planner_run.specs.declared.entering.Given.{Given}
@@ -18,9 +18,11 @@ output_of (Certify budget effort) = Document
 output_of (Protect budget effort rounds output) = output
 output_of (AddOrders output) = output
 output_of (OrderByRun seed journal output) = output
-output_of (Timetable csv journal) = Document
-output_of (Graph train journal) = Document
-output_of (Report title journal) = Document
+output_of (Timetable csv journal delay) = Document
+output_of (Graph train journal delay) = Document
+output_of (Report title journal delay) = Document
+output_of (CompareWith csv file) = Document
+output_of (CompareDelayed csv delay) = Document
 output_of (Layout table at file) = Document
 
 -- whether entries are to be written, with the plan or alone

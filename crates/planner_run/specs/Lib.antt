@@ -1,5 +1,6 @@
 pub mod Entering
 pub mod Certifying
+pub mod Comparing
 pub mod Answered
 pub mod Explaining
 pub mod Ordering

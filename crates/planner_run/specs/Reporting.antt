@@ -22,6 +22,7 @@ use Rattle.planner_run.specs.Certifying.{gave_up_words}
 use Rattle.planner_run.specs.Drawn.{IsGraphOf, IsLayoutAt}
 use Rattle.planner_run.specs.Explaining.{IsToldWithRun}
 use Rattle.planner_run.specs.Running.{IsRunOf}
+use denote.Ref.{Bor}
 
 -- a line for a remark
 abbrev pub remark_line : Remark → List ℕ
@@ -108,11 +109,11 @@ pub record IsReportOf (input : List ℕ) (D : Doc) (names : List (Vec (String Gl
   pub are_remarks : AreRemarksOn input (option_map (λ s. s.now) shown.remarks)
   pub is_page : IsPage shown text
 
--- The text is the page of the input's run.
-pub record IsRunReport (input : List ℕ) (names : List (Vec (String Global) Global)) (title text : List ℕ) : Type 0 where
+-- The text is the page of the input's run, with a delay if one is named.
+pub record IsRunReport (input : List ℕ) (delay : Option (Bor (List ℕ))) (names : List (Vec (String Global) Global)) (title text : List ℕ) : Type 0 where
   pub document : Doc
   pub run : Run
-  pub is_run : IsRunOf input document run
+  pub is_run : IsRunOf input delay document run
   pub is_report : IsReportOf input document names title run text
 
 -- The text is the page of a document for which no certificates were found, and so no run: it says why.
@@ -135,5 +136,5 @@ pub record IsOpenReport (input : List ℕ) (names : List (Vec (String Global) Gl
   pub is_report : IsOpenReportOf input document names title why text
 
 -- The text is the page of the input: of its run; or of a document without certificates.
-abbrev pub IsReportText : List ℕ → List (Vec (String Global) Global) → List ℕ → List ℕ → Type 0
-IsReportText input names title text = IsRunReport input names title text ⊎ IsOpenReport input names title text
+abbrev pub IsReportText : List ℕ → Option (Bor (List ℕ)) → List (Vec (String Global) Global) → List ℕ → List ℕ → Type 0
+IsReportText input delay names title text = IsRunReport input delay names title text ⊎ IsOpenReport input names title text

@@ -3,9 +3,10 @@ ghost use Rattle.std.specs.Prelude.{IfOk};
 ghost use Rattle.planner_run.specs.Answered.{IsAnswerFor, IsAnswerTo, IsMadeFor, IsWorkedOn};
 
 use crate::certifying::certify;
+use crate::comparing::{compare, compare_with};
 use crate::drawing::layout;
 use crate::entering::{Given, asks_for_entries, put};
-use crate::explaining::{line as explain_line, state as explain_state};
+use crate::explaining::{line as explain_line, state as explain_state, wrong};
 use crate::linting::remarks;
 use crate::ordering::{add_orders, order_by_run};
 use crate::planning::plan;
@@ -44,6 +45,8 @@ fn standing_for(
         _ => document_for(alloc, input, plan),
     }
 }
+
+const NO_OTHER: &str = "the file of --with isn't there\n";
 
 const NO_PLAN: &str =
     "--into and --entries go with a plan, and the input is a document, which begins with a brace\n";
@@ -125,17 +128,25 @@ fn answer_for<W: Watcher>(
         } => protect(alloc, document, *budget, *effort, *rounds, watcher),
         Order::AddOrders { .. } => add_orders(alloc, document),
         Order::OrderByRun { seed, .. } => order_by_run(alloc, document, *seed),
-        Order::Timetable { csv, .. } => timetable(alloc, document, *csv, watcher),
-        Order::Graph { train, .. } => graph(alloc, document, *train, watcher),
-        Order::Report { title, .. } => report(
+        Order::Timetable { csv, delay, .. } => timetable(alloc, document, *delay, *csv, watcher),
+        Order::Graph { train, delay, .. } => graph(alloc, document, *delay, *train, watcher),
+        Order::Report { title, delay, .. } => report(
             alloc,
             Asked {
                 input: document,
+                delay: *delay,
                 names,
                 title,
             },
             watcher,
         ),
+        Order::CompareWith { csv, .. } => match former {
+            Some(other) => compare_with(alloc, document, other, *csv, watcher),
+            None => wrong(alloc, NO_OTHER),
+        },
+        Order::CompareDelayed { csv, delay } => {
+            compare(alloc, document, document, Some(*delay), *csv, watcher)
+        }
         Order::Layout { table, at, .. } => layout(alloc, document, names, table, *at),
     }
 }

@@ -3,6 +3,7 @@
 
 mod answer;
 mod certifying;
+mod comparing;
 mod drawing;
 mod entering;
 mod explaining;

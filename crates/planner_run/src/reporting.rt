@@ -26,10 +26,11 @@ use state_sentences::{Scene, text_of};
 use std::alloc::{AllocError, Global};
 use timed_reading::cut;
 
-/// What a page is asked for: the input, the names of the sections of each table, and a title.
+/// What a page is asked for: the input, a delay if there is one, the names of the sections of each table, and a title.
 #[derive(Clone, Copy)]
 pub(crate) struct Asked<'a> {
     pub(crate) input: &'a [u8],
+    pub(crate) delay: Option<&'a str>,
     pub(crate) names: &'a [Vec<String>],
     pub(crate) title: &'a str,
 }
@@ -40,9 +41,9 @@ pub(crate) fn report<W: Watcher>(
     asked: Asked<'_>,
     watcher: &W,
 ) -> Result<Answer, AllocError>
-    ensures { IfOk result (IfText (IsReportText asked.entry.input.now asked.entry.names.now asked.entry.title.now)) }
+    ensures { IfOk result (IfText (IsReportText asked.entry.input.now asked.entry.delay asked.entry.names.now asked.entry.title.now)) }
 {
-    match find_run(alloc, asked.input, watcher)? {
+    match find_run(alloc, asked.input, asked.delay, watcher)? {
         Ran::Given { doc, run } => {
             let verdict = verdict_on(alloc, &doc, asked.names, watcher)?;
             report_of(alloc, &doc, &run, asked, &verdict)

@@ -5,8 +5,7 @@ ghost use Rattle.planner_run.specs.Answered.{IfText, IsGraphText, IsTimetableOf,
 ghost use Rattle.planner_run.specs.Drawn.{IsGraphOf};
 
 use crate::Answer;
-use crate::certifying::lines_on;
-use crate::running::{Ran, find_run};
+use crate::running::{Found, run_in};
 use cert_search::Watcher;
 use document_json::{Doc, layout_of, names_of};
 use rail_model::Names;
@@ -19,16 +18,15 @@ use train_graph::train_graph;
 pub(crate) fn timetable<W: Watcher>(
     alloc: Global,
     input: &[u8],
+    delay: Option<&str>,
     is_csv: bool,
     watcher: &W,
 ) -> Result<Answer, AllocError>
-    ensures { IfOk result (IfText (IsTimetableText input.now is_csv)) }
+    ensures { IfOk result (IfText (IsTimetableText input.now delay.entry is_csv)) }
 {
-    match find_run(alloc, input, watcher)? {
-        Ran::Given { doc, run } => timetable_of(alloc, &doc, &run, is_csv),
-        Ran::Own { doc, run } => timetable_of(alloc, &doc, &run, is_csv),
-        Ran::Open { doc, why } => Ok(Answer::Wrong(lines_on(alloc, &doc, &why)?)),
-        Ran::Not(lines) => Ok(Answer::Wrong(lines)),
+    match run_in(alloc, input, delay, watcher)? {
+        Found::Run { doc, run } => timetable_of(alloc, &doc, &run, is_csv),
+        Found::None(lines) => Ok(Answer::Wrong(lines)),
     }
 }
 
@@ -49,16 +47,15 @@ fn timetable_of(alloc: Global, doc: &Doc, run: &Run, is_csv: bool) -> Result<Ans
 pub(crate) fn graph<W: Watcher>(
     alloc: Global,
     input: &[u8],
+    delay: Option<&str>,
     train: Option<&str>,
     watcher: &W,
 ) -> Result<Answer, AllocError>
-    ensures { IfOk result (IfText (IsGraphText input.now)) }
+    ensures { IfOk result (IfText (IsGraphText input.now delay.entry)) }
 {
-    match find_run(alloc, input, watcher)? {
-        Ran::Given { doc, run } => graph_of(alloc, &doc, &run, train),
-        Ran::Own { doc, run } => graph_of(alloc, &doc, &run, train),
-        Ran::Open { doc, why } => Ok(Answer::Wrong(lines_on(alloc, &doc, &why)?)),
-        Ran::Not(lines) => Ok(Answer::Wrong(lines)),
+    match run_in(alloc, input, delay, watcher)? {
+        Found::Run { doc, run } => graph_of(alloc, &doc, &run, train),
+        Found::None(lines) => Ok(Answer::Wrong(lines)),
     }
 }
 

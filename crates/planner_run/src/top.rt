@@ -35,6 +35,8 @@ pub enum Stop {
     Words,
     /// The file of a former document can't be read, or is too long.
     Former,
+    /// The file of the other run can't be read, or is too long.
+    Other,
     /// The file of a run can't be read, or is too long.
     Journal,
     /// The file of a plan can't be read, or is too long.
@@ -184,6 +186,7 @@ pub fn end_unread<E: Sink>(why: Stop, err: &mut E) -> Status
             "planner: the words of the command line can't be read\n",
         ),
         Stop::Former => failed(err, "planner: the file of --before can't be read\n"),
+        Stop::Other => failed(err, "planner: the file of --with can't be read\n"),
         Stop::Journal => failed(err, "planner: the file of --journal can't be read\n"),
         Stop::Plan => failed(err, "planner: the file of --plan can't be read\n"),
     }

@@ -15,7 +15,7 @@ use Rattle.planner_words.specs.Named.{AsksFor, IsEffort, IsOutput, budget_in, is
 use Rattle.planner_words.specs.declared.orders.Output.{Output}
 use Rattle.planner_words.specs.declared.orders.Output.TheVariants.{Document as OfDocument, Plan as OfPlan, Entries as OfEntries}
 use Rattle.planner_words.specs.declared.orders.Order.{Order}
-use Rattle.planner_words.specs.declared.orders.Order.TheVariants.{Plan, ExplainState, ExplainLine, Lint, Certify, Protect, AddOrders, OrderByRun, Timetable, Graph, Report, Layout}
+use Rattle.planner_words.specs.declared.orders.Order.TheVariants.{Plan, ExplainState, ExplainLine, Lint, Certify, Protect, AddOrders, OrderByRun, Timetable, Graph, Report, CompareWith, CompareDelayed, Layout}
 use Rattle.ats_words.specs.declared.answering.WordsAnswered.{WordsAnswered}
 use Rattle.ats_words.specs.declared.answering.WordsAnswered.TheVariants.{Shown, Refused, Memory}
 
@@ -65,10 +65,29 @@ none_explained given no_places no_line (Certify budget effort) asked = differ _ 
 none_explained given no_places no_line (Protect budget effort rounds output) asked = differ _ _ refl asked.0
 none_explained given no_places no_line (AddOrders output) asked = differ _ _ refl asked.0
 none_explained given no_places no_line (OrderByRun seed journal output) asked = differ _ _ refl asked.0
-none_explained given no_places no_line (Timetable csv journal) asked = differ _ _ refl asked.0
-none_explained given no_places no_line (Graph train journal) asked = differ _ _ refl asked.0
-none_explained given no_places no_line (Report title journal) asked = differ _ _ refl asked.0
+none_explained given no_places no_line (Timetable csv journal delay) asked = differ _ _ refl asked.0
+none_explained given no_places no_line (Graph train journal delay) asked = differ _ _ refl asked.0
+none_explained given no_places no_line (Report title journal delay) asked = differ _ _ refl asked.0
+none_explained given no_places no_line (CompareWith csv other) asked = differ _ _ refl asked.0
+none_explained given no_places no_line (CompareDelayed csv delay) asked = differ _ _ refl asked.0
 none_explained given no_places no_line (Layout table at plan) asked = differ _ _ refl asked.0
+
+-- the command `compare` asks for nothing without another run and without a delay
+pub none_compared : (given : List Row) → None ≡ first_of (codes "with") given → None ≡ first_of (codes "delay") given → AsksForNone (Some (codes "compare", given))
+none_compared given no_other no_delay Plan asked = differ _ _ refl asked.0
+none_compared given no_other no_delay (ExplainState table at run plan) asked = differ _ _ refl asked.0
+none_compared given no_other no_delay (ExplainLine line plan) asked = differ _ _ refl asked.0
+none_compared given no_other no_delay (Lint before plan) asked = differ _ _ refl asked.0
+none_compared given no_other no_delay (Certify budget effort) asked = differ _ _ refl asked.0
+none_compared given no_other no_delay (Protect budget effort rounds output) asked = differ _ _ refl asked.0
+none_compared given no_other no_delay (AddOrders output) asked = differ _ _ refl asked.0
+none_compared given no_other no_delay (OrderByRun seed journal output) asked = differ _ _ refl asked.0
+none_compared given no_other no_delay (Timetable csv journal delay) asked = differ _ _ refl asked.0
+none_compared given no_other no_delay (Graph train journal delay) asked = differ _ _ refl asked.0
+none_compared given no_other no_delay (Report title journal delay) asked = differ _ _ refl asked.0
+none_compared given no_other no_delay (CompareWith csv other) asked = let found : Some other.now ≡ None = asked.1.1 ∙ sym no_other in cc
+none_compared given no_other no_delay (CompareDelayed csv delay) asked = let found : Some delay.now ≡ None = asked.1.2 ∙ sym no_delay in cc
+none_compared given no_other no_delay (Layout table at plan) asked = differ _ _ refl asked.0
 
 -- an order of the command `certify` has its values
 asks_to_certify : (given : List Row) (order : Order) → AsksFor order (codes "certify", given) → IsCertifying given order
@@ -80,9 +99,11 @@ asks_to_certify given (Certify budget effort) asked = record { nodes = budget; e
 asks_to_certify given (Protect budget effort rounds output) asked = absurd (differ _ _ refl asked.0)
 asks_to_certify given (AddOrders output) asked = absurd (differ _ _ refl asked.0)
 asks_to_certify given (OrderByRun seed journal output) asked = absurd (differ _ _ refl asked.0)
-asks_to_certify given (Timetable csv journal) asked = absurd (differ _ _ refl asked.0)
-asks_to_certify given (Graph train journal) asked = absurd (differ _ _ refl asked.0)
-asks_to_certify given (Report title journal) asked = absurd (differ _ _ refl asked.0)
+asks_to_certify given (Timetable csv journal delay) asked = absurd (differ _ _ refl asked.0)
+asks_to_certify given (Graph train journal delay) asked = absurd (differ _ _ refl asked.0)
+asks_to_certify given (Report title journal delay) asked = absurd (differ _ _ refl asked.0)
+asks_to_certify given (CompareWith csv other) asked = absurd (differ _ _ refl asked.0)
+asks_to_certify given (CompareDelayed csv delay) asked = absurd (differ _ _ refl asked.0)
 asks_to_certify given (Layout table at plan) asked = absurd (differ _ _ refl asked.0)
 
 -- the command `certify` asks for nothing with a number that is no budget
@@ -106,9 +127,11 @@ asks_to_protect given (Protect budget effort rounds output) asked =
     record { nodes = budget; effort = effort; rounds = rounds; nodes_are = asked.1.0; rounds_are = asked.1.1; effort_is = asked.1.2; output = output; output_is = asked.1.3 }
 asks_to_protect given (AddOrders output) asked = absurd (differ _ _ refl asked.0)
 asks_to_protect given (OrderByRun seed journal output) asked = absurd (differ _ _ refl asked.0)
-asks_to_protect given (Timetable csv journal) asked = absurd (differ _ _ refl asked.0)
-asks_to_protect given (Graph train journal) asked = absurd (differ _ _ refl asked.0)
-asks_to_protect given (Report title journal) asked = absurd (differ _ _ refl asked.0)
+asks_to_protect given (Timetable csv journal delay) asked = absurd (differ _ _ refl asked.0)
+asks_to_protect given (Graph train journal delay) asked = absurd (differ _ _ refl asked.0)
+asks_to_protect given (Report title journal delay) asked = absurd (differ _ _ refl asked.0)
+asks_to_protect given (CompareWith csv other) asked = absurd (differ _ _ refl asked.0)
+asks_to_protect given (CompareDelayed csv delay) asked = absurd (differ _ _ refl asked.0)
 asks_to_protect given (Layout table at plan) asked = absurd (differ _ _ refl asked.0)
 
 -- the command `protect` asks for nothing with a number of nodes or of rounds that is out of range
@@ -141,9 +164,11 @@ no_output_ordered given no_output (Certify budget effort) asked = differ _ _ ref
 no_output_ordered given no_output (Protect budget effort rounds output) asked = differ _ _ refl asked.0
 no_output_ordered given no_output (AddOrders output) asked = no_output output asked.1.2
 no_output_ordered given no_output (OrderByRun seed journal output) asked = no_output output asked.1.2
-no_output_ordered given no_output (Timetable csv journal) asked = differ _ _ refl asked.0
-no_output_ordered given no_output (Graph train journal) asked = differ _ _ refl asked.0
-no_output_ordered given no_output (Report title journal) asked = differ _ _ refl asked.0
+no_output_ordered given no_output (Timetable csv journal delay) asked = differ _ _ refl asked.0
+no_output_ordered given no_output (Graph train journal delay) asked = differ _ _ refl asked.0
+no_output_ordered given no_output (Report title journal delay) asked = differ _ _ refl asked.0
+no_output_ordered given no_output (CompareWith csv other) asked = differ _ _ refl asked.0
+no_output_ordered given no_output (CompareDelayed csv delay) asked = differ _ _ refl asked.0
 no_output_ordered given no_output (Layout table at plan) asked = differ _ _ refl asked.0
 
 -- no output is two
@@ -164,9 +189,11 @@ none_ordered given word found none (AddOrders output) asked = let unnamed : None
 none_ordered given word found none (OrderByRun seed journal output) asked =
     let number : number_of word ≡ Some seed = subst (λ o. IsSomeAnd o (λ w. number_of w ≡ Some seed)) (sym found) asked.1.0 in
     let both : Some seed ≡ None = sym number ∙ none in cc
-none_ordered given word found none (Timetable csv journal) asked = differ _ _ refl asked.0
-none_ordered given word found none (Graph train journal) asked = differ _ _ refl asked.0
-none_ordered given word found none (Report title journal) asked = differ _ _ refl asked.0
+none_ordered given word found none (Timetable csv journal delay) asked = differ _ _ refl asked.0
+none_ordered given word found none (Graph train journal delay) asked = differ _ _ refl asked.0
+none_ordered given word found none (Report title journal delay) asked = differ _ _ refl asked.0
+none_ordered given word found none (CompareWith csv other) asked = differ _ _ refl asked.0
+none_ordered given word found none (CompareDelayed csv delay) asked = differ _ _ refl asked.0
 none_ordered given word found none (Layout table at plan) asked = differ _ _ refl asked.0
 
 -- nor with a journal and no number
@@ -181,9 +208,11 @@ none_ordered_by given file none found (Protect budget effort rounds output) aske
 none_ordered_by given file none found (AddOrders output) asked = let unnamed : None ≡ Some file = asked.1.1 ∙ sym found in cc
 none_ordered_by given file none found (OrderByRun seed journal output) asked =
     subst (λ o. IsSomeAnd o (λ w. number_of w ≡ Some seed)) (sym none) asked.1.0
-none_ordered_by given file none found (Timetable csv journal) asked = differ _ _ refl asked.0
-none_ordered_by given file none found (Graph train journal) asked = differ _ _ refl asked.0
-none_ordered_by given file none found (Report title journal) asked = differ _ _ refl asked.0
+none_ordered_by given file none found (Timetable csv journal delay) asked = differ _ _ refl asked.0
+none_ordered_by given file none found (Graph train journal delay) asked = differ _ _ refl asked.0
+none_ordered_by given file none found (Report title journal delay) asked = differ _ _ refl asked.0
+none_ordered_by given file none found (CompareWith csv other) asked = differ _ _ refl asked.0
+none_ordered_by given file none found (CompareDelayed csv delay) asked = differ _ _ refl asked.0
 none_ordered_by given file none found (Layout table at plan) asked = differ _ _ refl asked.0
 
 -- a word that is none of the three is for no effort

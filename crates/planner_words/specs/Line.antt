@@ -57,13 +57,16 @@ abbrev pub protect : Shape
 protect = leaf (codes "protect") (valued (codes "budget") ∷ valued (codes "effort") ∷ valued (codes "rounds") ∷ flag (codes "into") ∷ flag (codes "entries") ∷ [])
 
 abbrev pub timetable : Shape
-timetable = leaf (codes "timetable") (flag (codes "csv") ∷ valued (codes "journal") ∷ [])
+timetable = leaf (codes "timetable") (flag (codes "csv") ∷ valued (codes "journal") ∷ valued (codes "delay") ∷ [])
 
 abbrev pub graph : Shape
-graph = leaf (codes "graph") (valued (codes "train") ∷ valued (codes "journal") ∷ [])
+graph = leaf (codes "graph") (valued (codes "train") ∷ valued (codes "journal") ∷ valued (codes "delay") ∷ [])
 
 abbrev pub report : Shape
-report = leaf (codes "report") (valued (codes "title") ∷ valued (codes "journal") ∷ [])
+report = leaf (codes "report") (valued (codes "title") ∷ valued (codes "journal") ∷ valued (codes "delay") ∷ [])
+
+abbrev pub compare : Shape
+compare = leaf (codes "compare") (flag (codes "csv") ∷ excluding (codes "with") ∷ excluding (codes "delay") ∷ [])
 
 abbrev pub layout : Shape
 layout = leaf (codes "layout") (valued (codes "at") ∷ valued (codes "table") ∷ valued (codes "plan") ∷ [])
@@ -81,7 +84,7 @@ makers = certify ∷ protect ∷ order ∷ []
 
 -- those that read a run, or draw
 abbrev pub pictures : List Shape
-pictures = timetable ∷ graph ∷ report ∷ layout ∷ []
+pictures = timetable ∷ graph ∷ report ∷ compare ∷ layout ∷ []
 
 -- the whole command
 abbrev pub planner : App

@@ -10,7 +10,7 @@ use Rattle.ats_words.specs.Options as options
 use Rattle.decimal_number.specs.Decimal.{number_of}
 use Rattle.planner_words.specs.Line.{planner}
 use Rattle.planner_words.specs.declared.orders.Order.{Order}
-use Rattle.planner_words.specs.declared.orders.Order.TheVariants.{Plan, ExplainState, ExplainLine, Lint, Certify, Protect, AddOrders, OrderByRun, Timetable, Graph, Report, Layout}
+use Rattle.planner_words.specs.declared.orders.Order.TheVariants.{Plan, ExplainState, ExplainLine, Lint, Certify, Protect, AddOrders, OrderByRun, Timetable, Graph, Report, CompareWith, CompareDelayed, Layout}
 
 -- the word that asks for an order
 abbrev pub name_of : Order → List ℕ
@@ -22,9 +22,11 @@ name_of (Certify budget effort) = codes "certify"
 name_of (Protect budget effort rounds output) = codes "protect"
 name_of (AddOrders output) = codes "order"
 name_of (OrderByRun seed journal output) = codes "order"
-name_of (Timetable csv journal) = codes "timetable"
-name_of (Graph train journal) = codes "graph"
-name_of (Report title journal) = codes "report"
+name_of (Timetable csv journal delay) = codes "timetable"
+name_of (Graph train journal delay) = codes "graph"
+name_of (Report title journal delay) = codes "report"
+name_of (CompareWith csv other) = codes "compare"
+name_of (CompareDelayed csv delay) = codes "compare"
 name_of (Layout table at plan) = codes "layout"
 
 -- the table that is named, or the first one
@@ -100,6 +102,10 @@ IsOutput given output = (is_plan output ≡ is_up (codes "into") given) × (is_e
 abbrev pub IsFile : Option Text → Option (Bor Text) → Type 0
 IsFile found file = option_map (λ s. s.now) file ≡ found
 
+-- The delay is the one that is named, and there is none where none is named.
+abbrev pub IsDelay : List Row → Option (Bor Text) → Type 0
+IsDelay given delay = option_map (λ s. s.now) delay ≡ first_of (codes "delay") given
+
 -- The order has the values that clap found for the options of its command.
 abbrev pub HasValues : List Row → Order → Type 0
 HasValues given Plan = Unit {0}
@@ -115,10 +121,14 @@ HasValues given (AddOrders output) =
 HasValues given (OrderByRun seed journal output) =
     IsSomeAnd (first_of (codes "of-run") given) (λ word. number_of word ≡ Some seed) × IsFile (first_of (codes "journal") given) journal × IsOutput given output
 HasValues given (Certify budget effort) = (budget_in given ≡ Some budget) × IsEffort (first_of (codes "effort") given) effort
-HasValues given (Timetable csv journal) = IsFlag (one_of (codes "csv") given) csv × IsFile (first_of (codes "journal") given) journal
-HasValues given (Graph train journal) =
-    (option_map (λ s. s.now) train ≡ first_of (codes "train") given) × IsFile (first_of (codes "journal") given) journal
-HasValues given (Report title journal) = (title.now ≡ title_in given) × IsFile (first_of (codes "journal") given) journal
+HasValues given (Timetable csv journal delay) =
+    IsFlag (one_of (codes "csv") given) csv × IsFile (first_of (codes "journal") given) journal × IsDelay given delay
+HasValues given (Graph train journal delay) =
+    (option_map (λ s. s.now) train ≡ first_of (codes "train") given) × IsFile (first_of (codes "journal") given) journal × IsDelay given delay
+HasValues given (Report title journal delay) = (title.now ≡ title_in given) × IsFile (first_of (codes "journal") given) journal × IsDelay given delay
+HasValues given (CompareWith csv other) = IsFlag (one_of (codes "csv") given) csv × (Some other.now ≡ first_of (codes "with") given)
+HasValues given (CompareDelayed csv delay) =
+    IsFlag (one_of (codes "csv") given) csv × (None ≡ first_of (codes "with") given) × (Some delay.now ≡ first_of (codes "delay") given)
 HasValues given (Layout table at plan) =
     (table.now ≡ table_in given) × (option_map (λ s. s.now) at ≡ first_of (codes "at") given) × IsFile (first_of (codes "plan") given) plan
 

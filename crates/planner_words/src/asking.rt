@@ -143,6 +143,26 @@ const TITLE: Choice = Choice::Value {
     help: "The title of the page (default: Report)",
 };
 
+const DELAY: Choice = Choice::Value {
+    name: "delay",
+    value: "TRAIN=POINT+TICKS",
+    help: "The train comes to the point so many ticks later than planned; the run is that of a plan or document alone",
+};
+
+const DELAYED: Choice = Choice::Excluding {
+    name: "delay",
+    value: "TRAIN=POINT+TICKS",
+    help: "Compares with the run in which the train comes to the point so many ticks later than planned",
+    without: "with",
+};
+
+const WITH: Choice = Choice::Excluding {
+    name: "with",
+    value: "FILE",
+    help: "Compares with the run of another plan or document, in a file",
+    without: "delay",
+};
+
 const AT_OR_START: Choice = Choice::Value {
     name: "at",
     value: "PLACES",
@@ -156,7 +176,7 @@ struct Subcommand {
     choices: &'static [Choice],
 }
 
-const SUBCOMMANDS: [Subcommand; 10] = [
+const SUBCOMMANDS: [Subcommand; 11] = [
     Subcommand {
         name: "plan",
         about: "Reads a plan (TOML) and writes its document, for `ats make`",
@@ -190,17 +210,22 @@ const SUBCOMMANDS: [Subcommand; 10] = [
     Subcommand {
         name: "timetable",
         about: "Reads a document, or also, after a line `journal`, what `ats sim` wrote; writes when each train arrives, leaves and waits",
-        choices: &[CSV, JOURNAL],
+        choices: &[CSV, JOURNAL, DELAY],
     },
     Subcommand {
         name: "graph",
         about: "Reads what `timetable` reads; writes a picture (SVG) of the trains over time",
-        choices: &[TRAIN, JOURNAL],
+        choices: &[TRAIN, JOURNAL, DELAY],
     },
     Subcommand {
         name: "report",
         about: "Reads what `timetable` reads; writes a page (HTML) with the pictures and the timetable, on which the run can be played",
-        choices: &[TITLE, JOURNAL],
+        choices: &[TITLE, JOURNAL, DELAY],
+    },
+    Subcommand {
+        name: "compare",
+        about: "Reads what `timetable` reads; writes which trains are earlier or later in another run, and by how much",
+        choices: &[CSV, WITH, DELAYED],
     },
     Subcommand {
         name: "layout",
@@ -226,7 +251,7 @@ fn start<'a>(alloc: Global) -> Command<'a>
     ensures { IsBuiltAs spec.start result }
 {
     Command::new(alloc, "planner")
-        .version("1.15.0")
+        .version("1.16.0")
         .about(ABOUT)
         .no_binary_name(true)
         .subcommand_required(true)

@@ -65,20 +65,33 @@ pub enum Order<'a> {
         journal: Option<&'a str>,
         output: Output,
     },
-    /// Write the timetable of a timed run, whose lines may be in a file, as columns or with commas.
+    /// Write the timetable of a timed run, whose lines may be in a file, as columns or with commas. Without lines, the run may have a delay.
     Timetable {
         csv: bool,
         journal: Option<&'a str>,
+        delay: Option<&'a str>,
     },
-    /// Draw a timed run, whose lines may be in a file, along the route of a train.
+    /// Draw the same, along the route of a train.
     Graph {
         train: Option<&'a str>,
         journal: Option<&'a str>,
+        delay: Option<&'a str>,
     },
-    /// Write a page of a timed run, whose lines may be in a file, with this title.
+    /// Write a page of the same, with this title.
     Report {
         title: &'a str,
         journal: Option<&'a str>,
+        delay: Option<&'a str>,
+    },
+    /// Compare a run with that of another input, in a file, as columns or with commas.
+    CompareWith {
+        csv: bool,
+        other: &'a str,
+    },
+    /// Compare the run of a plan or document with the same with a delay.
+    CompareDelayed {
+        csv: bool,
+        delay: &'a str,
     },
     /// Draw the layout of a document, with its trains at the start of a table or at these positions.
     Layout {

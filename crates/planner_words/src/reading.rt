@@ -34,6 +34,8 @@ const TWO_OUTPUTS: &str = "planner order: --into doesn't go with --entries\n";
 
 const TWO_PROTECTED: &str = "planner protect: --into doesn't go with --entries\n";
 
+const NO_OTHER_RUN: &str = "planner compare: it takes --with FILE or --delay TRAIN=POINT+TICKS\n";
+
 // The most nodes of a certificate that `protect` looks for.
 const NODES: NumberOption = NumberOption {
     name: "budget",
@@ -111,15 +113,19 @@ fn order_called<'a>(
         "timetable" => Ok(Order::Timetable {
             csv: matches.get_flag("csv"),
             journal: matches.get_str("journal"),
+            delay: matches.get_str("delay"),
         }),
         "graph" => Ok(Order::Graph {
             train: matches.get_str("train"),
             journal: matches.get_str("journal"),
+            delay: matches.get_str("delay"),
         }),
         "report" => Ok(Order::Report {
             title: title_in(matches),
             journal: matches.get_str("journal"),
+            delay: matches.get_str("delay"),
         }),
+        "compare" => compare(alloc, matches),
         "layout" => Ok(Order::Layout {
             table: table_in(matches),
             at: matches.get_str("at"),
@@ -266,5 +272,22 @@ fn explain<'a>(alloc: Global, matches: &ArgMatches<'a>) -> Result<Order<'a>, Wor
             alloc,
             "planner explain: it takes --at PLACES or --line LINE\n",
         ),
+    }
+}
+
+fn compare<'a>(alloc: Global, matches: &ArgMatches<'a>) -> Result<Order<'a>, WordsAnswered>
+    ensures asked { IfOk result (λ order. AsksFor order (codes "compare", rows_of (found_of matches.now))) }
+    ensures answered { IfErr result (MissesNone (Some (codes "compare", rows_of (found_of matches.now)))) }
+{
+    match (matches.get_str("with"), matches.get_str("delay")) {
+        (Some(other), _) => Ok(Order::CompareWith {
+            csv: matches.get_flag("csv"),
+            other,
+        }),
+        (None, Some(delay)) => Ok(Order::CompareDelayed {
+            csv: matches.get_flag("csv"),
+            delay,
+        }),
+        (None, None) => refused(alloc, NO_OTHER_RUN),
     }
 }

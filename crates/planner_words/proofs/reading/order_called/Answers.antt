@@ -15,17 +15,19 @@ returns-in-timetable-clause-asked c =
       (
         (λ up. c.get_flag.ensures.value (found ∙ up), λ down. c.get_flag.ensures.other (found ∙ down)),
         c.get_str-in-timetable.ensures ∙ first_value-rows (found_of c.args.matches.now) (codes "journal"),
+        c.get_str-in-timetable-2.ensures ∙ first_value-rows (found_of c.args.matches.now) (codes "delay"),
       ),
     )
 
 pub returns-in-graph-clause-asked : goal.returns-in-graph-clause-asked
 returns-in-graph-clause-asked c =
     let found = first_value-rows (found_of c.args.matches.now) in
-    (search rules, (c.get_str-in-graph.ensures ∙ found (codes "train"), c.get_str-in-graph-2.ensures ∙ found (codes "journal")))
+    (search rules, (c.get_str-in-graph.ensures ∙ found (codes "train"), c.get_str-in-graph-2.ensures ∙ found (codes "journal"), c.get_str-in-graph-3.ensures ∙ found (codes "delay")))
 
 pub returns-in-report-clause-asked : goal.returns-in-report-clause-asked
 returns-in-report-clause-asked c =
-    (search rules, (c.title_in.ensures, c.get_str-in-report.ensures ∙ first_value-rows (found_of c.args.matches.now) (codes "journal")))
+    let found = first_value-rows (found_of c.args.matches.now) in
+    (search rules, (c.title_in.ensures, c.get_str-in-report.ensures ∙ found (codes "journal"), c.get_str-in-report-2.ensures ∙ found (codes "delay")))
 
 pub returns-in-layout-clause-asked : goal.returns-in-layout-clause-asked
 returns-in-layout-clause-asked c =
