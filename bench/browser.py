@@ -10,9 +10,11 @@
     graph      a click in the graph sets the tick, and the cursor stands at it; so does #t=.. in the address
     calm       where motion is to be reduced, the trains go by whole ticks; the address sets the first one
     print      on paper there is no player; the trains stand at their start, and the graph fits on a page
-    plain      without scripts the two pictures and the table can be seen
+    plain      without scripts the pictures and the tables can be seen
     narrow     at 500 pixels the page doesn't scroll sideways, with scripts and without
     console    the browser reports no message and no exception
+
+Of a page without a run, of a document that gets no certificates, the last three are tried.
 """
 import argparse
 import base64
@@ -348,7 +350,7 @@ def try_print(browser):
 
 
 def boxes(browser):
-    """The sizes of the pictures in shadow roots, and of the table."""
+    """The sizes of the pictures in shadow roots, and of the tables."""
     def walk(node, is_hidden):
         if node["nodeName"].lower() in ("svg", "table") and (is_hidden or node["nodeName"] == "TABLE"):
             model = browser.call("DOM.getBoxModel", backendNodeId=node["backendNodeId"])["model"]
@@ -369,7 +371,9 @@ def try_plain(browser, page):
     browser.look(1240)
     browser.visit(page.as_uri())
     sizes = boxes(browser)
-    require(len(sizes) == 3 and all(width > 300 and height > 60 for width, height in sizes), f"without scripts, the sizes are {sizes}")
+    text = page.read_text()
+    count = text.count("<template ") + text.count("<table>")
+    require(len(sizes) == count and all(width > 300 and height > 50 for width, height in sizes), f"without scripts, the sizes are {sizes}")
     try_narrow(browser)
     browser.call("Emulation.setScriptExecutionDisabled", value=False)
 
@@ -385,10 +389,22 @@ def complaints(browser):
     return [json.dumps(got["params"])[:300] for got in browser.events if got.get("method") in kinds]
 
 
+def try_still(browser, page):
+    """Tries a page of a document without a run."""
+    require(browser.value("document.querySelector('#run').children.length === 0"), "there is a player, and nothing to play")
+    require(browser.value("document.querySelector('#verdict pre').textContent.length > 0"), "the verdict says nothing")
+    try_narrow(browser)
+    try_plain(browser, page)
+    require(not complaints(browser), f"the console says {complaints(browser)}")
+    return "no run"
+
+
 def try_page(browser, page):
     browser.events = []
     browser.look(1240)
     browser.visit(page.as_uri())
+    if browser.value("document.querySelector('#graph') === null"):
+        return try_still(browser, page)
     require(browser.value("document.querySelector('#run input') !== null"), "there is no player")
     browser.value(SCRIPTED)
     require(stands(browser), "it plays by itself")
@@ -411,7 +427,7 @@ def shoot(browser, page, folder):
     for scheme, width in [("light", 1240), ("dark", 500)]:
         browser.look(width, scheme)
         browser.visit(page.as_uri())
-        middle = browser.value("Math.round(document.querySelector('#run input')?.max * 0.42)")
+        middle = browser.value("Math.round((document.querySelector('#run input')?.max ?? 0) * 0.42)")
         browser.visit(f"{page.as_uri()}#t={middle}")
         size = browser.call("Page.getLayoutMetrics")["cssContentSize"]
         clip = {"x": 0, "y": 0, "width": width, "height": min(size["height"], 4000), "scale": 1}

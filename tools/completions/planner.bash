@@ -2,11 +2,11 @@
 _planner() {
   local word=${COMP_WORDS[COMP_CWORD]} options
   if [ "$COMP_CWORD" -eq 1 ]; then
-    COMPREPLY=($(compgen -W "plan explain lint certify protect order timetable graph report layout --help --version" -- "$word"))
+    COMPREPLY=($(compgen -W "plan explain lint certify protect order timetable graph report compare layout --help --version" -- "$word"))
     return
   fi
   case ${COMP_WORDS[COMP_CWORD-1]} in
-    --before|--journal|--plan)
+    --before|--journal|--plan|--with)
       COMPREPLY=($(compgen -f -- "$word"))
       return ;;
   esac
@@ -20,9 +20,10 @@ _planner() {
     certify) options="--budget --effort" ;;
     protect) options="--budget --effort --rounds --into --entries" ;;
     order) options="--of-run --journal --into --entries" ;;
-    timetable) options="--csv --journal" ;;
-    graph) options="--train --journal" ;;
-    report) options="--title --journal" ;;
+    timetable) options="--csv --journal --delay" ;;
+    graph) options="--train --journal --delay" ;;
+    report) options="--title --journal --delay" ;;
+    compare) options="--csv --with --delay" ;;
     layout) options="--at --table --plan" ;;
   esac
   COMPREPLY=($(compgen -W "$options --help" -- "$word"))

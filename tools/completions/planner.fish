@@ -1,5 +1,5 @@
 # Completions of planner for fish.
-set -l commands plan explain lint certify protect order timetable graph report layout
+set -l commands plan explain lint certify protect order timetable graph report compare layout
 set -l first "not __fish_seen_subcommand_from $commands"
 complete -c planner -f -n $first -a plan -d 'write the document of a plan'
 complete -c planner -f -n $first -a explain -d 'explain a state, or a line of ats'
@@ -10,6 +10,7 @@ complete -c planner -f -n $first -a order -d 'add sections that keep trains in t
 complete -c planner -f -n $first -a timetable -d 'write when trains arrive, leave and wait'
 complete -c planner -f -n $first -a graph -d 'draw the trains over time'
 complete -c planner -f -n $first -a report -d 'write a page with the pictures and the timetable of a run'
+complete -c planner -f -n $first -a compare -d 'say which trains are earlier or later in another run'
 complete -c planner -f -n $first -a layout -d 'draw tracks, sections and trains'
 complete -c planner -f -n '__fish_seen_subcommand_from explain layout' -l at -x -d 'the place of each train, as 1,0,2'
 complete -c planner -f -n '__fish_seen_subcommand_from explain layout' -l table -x -d 'the table, counted from 0'
@@ -23,7 +24,9 @@ complete -c planner -f -n '__fish_seen_subcommand_from protect' -l rounds -x -d 
 complete -c planner -f -n '__fish_seen_subcommand_from order' -l of-run -x -d 'the orders of one run, given by a journal or drawn from a number'
 complete -c planner -f -n '__fish_seen_subcommand_from protect order' -l into -d 'write the plan, with the sections as entries behind it'
 complete -c planner -f -n '__fish_seen_subcommand_from protect order' -l entries -d 'write these entries alone'
-complete -c planner -f -n '__fish_seen_subcommand_from timetable' -l csv -d 'with commas instead of columns'
+complete -c planner -f -n '__fish_seen_subcommand_from timetable compare' -l csv -d 'with commas instead of columns'
 complete -c planner -f -n '__fish_seen_subcommand_from graph' -l train -x -d 'the train whose route is the axis of places'
 complete -c planner -f -n '__fish_seen_subcommand_from report' -l title -x -d 'the title of the page'
+complete -c planner -n '__fish_seen_subcommand_from compare' -l with -r -d 'another plan or document'
+complete -c planner -f -n '__fish_seen_subcommand_from timetable graph report compare' -l delay -x -d 'a train comes to a point so much later, as T1=B+5'
 complete -c planner -n '__fish_seen_subcommand_from order timetable graph report' -l journal -r -d 'the lines of the run'

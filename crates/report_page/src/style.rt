@@ -34,7 +34,8 @@ pre { margin: 8px 0 0; font: 13px/1.5 ui-monospace, Menlo, Consolas, monospace; 
 #run > ul, #run::after { order: 2; }
 #graph { order: 3; }
 #timetable { order: 4; }
-#remarks { order: 5; }
+#sections { order: 5; }
+#remarks { order: 6; }
 #run > div { position: sticky; top: 0; z-index: 2; display: flex; flex-wrap: wrap; gap: 8px; align-items: center; min-height: var(--bar); margin-top: 12px; background: var(--paper); border-bottom: 1px solid var(--line); }
 #run:not(:empty) + #layout > h2 { margin-top: 14px; }
 button, select { height: 38px; padding: 0 12px; border: 1px solid var(--line); border-radius: 6px; background: var(--card); color: var(--ink); font: inherit; white-space: nowrap; cursor: pointer; }
@@ -77,6 +78,8 @@ th { position: sticky; top: 0; background: var(--card); border-bottom: 2px solid
 #run:not(:empty) ~ #timetable th { top: var(--bar); }
 :is(th, td):nth-child(-n + 2) { text-align: left; overflow-wrap: anywhere; }
 td:first-child { font-weight: 600; }
+#sections :is(th, td) { position: static; text-align: left; overflow-wrap: anywhere; vertical-align: top; }
+#sections p { max-width: 760px; }
 tr:not(:first-child):has(:nth-child(3):empty) > td { border-top: 2px solid var(--faint); }
 @media screen {
   tr.here > td { background: var(--lit); }
