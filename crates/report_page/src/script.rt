@@ -28,7 +28,7 @@ function readPoints(picture) {
 // Ticks stay strings, which compare as numbers.
 function readTrains() {
   const found = [];
-  for (const row of document.querySelectorAll("#timetable tbody tr")) {
+  for (const row of document.querySelectorAll("[id=timetable] tbody tr")) {
     const [name, point, arrives, leaves] = [...row.cells].map((cell) => cell.textContent);
     if (!arrives) found.push({ name, stops: [] });
     found.at(-1)?.stops.push({ row, point, arrives, leaves });
