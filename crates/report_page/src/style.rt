@@ -78,7 +78,8 @@ th { position: sticky; top: 0; background: var(--card); border-bottom: 2px solid
 #run:not(:empty) ~ #timetable th { top: var(--bar); }
 :is(th, td):nth-child(-n + 2) { text-align: left; overflow-wrap: anywhere; }
 td:first-child { font-weight: 600; }
-#sections :is(th, td) { position: static; text-align: left; overflow-wrap: anywhere; vertical-align: top; }
+#sections :is(th, td) { position: static; text-align: left; vertical-align: top; }
+#sections :is(th, td):nth-child(2) { overflow-wrap: normal; }
 #sections p { max-width: 760px; }
 tr:not(:first-child):has(:nth-child(3):empty) > td { border-top: 2px solid var(--faint); }
 @media screen {
