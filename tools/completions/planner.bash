@@ -21,7 +21,7 @@ _planner() {
     protect) options="--budget --effort --rounds --into --entries" ;;
     order) options="--of-run --journal --into --entries" ;;
     timetable) options="--csv --journal --delay" ;;
-    graph) options="--train --journal --delay" ;;
+    graph) options="--train --blocks --journal --delay" ;;
     report) options="--title --journal --delay" ;;
     compare) options="--csv --with --delay" ;;
     layout) options="--at --table --plan" ;;

@@ -26,6 +26,7 @@ complete -c planner -f -n '__fish_seen_subcommand_from protect order' -l into -d
 complete -c planner -f -n '__fish_seen_subcommand_from protect order' -l entries -d 'write these entries alone'
 complete -c planner -f -n '__fish_seen_subcommand_from timetable compare' -l csv -d 'with commas instead of columns'
 complete -c planner -f -n '__fish_seen_subcommand_from graph' -l train -x -d 'the train whose route is the axis of places'
+complete -c planner -f -n '__fish_seen_subcommand_from graph' -l blocks -d 'bars where points are taken'
 complete -c planner -f -n '__fish_seen_subcommand_from report' -l title -x -d 'the title of the page'
 complete -c planner -n '__fish_seen_subcommand_from compare' -l with -r -d 'another plan or document'
 complete -c planner -f -n '__fish_seen_subcommand_from timetable graph report compare' -l delay -x -d 'a train comes to a point so much later, as T1=B+5'

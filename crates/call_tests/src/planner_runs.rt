@@ -101,7 +101,7 @@ T1,N,3,3,0
 T1,M,4,4,0
 T1,D,5,,
 ====
-graph|--train|T9
+graph|--blocks|--train|T9
 {"version":1,"points":[["A",0],["M",0],["N",0],["B",0],["C",0],["D",0]],"links":[["A","M"],["M","N"],["N","B"],["C","N"],["M","D"]],"zones":1,"trains":["T0","T1"],"start":[0,0],"tables":[{"missions":[["A","M","N","B"],["C","N","M","D"]],"sections":[{"limit":1,"changes":[[0,1,0,-1],[0,1,0,-1]]}],"certificate":[[0,0,0],[0,1,0],[4,0],[0,1,2],[4,1],[4,0],[0,0,2],[0,1,0],[4,0],[0,1,2],[2,0],[4,0],[0,1,2],[4,1],[3]]}]}
 
 journal
@@ -128,14 +128,14 @@ journal
 end moves=6 tables=0 last=4
 ----
 a text with <tbody>
-<tr><td>T0</td><td>A</td><td></td><td>0</td><td>0</td></tr>
-<tr><td>T0</td><td>M</td><td>1</td><td>1</td><td>0</td></tr>
-<tr><td>T0</td><td>N</td><td>2</td><td>2</td><td>0</td></tr>
-<tr><td>T0</td><td>B</td><td>3</td><td></td><td></td></tr>
-<tr><td>T1</td><td>C</td><td></td><td>2</td><td>2</td></tr>
-<tr><td>T1</td><td>N</td><td>3</td><td>3</td><td>0</td></tr>
-<tr><td>T1</td><td>M</td><td>4</td><td>4</td><td>0</td></tr>
-<tr><td>T1</td><td>D</td><td>5</td><td></td><td></td></tr>
+<tr><td>T0</td><td>A</td><td></td><td>0</td><td>0</td><td></td></tr>
+<tr><td>T0</td><td>M</td><td>1</td><td>1</td><td>0</td><td></td></tr>
+<tr><td>T0</td><td>N</td><td>2</td><td>2</td><td>0</td><td></td></tr>
+<tr><td>T0</td><td>B</td><td>3</td><td></td><td></td><td></td></tr>
+<tr><td>T1</td><td>C</td><td></td><td>2</td><td>2</td><td>for T0 at N</td></tr>
+<tr><td>T1</td><td>N</td><td>3</td><td>3</td><td>0</td><td></td></tr>
+<tr><td>T1</td><td>M</td><td>4</td><td>4</td><td>0</td><td></td></tr>
+<tr><td>T1</td><td>D</td><td>5</td><td></td><td></td><td></td></tr>
 </tbody>
 ====
 report|--title|A & B

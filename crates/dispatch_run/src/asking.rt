@@ -29,7 +29,7 @@ fn command<'a>(alloc: Global) -> Result<Command<'a>, AllocError>
         )
         .action(ArgAction::Set);
     Command::new(alloc, "dispatch")
-        .version("1.16.0")
+        .version("1.17.0")
         .about(ABOUT)
         .no_binary_name(true)
         .arg(document)

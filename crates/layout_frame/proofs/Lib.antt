@@ -1,2 +1,3 @@
+mod Different
 mod LegendWords
 mod Rows

@@ -22,7 +22,7 @@ section_entries names T = flat_map (λ s. [] ∷ entry_words names T s ∷ []) (
 abbrev pub Extends : List (List ℕ) → List (List ℕ) → Type 0
 Extends before after = (added : List (List ℕ)) × (after ≡ before ++ added)
 
--- A legend is added behind other words: entries of trains, then those of the sections, then those of other trains.
+-- A legend is added behind other words: entries of trains, then those of the sections, then those of other trains, and shapes without words.
 pub record AddsLegend (names : List (String Global)) (T : Table) (before after : List (List ℕ)) : Type 0 where
   pub first : List (List ℕ)
   pub last : List (List ℕ)

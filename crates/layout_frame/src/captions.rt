@@ -22,13 +22,13 @@ struct Side {
 // The names of points rise, or stand above them.
 const RISING: Side = Side {
     right: 4,
-    down: -14,
+    down: -18,
     angle: Some(-45),
 };
 
 const ABOVE: Side = Side {
     right: 0,
-    down: -17,
+    down: -20,
     angle: None,
 };
 

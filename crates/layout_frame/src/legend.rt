@@ -5,23 +5,15 @@ ghost use Rattle.state_sentences.specs.Sections.{name_among};
 ghost use Rattle.layout_frame.specs.Legend.{AddsLegend, Extends, entry_words, number_before, section_entries};
 ghost use Rattle.layout_frame.specs.Spots.{words_of};
 
+use crate::areas::{area_colour, area_stripes};
 use crate::frame::{View, shifted, train_name};
 use crate::looks::{Look, look_of};
-use crate::shapes::{push_label, push_painted};
+use crate::shapes::{push_label, push_painted, push_shape};
 use rail_model::{Table, limit_of, point_of, sections_of};
 use state_core::Keeper;
 use state_sentences::{Scene, push_section};
 use std::alloc::{AllocError, Global};
 use svg_text::{Shape, Spot, circle};
-
-const COLOURS: [&str; 8] = [
-    "#e8b923", "#5aa9e6", "#63b76c", "#d66ba0", "#8f7be0", "#b08a5b", "#35b0ab", "#8d99a6",
-];
-
-/// The colour of a section.
-pub fn area_colour(section: u32) -> &'static str {
-    COLOURS[section as usize % 8]
-}
 
 // Whether a train has left the layout.
 fn has_left(scene: &Scene, train: u32) -> bool
@@ -64,29 +56,54 @@ pub(crate) fn legend_end(scene: &Scene, names: &[String], looks: &[Look], top: u
     row_at(top, entries.div_ceil(columns_of(names)))
 }
 
-// Adds an entry to a legend, whose entries have two shapes each.
+// The spot of the mark of the next entry of a legend, whose entries have two shapes each.
+fn next_spot(shapes: &[Shape], view: &View) -> Spot {
+    spot_of(view, shapes.len() as u64 / 2)
+}
+
+// The spot of the mark of an entry.
+fn spot_of(view: &View, entry: u64) -> Spot {
+    let columns = columns_of(view.sections);
+    Spot {
+        x: entry % columns * (765 / columns) + 28,
+        y: row_at(view.frame.grid.foot, entry / columns),
+    }
+}
+
+// Adds an entry to a legend: a mark at a spot, and words.
 fn push_entry(
     shapes: &mut Vec<Shape>,
     view: &View,
-    colour: &str,
+    at: Spot,
+    mark: Shape,
     words: &str,
 ) -> Result<(), AllocError>
-    ensures { OnOk result (words_of shapes.new.items ≡ words_of shapes.old.items ++ [] ∷ words.now ∷ []) }
+    ensures { OnOk result (words_of shapes.new.items ≡ words_of shapes.old.items ++ mark.words ∷ words.now ∷ []) }
 {
-    let entries = shapes.len() as u64 / 2;
-    let columns = columns_of(view.sections);
-    let at = Spot {
-        x: entries % columns * (765 / columns) + 28,
-        y: row_at(view.frame.grid.foot, entries / columns),
-    };
-    push_painted(
-        shapes,
-        view.alloc,
-        circle(view.alloc, at, 7)?,
-        "fill",
-        colour,
-    )?;
-    push_label(shapes, view.alloc, shifted(at, 13, 4), words)
+    push_shape(shapes, mark)?;
+    push_label(shapes, view.alloc, shifted(at, 14, 4), words)
+}
+
+// The mark of a train.
+fn dot(view: &View, at: Spot, train: u32) -> Result<Shape, AllocError>
+    ensures { IfOk result (λ shape. shape.words ≡ []) }
+{
+    let mut shape = circle(view.alloc, at, 7)?;
+    shape.set(view.alloc, "fill", look_of(view.looks, train).colour)?;
+    Ok(shape)
+}
+
+// The mark of a section: a piece of its area.
+fn swatch(view: &View, at: Spot, section: u32) -> Result<Shape, AllocError>
+    ensures { IfOk result (λ shape. shape.words ≡ []) }
+{
+    let left = at.x.saturating_sub(10);
+    let y = at.y;
+    let way = format!(in view.alloc; "M{left},{y} h20")?;
+    let mut shape = Shape::new(view.alloc, "path", "")?;
+    shape.set(view.alloc, "d", way.as_str())?;
+    shape.set(view.alloc, "stroke", area_colour(section))?;
+    Ok(shape)
 }
 
 // Adds what a train waits for.
@@ -132,12 +149,8 @@ fn push_train(
     if words.is_empty() {
         return Ok(());
     }
-    push_entry(
-        shapes,
-        view,
-        look_of(view.looks, train).colour,
-        words.as_str(),
-    )
+    let at = next_spot(shapes, view);
+    push_entry(shapes, view, at, dot(view, at, train)?, words.as_str())
 }
 
 // Adds the red trains that wait, or those that are gone.
@@ -185,7 +198,8 @@ fn push_area(shapes: &mut Vec<Shape>, view: &View, section: u32) -> Result<(), A
         ≡ words_of shapes.old.items ++ [] ∷ entry_words view.now.sections.now view.now.scene.now.table.now section ∷ []) }
 {
     let words = entry_of(view.alloc, view.sections, view.scene.table, section)?;
-    push_entry(shapes, view, area_colour(section), words.as_str())
+    let at = next_spot(shapes, view);
+    push_entry(shapes, view, at, swatch(view, at, section)?, words.as_str())
 }
 
 // Adds the sections.
@@ -199,11 +213,50 @@ fn push_areas(shapes: &mut Vec<Shape>, view: &View) -> Result<(), AllocError>
     Ok(())
 }
 
+// Adds the stripes over the mark of a section, if it has some, in an entry.
+fn push_stripes(
+    shapes: &mut Vec<Shape>,
+    view: &View,
+    entry: u64,
+    section: u32,
+) -> Result<(), AllocError>
+    ensures { OnOk result (Extends (words_of shapes.old.items) (words_of shapes.new.items)) }
+{
+    let pattern = area_stripes(section);
+    if pattern.is_empty() {
+        return Ok(());
+    }
+    let mark = swatch(view, spot_of(view, entry), section)?;
+    push_painted(shapes, view.alloc, mark, "stroke-dasharray", pattern)
+}
+
+// Adds the stripes over the marks of the sections, of which the first is in this entry.
+fn push_patterns(shapes: &mut Vec<Shape>, view: &View, first: u64) -> Result<(), AllocError>
+    ensures { OnOk result (Extends (words_of shapes.old.items) (words_of shapes.new.items)) }
+{
+    let sections = sections_of(view.scene.table);
+    for section in 0..sections {
+        let entry = first.saturating_add(u64::from(section));
+        push_stripes(shapes, view, entry, section)?;
+    }
+    Ok(())
+}
+
+// Adds the trains that have left the layout, and the stripes over the marks of the sections, of which the first is in this
+// entry.
+fn push_rest(shapes: &mut Vec<Shape>, view: &View, first: u64) -> Result<(), AllocError>
+    ensures { OnOk result (Extends (words_of shapes.old.items) (words_of shapes.new.items)) }
+{
+    push_trains(shapes, view, true)?;
+    push_patterns(shapes, view, first)
+}
+
 /// Adds the entries of a legend: the red trains that wait, the sections, and the trains that have left the layout.
 pub fn push_legend(shapes: &mut Vec<Shape>, view: &View) -> Result<(), AllocError>
     ensures { OnOk result (AddsLegend view.now.sections.now view.now.scene.now.table.now (words_of shapes.old.items) (words_of shapes.new.items)) }
 {
     push_trains(shapes, view, false)?;
+    let first = shapes.len() as u64 / 2;
     push_areas(shapes, view)?;
-    push_trains(shapes, view, true)
+    push_rest(shapes, view, first)
 }

@@ -1,16 +1,17 @@
 -- Shapes that are added to others, part by part.
-use Rattle.std.proofs.Common.{◌≡◌, ◌∙◌, ℕ, suc, ◌+◌, ◌<◌, List, [], ◌∷◌, ◌++◌, length, get_or, map, take, refl, sym, ap, ap₂, subst, append_assoc, arith}
-use Rattle.std.specs.Prelude.{Some}
+use Rattle.std.proofs.Common.{◌≡◌, ◌∙◌, ℕ, suc, ◌+◌, ◌<◌, List, [], ◌∷◌, ◌++◌, length, get_or, map, flat_map, take, refl, sym, ap, ap₂, subst, append_assoc, arith}
+use Rattle.std.specs.Prelude.{Some, codes, false, ◌==◌}
+use Rattle.layout_frame.specs.Spots.{painted}
+use Rattle.layout_picture.specs.Areas.{striped}
 use Rattle.std.proofs.lemmas.List.{append-nil, map-append, take_more}
+use Rattle.std.proofs.lemmas.Grind.{flat_map-append}
 use Rattle.std.proofs.lemmas.List.FromFn.{map-range_with_len_more}
 use Rattle.svg_text.specs.Tree.{Shape}
 use Rattle.svg_text.specs.declared.shapes.Spot.{Spot}
-use Rattle.rail_model.specs.Layout.{Layout, Link}
-use Rattle.rail_model.specs.Table.{Table}
+use Rattle.rail_model.specs.Layout.{Link}
 use Rattle.rail_model.specs.Checks.{below}
 use Rattle.layout_picture.specs.Marks.{ends_of, link_ends, stroke_of}
-use Rattle.layout_picture.specs.Areas.{first_attribute, inside, way_of}
-use Rattle.layout_picture.specs.Drawn.{AddsShapes, AreAreas, AreLinkLines, AreOfTrains, step_between}
+use Rattle.layout_picture.specs.Drawn.{AddsShapes, AreLinkLines, AreOfTrains, step_between}
 
 -- nothing is added
 pub adds_none : (P : List Shape → Type 0) (before : List Shape) → P [] → AddsShapes P before before
@@ -61,14 +62,30 @@ next_line spots links i d here next first now after lt here_is next_is so_far ad
     (adds_lines spots (take i links) (get_or links i d ∷ []) first now after so_far
     (subst (λ (ls : List Link). AddsShapes (AreLinkLines spots ls) now after) link adds))
 
+-- the numbers below the next one
+below_next : (n : ℕ) → below (n + 1) ≡ below n ++ n ∷ []
+below_next n = sym (map-id (below (n + 1))) ∙ map-range_with_len_more (λ k. k) 0 n n (omega arith) ∙ ap (λ ks. ks ++ n ∷ []) (map-id (below n))
+  where
+    map-id : (ks : List ℕ) → map (λ k. k) ks ≡ ks
+    map-id [] = refl
+    map-id (k ∷ ks) = ap (λ js. k ∷ js) (map-id ks)
+
 -- the area of one section more
-pub adds_area : (L : Layout) (T : Table) (spots : List Spot) (n : ℕ) (first now after : List Shape) (area : Shape)
-    → AddsShapes (AreAreas L T spots (below n)) first now → after ≡ now ++ area ∷ []
-    → first_attribute area ≡ way_of L spots (inside T (length L.points) n) → AddsShapes (AreAreas L T spots (below (n + 1))) first after
-adds_area L T spots n first now after area so_far pushed is =
-    let way = way_of L spots in
-    let marks = inside T (length L.points) in
-    adds_both (AreAreas L T spots (below n)) (AreAreas L T spots (n ∷ [])) (AreAreas L T spots (below (n + 1))) first now after
-    (λ own more a b. map-append first_attribute own more ∙ ap₂ (λ xs ys. xs ++ ys) a b ∙ sym (map-append way (map marks (below n)) (marks n ∷ []))
-    ∙ ap (map way) (sym (map-range_with_len_more marks 0 n n (omega arith)))) so_far
-    (adds_one (AreAreas L T spots (n ∷ [])) now after area pushed (ap (λ a. a ∷ []) is))
+pub next_area : (f : ℕ → Shape) (n : ℕ) (first now after : List Shape) → now ≡ first ++ map f (below n) → after ≡ now ++ f n ∷ [] →
+    after ≡ first ++ map f (below (n + 1))
+next_area f n first now after so_far pushed =
+    pushed ∙ ap (λ (ss : List Shape). ss ++ f n ∷ []) so_far ∙ append_assoc first (map f (below n)) (f n ∷ [])
+    ∙ ap (λ (ss : List Shape). first ++ ss) (sym (map-range_with_len_more f 0 n n (omega arith)))
+
+-- the stripes of one section more
+pub next_stripes : (f : ℕ → List Shape) (n : ℕ) (first now after : List Shape) → now ≡ first ++ flat_map f (below n) → after ≡ now ++ f n →
+    after ≡ first ++ flat_map f (below (n + 1))
+next_stripes f n first now after so_far pushed =
+    let grown : flat_map f (below (n + 1)) ≡ flat_map f (below n) ++ f n =
+    ap (flat_map f) (below_next n) ∙ flat_map-append f (below n) (n ∷ []) ∙ ap (λ ss. flat_map f (below n) ++ ss) (append-nil (f n)) in
+    pushed ∙ ap (λ (ss : List Shape). ss ++ f n) so_far ∙ append_assoc first (flat_map f (below n)) (f n) ∙ ap (λ ss. first ++ ss) (sym grown)
+
+-- an area has stripes
+pub with_stripes : (area : Shape) (pattern : List ℕ) → (length pattern == 0) ≡ false → striped area pattern ≡ painted area (codes "stroke-dasharray") pattern ∷ []
+with_stripes area [] some = cc
+with_stripes area (b ∷ bs) some = refl

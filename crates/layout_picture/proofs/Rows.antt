@@ -13,7 +13,7 @@ use Rattle.layout_picture.specs.declared.arrows.TheConstants.{ARROW, SQUARE}
 use Rattle.layout_frame.specs.Spots.{painted}
 use Rattle.layout_picture.specs.Red.{IsRed, is_red}
 use Rattle.layout_picture.specs.Arrows.{mark_of, outline_of, IsArrow}
-use Rattle.layout_picture.specs.Areas.{inside, way_over, path_along, way_of, first_attribute}
+use Rattle.layout_picture.specs.Areas.{area_of, inside, stripes_over, way_over}
 use Rattle.layout_picture.specs.Drawn.{IsLayer, Shows, Subject, next_step, ground_of}
 use Rattle.layout_picture.specs.declared.layers.Layer.TheVariants.{Ground, Names}
 
@@ -58,9 +58,19 @@ way_row : way_over line spots (inside trains 4 0) ≡ area_text
 unfolding digits
 way_row = refl
 
-area_row : first_attribute (path_along area_text) ≡ way_of line spots (inside trains 4 0)
+area_row : shape_text (area_of line trains spots 60 0)
+    ≡ codes "<path d=\"M20,50 h0 M30,50 h0 M20,50 L30,50 \" stroke=\"#e8b923\" stroke-width=\"60\"></path>\n"
 unfolding digits
 area_row = refl
+
+-- the first section is plain, and the second has stripes
+plain_row : stripes_over line trains spots 60 0 ≡ []
+unfolding digits
+plain_row = refl
+
+striped_row : stripes_over line trains spots 60 1 ≡ painted (area_of line trains spots 60 1) (codes "stroke-dasharray") (codes "2 5") ∷ []
+unfolding digits
+striped_row = refl
 
 -- T0 is on its way at B, and has arrived at C
 on_its_way_row : outline_of trains (1 ∷ 0 ∷ []) 0 ≡ ARROW
@@ -114,7 +124,7 @@ unfolding digits
 ground_row = refl
 
 abbrev subject : Subject
-subject = record { layout = line; names = []; table = trains; places = 0 ∷ 1 ∷ []; knot = []; spots = spots; width = 800; height = 400 }
+subject = record { layout = line; names = []; table = trains; places = 0 ∷ 1 ∷ []; knot = []; spots = spots; across = 60; width = 800; height = 400 }
 
 -- the group of the ground
 ground_group_row : IsLayer subject Ground (record { class = codes "background"; attributes = []; title = codes "ground"; shapes = ground_of 800 400 ∷ [] })

@@ -1,12 +1,13 @@
 -- The areas of sections.
-use Rattle.std.specs.Prelude.{ℕ, zero, suc, ◌+◌, ◌==◌, Bool, false, ◌&&◌, ◌||◌, pos, int_lt, List, [], ◌∷◌, ◌++◌, codes, map, flat_map, length, Option, Some, None, slice_get, slice_index_or, if◌then◌else◌}
-use Rattle.svg_text.specs.Tree.{Attribute, Shape}
+use Rattle.std.specs.Prelude.{ℕ, zero, suc, ◌+◌, ◌-◌, ◌*◌, ◌/◌, ◌%◌, ◌==◌, min, max, Bool, false, ◌&&◌, ◌||◌, pos, int_lt, List, [], ◌∷◌, ◌++◌, codes, decimal, map, flat_map, length, Option, Some, None, slice_index_or, if◌then◌else◌}
+use Rattle.svg_text.specs.Tree.{Shape}
 use Rattle.svg_text.specs.declared.shapes.Spot.{Spot}
 use Rattle.rail_model.specs.Layout.{Layout, Link}
 use Rattle.rail_model.specs.Table.{Table, trains, last, point, share}
 use Rattle.rail_model.specs.Checks.{below}
 use Rattle.state_sentences.specs.Explanation.{joined_below}
-use Rattle.layout_frame.specs.Spots.{spot_at}
+use Rattle.layout_frame.specs.Looks.{colour_of, stripes_of}
+use Rattle.layout_frame.specs.Spots.{painted, spot_at}
 use Rattle.layout_picture.specs.Marks.{pair_of}
 
 -- whether one of f 0, .., f (n - 1) holds
@@ -56,12 +57,24 @@ way_over L spots marks = joined_below (dot_words spots marks) (length L.points) 
 
 -- a path along a way
 abbrev pub path_along : List ℕ → Shape
-path_along way = record { name = codes "path"; attributes = record { name = codes "d"; value = way } ∷ []; words = [] }
+path_along way = record { name = codes "path"; attributes = record { name = codes "d"; value = way } ∷ []; title = []; words = [] }
 
--- the way of an area, as its attribute
-abbrev pub way_of : Layout → List Spot → List Bool → Option Attribute
-way_of L spots marks = Some (record { name = codes "d"; value = way_over L spots marks })
+-- how wide the area of section s is, with columns so far apart: sections that share points have areas of different widths
+abbrev pub area_width : ℕ → ℕ → ℕ
+area_width across s = min (max across 26) 60 * (5 - s % 4) / 5
 
--- the first attribute of a shape
-abbrev pub first_attribute : Shape → Option Attribute
-first_attribute s = slice_get s.attributes 0
+-- the area of section s: a broad path over its points and the links between them, in its colour
+abbrev pub area_of : Layout → Table → List Spot → ℕ → ℕ → Shape
+area_of L T spots across s =
+    painted
+    (painted (path_along (way_over L spots (inside T (length L.points) s))) (codes "stroke") (colour_of s))
+    (codes "stroke-width") (decimal (area_width across s))
+
+-- an area with these stripes; nothing, where there are none
+abbrev pub striped : Shape → List ℕ → List Shape
+striped area [] = []
+striped area (b ∷ bs) = painted area (codes "stroke-dasharray") (b ∷ bs) ∷ []
+
+-- the stripes over the area of section s, if it has some
+abbrev pub stripes_over : Layout → Table → List Spot → ℕ → ℕ → List Shape
+stripes_over L T spots across s = striped (area_of L T spots across s) (stripes_of s)

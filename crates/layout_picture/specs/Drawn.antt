@@ -1,5 +1,5 @@
 -- What a picture of a layout shows.
-use Rattle.std.specs.Prelude.{◌≡◌, ℕ, zero, suc, ◌+◌, ◌<◌, Bool, Decides, List, [], ◌∷◌, ◌++◌, length, map, codes, decimal, Option, Some, None, String, if◌then◌else◌}
+use Rattle.std.specs.Prelude.{◌≡◌, ℕ, zero, suc, ◌+◌, ◌<◌, Bool, Decides, List, [], ◌∷◌, ◌++◌, length, map, codes, decimal, flat_map, Option, Some, None, String, if◌then◌else◌}
 use Rattle.std.specs.declared.alloc.Global.{Global}
 use Rattle.std.specs.List.{AllZip}
 use Rattle.svg_text.specs.Tree.{Shape, Group}
@@ -12,12 +12,12 @@ use Rattle.layout_frame.specs.Legend.{AddsLegend}
 use Rattle.layout_frame.specs.Spots.{words_of}
 use Rattle.layout_frame.specs.declared.frame.View.{View}
 use Rattle.layout_picture.specs.declared.layers.Layer.{Layer}
-use Rattle.layout_picture.specs.declared.layers.Layer.TheVariants.{Ground, Sections, Links, Circle, Points, Numbers, Arrows, Names, Trains, Legend, Heading}
+use Rattle.layout_picture.specs.declared.layers.Layer.TheVariants.{Ground, Sections, Stripes, Links, Circle, Points, Numbers, Arrows, Names, Trains, Legend, Heading}
 use Rattle.layout_picture.specs.Marks.{dot_at, stroke_of, ends_of, link_ends}
 use Rattle.state_sentences.specs.Knot.{IsKnotOrNone}
 use Rattle.layout_picture.specs.Red.{IsRed}
 use Rattle.layout_picture.specs.Arrows.{IsArrow}
-use Rattle.layout_picture.specs.Areas.{inside, way_of, first_attribute}
+use Rattle.layout_picture.specs.Areas.{area_of, inside, stripes_over}
 
 -- The shapes are lines, one for each link, between the spots of its points.
 pub record AreLinkLines (spots : List Spot) (links : List Link) (shapes : List Shape) : Type 0 where
@@ -62,23 +62,20 @@ ground_of width height = record {
   name = codes "rect";
   attributes =
       record { name = codes "width"; value = decimal width } ∷ record { name = codes "height"; value = decimal height } ∷ [];
+  title = [];
   words = [];
 }
-
--- The shapes are areas, one for each of these sections, over the points that are in it.
-abbrev pub AreAreas : Layout → Table → List Spot → List ℕ → List Shape → Type 0
-AreAreas L T spots sections shapes =
-    map first_attribute shapes ≡ map (way_of L spots) (map (inside T (length L.points)) sections)
 
 -- all layers, from the back to the front
 abbrev pub layers : List Layer
 layers =
-    Ground ∷ Sections ∷ Links ∷ Circle ∷ Points ∷ Numbers ∷ Arrows ∷ Names ∷ Trains ∷ Legend ∷ Heading ∷ []
+    Ground ∷ Sections ∷ Stripes ∷ Links ∷ Circle ∷ Points ∷ Numbers ∷ Arrows ∷ Names ∷ Trains ∷ Legend ∷ Heading ∷ []
 
 -- the class of the group of a layer
 abbrev pub class_name : Layer → List ℕ
 class_name Ground = codes "background"
 class_name Sections = codes "sections"
+class_name Stripes = codes "stripes"
 class_name Links = codes "links"
 class_name Circle = codes "circle"
 class_name Points = codes "points"
@@ -90,7 +87,7 @@ class_name Legend = codes "legend"
 class_name Heading = codes "heading"
 
 -- What is drawn: a layout, and a table, whose sections have names, with trains at their places, some of them in a knot; with spots for the
--- points, in this size.
+-- points, in columns so far apart, in this size.
 pub record Subject : Type 0 where
   pub layout : Layout
   pub names : List (String Global)
@@ -98,6 +95,7 @@ pub record Subject : Type 0 where
   pub places : List ℕ
   pub knot : List ℕ
   pub spots : List Spot
+  pub across : ℕ
   pub width : ℕ
   pub height : ℕ
 
@@ -109,16 +107,18 @@ subject_of v = record {
   places = v.scene.now.state.now;
   knot = v.knot.now;
   spots = v.frame.now.spots.items;
+  across = v.frame.now.grid.across;
   width = v.frame.now.grid.width;
   height = v.frame.now.height;
 }
 
--- Ground: as large as the picture. Sections: an area for each. Links: a line for each. Circle: a broad line from each red train.
+-- Ground: as large as the picture. Sections: an area for each. Stripes: those of each area that isn't plain. Links: a line for each. Circle: a broad line from each red train.
 -- Points: a dot for each spot. Arrows: one for each train. Names: the name of each point, in order. Legend: the words of each section among
 -- those of trains. Of other words nothing is said.
 abbrev pub Shows : Subject → Layer → List Shape → Type 0
 Shows S Ground shapes = shapes ≡ ground_of S.width S.height ∷ []
-Shows S Sections shapes = AreAreas S.layout S.table S.spots (below (length S.table.sections)) shapes
+Shows S Sections shapes = shapes ≡ map (area_of S.layout S.table S.spots S.across) (below (length S.table.sections))
+Shows S Stripes shapes = shapes ≡ flat_map (stripes_over S.layout S.table S.spots S.across) (below (length S.table.sections))
 Shows S Links shapes = AreLinkLines S.spots S.layout.links shapes
 Shows S Circle shapes = AreOfTrains (IsWait S.table S.places S.knot S.spots) (trains S.table) shapes
 Shows S Points shapes = shapes ≡ map dot_at S.spots
@@ -138,11 +138,12 @@ pub record IsLayer (S : Subject) (layer : Layer) (g : Group) : Type 0 where
 -- The picture has a size, a spot for each point, a knot exactly if the state has one, and exactly one group for each layer, in order.
 pub record IsDrawn (L : Layout) (names : List (String Global)) (T : Table) (p : List ℕ) (width height : ℕ) (groups : List Group) : Type 0 where
   pub spots : List Spot
+  pub across : ℕ
   pub knot : List ℕ
   pub wide : 0 < width
   pub high : 0 < height
   pub spot_for_each : length spots ≡ length L.points
   pub is_knot : IsKnotOrNone T p knot
   pub layered : AllZip
-      (IsLayer (record { layout = L; names = names; table = T; places = p; knot = knot; spots = spots; width = width; height = height }))
+      (IsLayer (record { layout = L; names = names; table = T; places = p; knot = knot; spots = spots; across = across; width = width; height = height }))
       layers groups

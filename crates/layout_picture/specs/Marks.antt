@@ -21,6 +21,7 @@ bow_of from toward to = record {
   name = codes "path";
   attributes =
       record { name = codes "d"; value = codes "M" ++ pair_of from ++ codes " Q" ++ pair_of toward ++ codes " " ++ pair_of to } ∷ [];
+  title = [];
   words = [];
 }
 

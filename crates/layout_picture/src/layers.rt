@@ -7,6 +7,7 @@ ghost use Rattle.layout_picture.specs.Drawn.{class_name};
 pub(crate) enum Layer {
     Ground,
     Sections,
+    Stripes,
     Links,
     Circle,
     Points,
@@ -19,9 +20,10 @@ pub(crate) enum Layer {
 }
 
 /// All layers, from the back to the front.
-pub(crate) const LAYERS: [Layer; 11] = [
+pub(crate) const LAYERS: [Layer; 12] = [
     Layer::Ground,
     Layer::Sections,
+    Layer::Stripes,
     Layer::Links,
     Layer::Circle,
     Layer::Points,
@@ -40,6 +42,7 @@ pub(crate) fn class_of(layer: Layer) -> &'static str
     match layer {
         Layer::Ground => "background",
         Layer::Sections => "sections",
+        Layer::Stripes => "stripes",
         Layer::Links => "links",
         Layer::Circle => "circle",
         Layer::Points => "points",
@@ -57,6 +60,7 @@ pub(crate) fn title_of(layer: Layer) -> &'static str {
     match layer {
         Layer::Ground => "ground",
         Layer::Sections => "sections",
+        Layer::Stripes => "stripes of sections",
         Layer::Links => "links",
         Layer::Circle => "trains that wait for one another",
         Layer::Points => "points",

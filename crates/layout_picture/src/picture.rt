@@ -8,7 +8,7 @@ ghost use Rattle.layout_picture.specs.Drawn.{IsDrawn, IsLayer, Shows, ground_of,
 use crate::circles::circles_of;
 use crate::layers::{LAYERS, Layer, class_of, title_of};
 use crate::reds::{knot_of, looks_of};
-use crate::sections::{inside_of, push_areas};
+use crate::sections::{inside_of, push_areas, push_stripes};
 use crate::tracks::{push_dots, push_links};
 use crate::trains::{push_arrows, push_waits};
 use layout_frame::{
@@ -22,7 +22,7 @@ use svg_text::{Group, Picture, Shape, Spot};
 
 // How the groups look.
 const STYLE: &str =
-    "svg{font-family:sans-serif;font-size:12px;fill:#1f2933} .background{fill:#fff} .names,.trains{paint-order:stroke;stroke:#fff;stroke-width:3px;stroke-linejoin:round} .sections{fill:none;stroke-linecap:round;stroke-linejoin:round} .sections path{opacity:.38} .links{fill:none;stroke:#5b6770;stroke-width:3} .circle{fill:none;stroke:#d00000;stroke-width:6} .points{fill:#fff;stroke:#1f2933;stroke-width:2} .numbers{font-size:10.5px;fill:#3d474f;paint-order:stroke;stroke:#fff;stroke-width:2px} .arrows{stroke:#fff;stroke-width:1.5;stroke-linejoin:round} .trains,.heading{font-weight:bold} .heading{font-size:15px}";
+    "svg{font-family:sans-serif;font-size:12px;fill:#1f2933} .background{fill:#fff} .names,.trains{paint-order:stroke;stroke:#fff;stroke-width:3px;stroke-linejoin:round} .sections,.stripes{fill:none} .sections{stroke-linecap:round;stroke-linejoin:round} .sections path,.stripes path,.legend path{opacity:.38} .legend path{stroke-width:14} .links{fill:none;stroke:#5b6770;stroke-width:3} .circle{fill:none;stroke:#d00000;stroke-width:6} .points{fill:#fff;stroke:#1f2933;stroke-width:2} .numbers{font-size:10.5px;fill:#3d474f;paint-order:stroke;stroke:#fff;stroke-width:2px} .arrows{stroke:#fff;stroke-width:1.5;stroke-linejoin:round} .trains,.heading{font-weight:bold} .heading{font-size:15px}";
 
 // Gives a ground the size of a picture.
 fn widen(ground: &mut Shape, view: &View) -> Result<(), AllocError>
@@ -51,6 +51,7 @@ fn draw(shapes: &mut Vec<Shape>, view: &View, layer: Layer) -> Result<(), AllocE
     match layer {
         Layer::Ground => push_ground(shapes, view),
         Layer::Sections => push_areas(shapes, view),
+        Layer::Stripes => push_stripes(shapes, view),
         Layer::Links => push_links(shapes, view, view.layout.links()),
         Layer::Circle => push_waits(shapes, view),
         Layer::Points => push_dots(shapes, view.alloc, &view.frame.spots),

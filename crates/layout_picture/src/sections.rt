@@ -1,21 +1,23 @@
 // Sections as pale areas behind their points.
-ghost use Rattle.std.specs.Prelude.{◌≡◌, ◌<◌, ◌++◌, IfOk, OnOk, codes, decimal, length, flat_map, string_bytes};
+ghost use Rattle.std.specs.Prelude.{◌≡◌, ◌<◌, ◌++◌, IfOk, OnOk, codes, decimal, length, map, flat_map, string_bytes};
 ghost use Rattle.state_sentences.specs.Explanation.{joined_below};
 ghost use Rattle.rail_model.specs.Checks.{below};
 ghost use Rattle.layout_frame.specs.Spots.{painted};
-ghost use Rattle.layout_picture.specs.Areas.{dot_words, line_words, way_over as words_over, way_of};
-ghost use Rattle.layout_picture.specs.Areas.{first_attribute, is_marked};
-ghost use Rattle.layout_picture.specs.Drawn.{AddsShapes, AreAreas, marks};
+ghost use Rattle.layout_picture.specs.Areas.{dot_words, line_words, way_over as words_over, area_width as width_of};
+ghost use Rattle.layout_picture.specs.Areas.{area_of, is_marked, stripes_over};
+ghost use Rattle.layout_picture.specs.Drawn.{marks};
 
 use crate::insides::has_point;
 use crate::shapes::path;
-use layout_frame::{View, area_colour, push_shape};
+use layout_frame::{View, area_colour, area_stripes, push_painted, push_shape};
 use rail_model::{Layout, Link, Table, points_of, sections_of};
 use std::alloc::{AllocError, Global};
 use svg_text::{Shape, Spot};
 
 // How wide the area of a section is. Sections that share points have areas of different width.
-fn area_width(across: u64, section: u32) -> u64 {
+fn area_width(across: u64, section: u32) -> u64
+    ensures { result ≡ width_of across section }
+{
     across.max(26).min(60) * u64::from(5 - section % 4) / 5
 }
 
@@ -109,8 +111,8 @@ fn dye(shape: &mut Shape, alloc: Global, colour: &str, width: u64) -> Result<(),
 // The area of a section.
 fn area(view: &View, section: u32) -> Result<Shape, AllocError>
     requires { section < length view.now.scene.now.table.now.sections }
-    ensures { IfOk result (λ shape. first_attribute shape
-        ≡ way_of view.now.layout.now view.now.frame.now.spots.items (marks view.now section)) }
+    ensures { IfOk result (λ shape. shape ≡ area_of view.now.layout.now view.now.scene.now.table.now
+        view.now.frame.now.spots.items view.now.frame.now.grid.across section) }
 {
     let way = way_over(view, section)?;
     let mut shape = path(view.alloc, way.as_str())?;
@@ -121,12 +123,44 @@ fn area(view: &View, section: u32) -> Result<Shape, AllocError>
 
 /// Adds an area for each section.
 pub(crate) fn push_areas(shapes: &mut Vec<Shape>, view: &View) -> Result<(), AllocError>
-    ensures { OnOk result (AddsShapes (AreAreas view.now.layout.now view.now.scene.now.table.now view.now.frame.now.spots.items
-        (below (length view.now.scene.now.table.now.sections)))
-        shapes.old.items shapes.new.items) }
+    ensures { OnOk result (shapes.new.items ≡ shapes.old.items
+        ++ map (area_of view.now.layout.now view.now.scene.now.table.now view.now.frame.now.spots.items
+        view.now.frame.now.grid.across) (below (length view.now.scene.now.table.now.sections))) }
 {
     for section in 0..sections_of(view.scene.table) {
         push_shape(shapes, area(view, section)?)?;
+    }
+    Ok(())
+}
+
+// Adds the stripes over the area of a section, if it has some.
+fn push_striped(shapes: &mut Vec<Shape>, view: &View, section: u32) -> Result<(), AllocError>
+    requires { section < length view.now.scene.now.table.now.sections }
+    ensures { OnOk result (shapes.new.items ≡ shapes.old.items
+        ++ stripes_over view.now.layout.now view.now.scene.now.table.now view.now.frame.now.spots.items
+        view.now.frame.now.grid.across section) }
+{
+    let stripes = area_stripes(section);
+    if stripes.is_empty() {
+        return Ok(());
+    }
+    push_painted(
+        shapes,
+        view.alloc,
+        area(view, section)?,
+        "stroke-dasharray",
+        stripes,
+    )
+}
+
+/// Adds the stripes over the areas of sections.
+pub(crate) fn push_stripes(shapes: &mut Vec<Shape>, view: &View) -> Result<(), AllocError>
+    ensures { OnOk result (shapes.new.items ≡ shapes.old.items
+        ++ flat_map (stripes_over view.now.layout.now view.now.scene.now.table.now view.now.frame.now.spots.items
+        view.now.frame.now.grid.across) (below (length view.now.scene.now.table.now.sections))) }
+{
+    for section in 0..sections_of(view.scene.table) {
+        push_striped(shapes, view, section)?;
     }
     Ok(())
 }

@@ -4,7 +4,7 @@ ghost use Rattle.layout_picture.specs.Drawn.{AddsShapes, AreLinkLines, step_betw
 ghost use Rattle.layout_picture.specs.Marks.{dot_at, pair_of, bow_of, stroke_of, ends_of, ends_at};
 
 use crate::shapes::path;
-use layout_frame::{Frame, View, bow_between, push_shape};
+use layout_frame::{View, bow_between, push_shape};
 use rail_model::Link;
 use std::alloc::{AllocError, Global};
 use svg_text::{Shape, Spot, circle, line};
@@ -32,14 +32,14 @@ pub(crate) struct Way {
 }
 
 // The way between two points that goes over no third one.
-fn way_between(frame: &Frame, first: u32, second: u32) -> Way
-    ensures { ends_of result ≡ ends_at frame.now.spots.items first second }
+fn way_between(view: &View, first: u32, second: u32) -> Way
+    ensures { ends_of result ≡ ends_at view.now.frame.now.spots.items first second }
 {
-    let from = frame.spot(first);
-    let to = frame.spot(second);
+    let from = view.frame.spot(first);
+    let to = view.frame.spot(second);
     Way {
         from,
-        toward: bow_between(frame, from, to),
+        toward: bow_between(view.frame, view.layout.links(), from, to),
         to,
     }
 }
@@ -88,7 +88,7 @@ pub(crate) fn push_line(
         (AreLinkLines view.now.frame.now.spots.items (step_between (Some first) (Some second)))
         shapes.old.items shapes.new.items) }
 {
-    let way = way_between(view.frame, first, second);
+    let way = way_between(view, first, second);
     push_shape(shapes, stroke(view.alloc, way)?)
 }
 

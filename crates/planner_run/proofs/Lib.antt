@@ -1,4 +1,5 @@
 mod Certified
+mod Pages
 mod Protected
 mod Remarked
 mod Standing

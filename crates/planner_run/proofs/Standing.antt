@@ -23,7 +23,7 @@ works_on_standing (Protect budget effort rounds output) plan input text names ot
 works_on_standing (AddOrders output) plan input text names other stands = stands
 works_on_standing (OrderByRun seed journal output) plan input text names other stands = stands
 works_on_standing (Timetable csv journal delay) plan input text names other stands = stands
-works_on_standing (Graph train journal delay) plan input text names other stands = stands
+works_on_standing (Graph train journal blocks delay) plan input text names other stands = stands
 works_on_standing (Report title journal delay) plan input text names other stands = stands
 works_on_standing (CompareWith csv file) plan input text names other stands = stands
 works_on_standing (CompareDelayed csv delay) plan input text names other stands = stands
@@ -48,7 +48,7 @@ notes_there (ExplainLine line file) plan input document names works notes = absu
 notes_there (Lint before file) plan input document names works notes = absurd notes
 notes_there (Certify budget effort) plan input document names works notes = absurd notes
 notes_there (Timetable csv journal delay) plan input document names works notes = absurd notes
-notes_there (Graph train journal delay) plan input document names works notes = absurd notes
+notes_there (Graph train journal blocks delay) plan input document names works notes = absurd notes
 notes_there (Report title journal delay) plan input document names works notes = absurd notes
 notes_there (CompareWith csv file) plan input document names works notes = absurd notes
 notes_there (CompareDelayed csv delay) plan input document names works notes = absurd notes

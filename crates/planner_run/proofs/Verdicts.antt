@@ -12,6 +12,6 @@ module _ (D : Doc) (names : List (Vec (String Global) Global)) where
   pub verdict_said : (why : Uncertified) (verdict : Verdict) → HasNone D 1000000 why → SaysWhyNot D names why verdict → IsVerdictOn D names verdict
   verdict_said why (Stuck lines) none says = record { why = why; has_none = none; says = says }
   verdict_said why (Undecided lines) none says = record { why = why; has_none = none; says = says }
-  verdict_said (StuckAt t p) Certified none says = absurd says
-  verdict_said (GaveUp t nodes) Certified none says = absurd says
-  verdict_said Memory Certified none says = absurd says
+  verdict_said (StuckAt t p) (Certified sizes) none says = absurd says
+  verdict_said (GaveUp t nodes) (Certified sizes) none says = absurd says
+  verdict_said Memory (Certified sizes) none says = absurd says

@@ -25,7 +25,7 @@ use Rattle.ats_words.specs.declared.answering.WordsAnswered.{WordsAnswered}
 use Rattle.ats_words.specs.declared.answering.WordsAnswered.TheVariants.{Shown, Refused, Memory}
 use Rattle.planner_run.specs.Certifying.{IsCertifiedInput, IsCertifyingFault}
 use Rattle.planner_run.specs.Comparing.{IsComparison, IsComparisonWith}
-use Rattle.planner_run.specs.Drawn.{IsGraphOf, IsLayoutAt}
+use Rattle.planner_run.specs.Drawn.{IsGraphWithWaits, IsLayoutAt}
 use Rattle.planner_run.specs.Explaining.{ExplainsPlaces, ExplainsWords}
 use Rattle.planner_run.specs.Entering.{AsksForEntries, IsPut, output_of}
 use Rattle.planner_run.specs.Ordering.{IsOrderedInput}
@@ -38,12 +38,13 @@ use Rattle.planner_run.specs.declared.top.Status.{Status}
 use Rattle.planner_run.specs.declared.top.Status.TheVariants.{Done, Faulty, Failed}
 use denote.Ref.{Bor}
 
--- The text is the graph of the input's run, with a delay if one is named.
-pub record IsGraphText (input : List ℕ) (delay : Option (Bor (List ℕ))) (text : List ℕ) : Type 0 where
+-- The text is the graph of the input's run, with a delay if one is named, by these names of sections, and with bars where points are taken if
+-- this is asked for.
+pub record IsGraphText (input : List ℕ) (names : List (Vec (String Global) Global)) (delay : Option (Bor (List ℕ))) (blocks : Bool) (text : List ℕ) : Type 0 where
   pub document : Doc
   pub run : Run
   pub is_run : IsRunOf input delay document run
-  pub is_graph : IsGraphOf document.layout run text
+  pub is_graph : IsGraphWithWaits document names run blocks text
 
 -- The text is the timetable of a run of a document: as comma-separated values, exactly these. Of columns nothing is said.
 abbrev pub IsTimetableOf : Doc → Run → Bool → List ℕ → Type 0
@@ -96,7 +97,7 @@ WorksOn (Protect budget effort rounds output) plan input text names = Stands pla
 WorksOn (AddOrders output) plan input text names = Stands plan input text names
 WorksOn (OrderByRun seed journal output) plan input text names = Stands plan input text names
 WorksOn (Timetable csv journal delay) plan input text names = Stands plan input text names
-WorksOn (Graph train journal delay) plan input text names = Stands plan input text names
+WorksOn (Graph train journal blocks delay) plan input text names = Stands plan input text names
 WorksOn (Report title journal delay) plan input text names = Stands plan input text names
 WorksOn (CompareWith csv file) plan input text names = Stands plan input text names
 WorksOn (CompareDelayed csv delay) plan input text names = Stands plan input text names
@@ -122,7 +123,7 @@ IsTextFor (Protect budget effort rounds output) former input names text = IsProt
 IsTextFor (AddOrders output) former input names text = IsOrderedInput input text
 IsTextFor (OrderByRun seed journal output) former input names text = IsInputByRun input text
 IsTextFor (Timetable csv journal delay) former input names text = IsTimetableText input delay csv text
-IsTextFor (Graph train journal delay) former input names text = IsGraphText input delay text
+IsTextFor (Graph train journal blocks delay) former input names text = IsGraphText input names delay blocks text
 IsTextFor (Report title journal delay) former input names text = IsReportText input delay names title.now text
 IsTextFor (CompareWith csv file) former input names text = IfThere former (λ other. IsComparisonWith input other csv text)
 IsTextFor (CompareDelayed csv delay) former input names text = IsComparison input input (Some delay) csv text
@@ -152,7 +153,7 @@ AreWrongFor (Lint before file) input lines = Unit {0}
 AreWrongFor (AddOrders output) input lines = Unit {0}
 AreWrongFor (OrderByRun seed journal output) input lines = Unit {0}
 AreWrongFor (Timetable csv journal delay) input lines = Unit {0}
-AreWrongFor (Graph train journal delay) input lines = Unit {0}
+AreWrongFor (Graph train journal blocks delay) input lines = Unit {0}
 AreWrongFor (Report title journal delay) input lines = Unit {0}
 AreWrongFor (CompareWith csv file) input lines = Unit {0}
 AreWrongFor (CompareDelayed csv delay) input lines = Unit {0}
@@ -197,7 +198,7 @@ AsksForRemarks (Protect budget effort rounds output) = ⊥
 AsksForRemarks (AddOrders output) = ⊥
 AsksForRemarks (OrderByRun seed journal output) = ⊥
 AsksForRemarks (Timetable csv journal delay) = ⊥
-AsksForRemarks (Graph train journal delay) = ⊥
+AsksForRemarks (Graph train journal blocks delay) = ⊥
 AsksForRemarks (Report title journal delay) = ⊥
 AsksForRemarks (CompareWith csv file) = ⊥
 AsksForRemarks (CompareDelayed csv delay) = ⊥
@@ -221,7 +222,7 @@ HasNotes (ExplainLine line file) read = ⊥
 HasNotes (Lint before file) read = ⊥
 HasNotes (Certify budget effort) read = ⊥
 HasNotes (Timetable csv journal delay) read = ⊥
-HasNotes (Graph train journal delay) read = ⊥
+HasNotes (Graph train journal blocks delay) read = ⊥
 HasNotes (Report title journal delay) read = ⊥
 HasNotes (CompareWith csv file) read = ⊥
 HasNotes (CompareDelayed csv delay) read = ⊥

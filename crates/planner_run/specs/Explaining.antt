@@ -1,9 +1,10 @@
 -- How states and lines are explained.
-use Rattle.std.specs.Prelude.{◌≡◌, ℕ, ◌++◌, Bool, true, false, List, Ok, Some, String, Vec, string_bytes}
+use Rattle.std.specs.Prelude.{◌≡◌, ℕ, ◌++◌, Bool, true, false, List, Result, Ok, Err, Some, String, Vec, string_bytes}
 use Rattle.std.specs.declared.alloc.Global.{Global}
 use Rattle.decimal_number.specs.Decimal.{number_of}
 use Rattle.document_json.specs.Doc.{Doc}
 use Rattle.document_json.specs.Reading.{doc_of}
+use Rattle.document_json.specs.declared.refused.DocRefused.{DocRefused}
 use Rattle.refusal_lines.specs.Makers.{places_words}
 use Rattle.refusal_sentences.specs.Explains.{ExplainsIn}
 use Rattle.refusal_sentences.specs.ExplainedLines.{ExplainsLine}
@@ -45,6 +46,11 @@ pub record ExplainsPlacesIn (D : Doc) (names : List (Vec (String Global) Global)
   pub told : Explained
   pub explains : ExplainsIn D names t p told
   pub tells : TellsState D t p run told text
+
+-- The text explains positions under table t of a document that was read; of one that is refused there is no such text.
+abbrev pub ExplainsPlacesOf : Result Doc DocRefused → List (Vec (String Global) Global) → ℕ → List ℕ → Bool → List ℕ → Type 0
+ExplainsPlacesOf (Ok D) names t p run text = ExplainsPlacesIn D names t p run text
+ExplainsPlacesOf (Err refused) names t p run text = ⊥
 
 -- The input is a document, and the text explains the positions that the words name, under the table that they name, and tells of runs to
 -- them if this is asked for.

@@ -1,15 +1,16 @@
 -- What pages are.
-use Rattle.std.specs.Prelude.{◌≡◌, ◌⊎◌, ℕ, List, [], ◌∷◌, ◌++◌, codes, flat_map, Ok, Option, Some, None, String, Vec, option_map, string_bytes}
+use Rattle.std.specs.Prelude.{◌≡◌, ◌⊎◌, ℕ, false, List, [], ◌∷◌, ◌++◌, codes, flat_map, length, map, Ok, Option, Some, None, String, Vec, option_map, string_bytes}
 use Rattle.std.specs.declared.alloc.Global.{Global}
 use Rattle.accepted_documents.specs.Accepting.{AreAccepted}
 use Rattle.document_certificates.specs.Certified.{HasNone, IsCertified}
 use Rattle.document_certificates.specs.declared.uncertified.Uncertified.{Uncertified}
 use Rattle.document_certificates.specs.declared.uncertified.Uncertified.TheVariants.{Memory, Stuck as StuckAt, GaveUp}
-use Rattle.document_json.specs.Doc.{Doc, names_of, table_at}
+use Rattle.document_json.specs.Doc.{Doc, names_of, nodes_at, table_at}
 use Rattle.document_json.specs.Reading.{doc_of}
 use Rattle.document_lint.specs.Told.{AreRemarks, IsSoOf}
 use Rattle.document_lint.specs.declared.remark.Remark.{Remark}
 use Rattle.rail_model.specs.Certificate.{Tree}
+use Rattle.rail_model.specs.Checks.{below}
 use Rattle.refusal_sentences.specs.Explains.{sections_named}
 use Rattle.report_page.specs.Page.{IsPage}
 use Rattle.report_page.specs.declared.writing.Report.{Report}
@@ -18,6 +19,7 @@ use Rattle.report_page.specs.declared.writing.Verdict.TheVariants.{Certified, St
 use Rattle.run_timetable.specs.declared.run.Run.{Run}
 use Rattle.state_sentences.specs.Tells.{Tells}
 use Rattle.timed_reading.specs.Reads.{mark}
+use Rattle.wait_causes.specs.Waits.{AreWaits}
 use Rattle.planner_run.specs.Certifying.{gave_up_words}
 use Rattle.planner_run.specs.Drawn.{IsGraphOf, IsLayoutAt}
 use Rattle.planner_run.specs.Explaining.{IsToldWithRun}
@@ -45,9 +47,18 @@ pub record AreRemarksOn (input : List ℕ) (shown : Option (List ℕ)) : Type 0 
   pub are_right : AreRemarks (IsSoOf None document) found
   pub are_shown : shown ≡ shown_remarks found
 
--- Each table of the document has a certificate: a search found one of at most 1,000,000 nodes, or the document itself has it.
-abbrev pub HasCertificates : Doc → Type 0
-HasCertificates D = ((text : List ℕ) × IsCertified D 1000000 text) ⊎ ((trees : List Tree) × AreAccepted D trees)
+-- how many nodes the certificate of each table of a document has
+abbrev pub certificate_sizes : Doc → List ℕ
+certificate_sizes D = map (λ t. length (nodes_at D t)) (below (length D.tables))
+
+-- The text is a document, whose certificates have so many nodes.
+abbrev pub AreSizesIn : List ℕ → List ℕ → Type 0
+AreSizesIn text sizes = (D : Doc) × (doc_of text ≡ Ok D) × (sizes ≡ certificate_sizes D)
+
+-- Each table of the document has a certificate, of so many nodes: a search found one of at most 1,000,000 nodes, or the document itself has it.
+abbrev pub HasCertificates : Doc → List ℕ → Type 0
+HasCertificates D sizes =
+    ((text : List ℕ) × IsCertified D 1000000 text × AreSizesIn text sizes) ⊎ ((trees : List Tree) × AreAccepted D trees × (sizes ≡ certificate_sizes D))
 
 -- The lines tell of places under table t what holds each train there, with the knot, and what is known of runs from the start to them.
 pub record TellsPlaces (D : Doc) (names : List (Vec (String Global) Global)) (t : ℕ) (p lines : List ℕ) : Type 0 where
@@ -58,10 +69,10 @@ pub record TellsPlaces (D : Doc) (names : List (Vec (String Global) Global)) (t 
 -- The verdict says why there are no certificates: a state is stuck, of which lines tell, or the searches gave up.
 abbrev pub SaysWhyNot : Doc → List (Vec (String Global) Global) → Uncertified → Verdict → Type 0
 SaysWhyNot D names (StuckAt t p) (Stuck lines) = TellsPlaces D names t p (string_bytes lines)
-SaysWhyNot D names (StuckAt t p) Certified = ⊥
+SaysWhyNot D names (StuckAt t p) (Certified sizes) = ⊥
 SaysWhyNot D names (StuckAt t p) (Undecided lines) = ⊥
 SaysWhyNot D names (GaveUp t nodes) (Undecided lines) = string_bytes lines ≡ gave_up_words t nodes ++ codes "\n"
-SaysWhyNot D names (GaveUp t nodes) Certified = ⊥
+SaysWhyNot D names (GaveUp t nodes) (Certified sizes) = ⊥
 SaysWhyNot D names (GaveUp t nodes) (Stuck lines) = ⊥
 SaysWhyNot D names Memory verdict = ⊥
 
@@ -73,7 +84,7 @@ pub record IsUncertifiedVerdict (D : Doc) (names : List (Vec (String Global) Glo
 
 -- What a page says of certificates.
 abbrev pub IsVerdictOn : Doc → List (Vec (String Global) Global) → Verdict → Type 0
-IsVerdictOn D names Certified = HasCertificates D
+IsVerdictOn D names (Certified sizes) = HasCertificates D sizes.items
 IsVerdictOn D names (Stuck lines) = IsUncertifiedVerdict D names (Stuck lines)
 IsVerdictOn D names (Undecided lines) = IsUncertifiedVerdict D names (Undecided lines)
 
@@ -104,7 +115,8 @@ pub record IsReportOf (input : List ℕ) (D : Doc) (names : List (Vec (String Gl
   pub is_verdict : IsVerdictOn D names shown.verdict.now
   pub is_layout : IsLayoutAt D names 0 D.start shown.tracks.now
   pub is_run : option_map (λ r. r.now) shown.run ≡ Some run
-  pub is_graph : IsGraphOf D.layout run shown.graph.now
+  pub are_waits : AreWaits D names run shown.waits.now
+  pub is_graph : IsGraphOf D run shown.waits.now false shown.graph.now
   pub is_about : IsAbout D names 0 shown
   pub are_remarks : AreRemarksOn input (option_map (λ s. s.now) shown.remarks)
   pub is_page : IsPage shown text

@@ -12,7 +12,7 @@ use crate::ordering::{add_orders, order_by_run};
 use crate::planning::plan;
 use crate::protecting::protect;
 use crate::reporting::{Asked, report};
-use crate::timing::{graph, timetable};
+use crate::timing::{GraphAsked, graph, timetable};
 use cert_search::Watcher;
 use plan_input::{PlanFile, Standing, document_for, is_document};
 use planner_words::Order;
@@ -129,7 +129,22 @@ fn answer_for<W: Watcher>(
         Order::AddOrders { .. } => add_orders(alloc, document),
         Order::OrderByRun { seed, .. } => order_by_run(alloc, document, *seed),
         Order::Timetable { csv, delay, .. } => timetable(alloc, document, *delay, *csv, watcher),
-        Order::Graph { train, delay, .. } => graph(alloc, document, *delay, *train, watcher),
+        Order::Graph {
+            train,
+            blocks,
+            delay,
+            ..
+        } => graph(
+            alloc,
+            document,
+            *delay,
+            GraphAsked {
+                names,
+                train: *train,
+                blocks: *blocks,
+            },
+            watcher,
+        ),
         Order::Report { title, delay, .. } => report(
             alloc,
             Asked {

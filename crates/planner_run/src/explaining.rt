@@ -1,11 +1,11 @@
 // Explanations of states and of lines.
 ghost use Rattle.std.specs.Prelude.{◌≡◌, IfOk, string_bytes};
 ghost use Rattle.planner_run.specs.Answered.{IfText};
-ghost use Rattle.planner_run.specs.Explaining.{ExplainsAs, ExplainsPlaces, ExplainsPlacesIn, ExplainsWords, IsToldWithRun, TellsState};
+ghost use Rattle.planner_run.specs.Explaining.{ExplainsAs, ExplainsPlaces, ExplainsPlacesIn, ExplainsPlacesOf, ExplainsWords, IsToldWithRun, TellsState};
 
 use crate::Answer;
 use decimal_number::number_of;
-use document_json::{Doc, DocRefused, document_kept};
+use document_json::{Doc, DocRefused, Kept, document_kept};
 use json::Scratch;
 use rail_model::State;
 use refusal_meanings::no_document_text;
@@ -47,6 +47,20 @@ pub(crate) fn state(
     };
     let mut scratch = Scratch::new(alloc);
     let read = document_kept(alloc, input, &mut scratch);
+    state_read(alloc, &read, names, table, places, run)
+}
+
+// What holds each train at these places, under a table of a document that was read, if it was.
+fn state_read(
+    alloc: Global,
+    read: &Kept<'_>,
+    names: &[Vec<String>],
+    table: u32,
+    places: Vec<u32>,
+    run: bool,
+) -> Result<Answer, AllocError>
+    ensures { IfOk result (IfText (ExplainsPlacesOf read.now.document names.now table places.items run)) }
+{
     match &read.document {
         Ok(doc) => state_in(alloc, doc, names, table, places, run),
         Err(DocRefused::Memory) => Err(AllocError),

@@ -1,11 +1,15 @@
 // Pages.
-ghost use Rattle.std.specs.Prelude.{◌≡◌, ◌<◌, IfOk, length, option_map, string_bytes};
+ghost use Rattle.std.specs.Prelude.{◌≡◌, ◌<◌, IfOk, List, false, length, option_map, string_bytes};
+ghost use Rattle.accepted_documents.specs.Accepting.{AreAccepted};
 ghost use Rattle.document_certificates.specs.Certified.{HasNone};
 ghost use Rattle.document_json.specs.Doc.{table_at};
+ghost use Rattle.rail_model.specs.Certificate.{Tree};
 ghost use Rattle.rail_model.specs.State.{Legal};
 ghost use Rattle.timed_reading.specs.Runs.{IsToldRun};
 ghost use Rattle.planner_run.specs.Answered.{IfText};
-ghost use Rattle.planner_run.specs.Reporting.{AreRemarksOn, IsDocumentIn, IsLayoutFor, IsOpenReportOf, IsReportOf, IsReportText, IsVerdictOn, SaysWhyNot, TellsPlaces, stuck_table};
+ghost use Rattle.planner_run.specs.Drawn.{IsGraphOf};
+ghost use Rattle.planner_run.specs.Running.{IsRan};
+ghost use Rattle.planner_run.specs.Reporting.{AreRemarksOn, AreSizesIn, IsDocumentIn, IsLayoutFor, IsOpenReportOf, IsReportOf, IsReportText, IsVerdictOn, SaysWhyNot, TellsPlaces, certificate_sizes as sizes_of, stuck_table};
 
 use crate::Answer;
 use crate::certifying::lines_on;
@@ -16,7 +20,7 @@ use crate::running::{MOST_NODES, Ran, find_run};
 use crate::timing::graph_text;
 use cert_search::{Effort, Watcher};
 use document_certificates::{Uncertified, certified_text};
-use document_json::{Doc, layout_of, names_of, start_of, table_of};
+use document_json::{Doc, document, layout_of, names_of, nodes_of, start_of, table_of, tables_of};
 use document_lint::lint;
 use rail_model::State;
 use refusal_sentences::sections_named;
@@ -25,6 +29,8 @@ use run_timetable::Run;
 use state_sentences::{Scene, text_of};
 use std::alloc::{AllocError, Global};
 use timed_reading::cut;
+use train_graph::Wish;
+use wait_causes::{Wait, waits};
 
 /// What a page is asked for: the input, a delay if there is one, the names of the sections of each table, and a title.
 #[derive(Clone, Copy)]
@@ -43,14 +49,76 @@ pub(crate) fn report<W: Watcher>(
 ) -> Result<Answer, AllocError>
     ensures { IfOk result (IfText (IsReportText asked.entry.input.now asked.entry.delay asked.entry.names.now asked.entry.title.now)) }
 {
-    match find_run(alloc, asked.input, asked.delay, watcher)? {
-        Ran::Given { doc, run } => {
-            let verdict = verdict_on(alloc, &doc, asked.names, watcher)?;
-            report_of(alloc, &doc, &run, asked, &verdict)
-        }
-        Ran::Own { doc, run } => report_of(alloc, &doc, &run, asked, &Verdict::Certified),
-        Ran::Open { doc, why } => open_report_of(alloc, &doc, &why, asked),
-        Ran::Not(lines) => Ok(Answer::Wrong(lines)),
+    let ran = find_run(alloc, asked.input, asked.delay, watcher)?;
+    report_on(alloc, &ran, asked, watcher)
+}
+
+// The page of what was found of an input.
+fn report_on<'a, W: Watcher>(
+    alloc: Global,
+    ran: &'a Ran,
+    asked: Asked<'a>,
+    watcher: &W,
+) -> Result<Answer, AllocError>
+    requires { IsRan asked.input.now asked.delay ran.now }
+    ensures { IfOk result (IfText (IsReportText asked.entry.input.now asked.entry.delay asked.entry.names.now asked.entry.title.now)) }
+{
+    match ran {
+        Ran::Given { doc, run } => given_report(alloc, doc, run, asked, watcher),
+        Ran::Own { doc, run } => own_report(alloc, doc, run, asked),
+        Ran::Open { doc, why } => open_report_of(alloc, doc, why, asked),
+        Ran::Not(lines) => Ok(Answer::Wrong(lines.clone()?)),
+    }
+}
+
+// The page of a run that was given, with what is found of certificates.
+fn given_report<'a, W: Watcher>(
+    alloc: Global,
+    doc: &'a Doc,
+    run: &'a Run,
+    asked: Asked<'a>,
+    watcher: &W,
+) -> Result<Answer, AllocError>
+    requires { IsToldRun doc.now run.now }
+    ensures { IfOk result (IfText (IsReportOf asked.entry.input.now doc.now asked.entry.names.now asked.entry.title.now run.now)) }
+{
+    let verdict = verdict_on(alloc, doc, asked.names, watcher)?;
+    report_of(alloc, doc, run, asked, &verdict)
+}
+
+// The page of the run of a document that has certificates.
+fn own_report<'a>(
+    alloc: Global,
+    doc: &'a Doc,
+    run: &'a Run,
+    asked: Asked<'a>,
+) -> Result<Answer, AllocError>
+    requires told { IsToldRun doc.now run.now }
+    requires accepted { (trees : List Tree) × AreAccepted doc.now trees }
+    ensures { IfOk result (IfText (IsReportOf asked.entry.input.now doc.now asked.entry.names.now asked.entry.title.now run.now)) }
+{
+    let verdict = Verdict::Certified(certificate_sizes(alloc, doc)?);
+    report_of(alloc, doc, run, asked, &verdict)
+}
+
+// How many nodes the certificate of each table of a document has.
+fn certificate_sizes(alloc: Global, doc: &Doc) -> Result<Vec<u64>, AllocError>
+    ensures { IfOk result (λ sizes. sizes.items ≡ sizes_of doc.now) }
+{
+    let mut sizes = Vec::new(alloc);
+    for table in 0..tables_of(doc) {
+        sizes.push(nodes_of(doc, table).len() as u64)?;
+    }
+    Ok(sizes)
+}
+
+// The same of a text that is a document.
+fn sizes_in(alloc: Global, text: &[u8]) -> Result<Vec<u64>, AllocError>
+    ensures { IfOk result (λ sizes. AreSizesIn text.now sizes.items) }
+{
+    match document(alloc, text) {
+        Ok(doc) => certificate_sizes(alloc, &doc),
+        Err(_) => Err(AllocError),
     }
 }
 
@@ -70,7 +138,8 @@ fn report_of<'a>(
         Answer::Text(tracks) => tracks,
         other => return Ok(other),
     };
-    let graph = graph_text(alloc, doc, run, None)?;
+    let waits = waits(alloc, doc, run, asked.names)?;
+    let graph = plain_graph(alloc, doc, run, &waits)?;
     let remarks = remarks_on(alloc, asked.input, asked.names)?;
     let played = Some(run);
     let lines = remarks.as_deref();
@@ -80,6 +149,7 @@ fn report_of<'a>(
         tracks: &tracks,
         run: played,
         graph: &graph,
+        waits: &waits,
         layout: layout_of(doc),
         trains: names_of(doc),
         table: table_of(doc, 0),
@@ -87,6 +157,18 @@ fn report_of<'a>(
         remarks: lines,
     };
     Ok(Answer::Text(page(alloc, &shown)?))
+}
+
+// The graph of a run along the longest route, without bars.
+fn plain_graph(alloc: Global, doc: &Doc, run: &Run, waits: &[Wait]) -> Result<Vec<u8>, AllocError>
+    ensures { IfOk result (λ text. IsGraphOf doc.now run.now waits.now false text.items) }
+{
+    let wish = Wish {
+        chosen: None,
+        waits,
+        blocks: false,
+    };
+    graph_text(alloc, doc, run, wish)
 }
 
 // The page of a document for which no certificates were found.
@@ -114,6 +196,7 @@ fn open_report_of<'a>(
         tracks: &tracks,
         run: played,
         graph: &[],
+        waits: &[],
         layout: layout_of(doc),
         trains: names_of(doc),
         table: table_of(doc, table),
@@ -161,7 +244,7 @@ fn verdict_on<W: Watcher>(
     ensures { IfOk result (IsVerdictOn doc.now names.now) }
 {
     match certified_text(alloc, doc, MOST_NODES, Effort::Usual, watcher) {
-        Ok(_) => Ok(Verdict::Certified),
+        Ok(text) => Ok(Verdict::Certified(sizes_in(alloc, &text)?)),
         Err(why) => why_not(alloc, doc, names, &why),
     }
 }

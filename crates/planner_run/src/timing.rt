@@ -2,7 +2,7 @@
 ghost use Rattle.std.specs.Prelude.{◌≡◌, IfOk};
 ghost use Rattle.timed_reading.specs.Runs.{IsToldRun};
 ghost use Rattle.planner_run.specs.Answered.{IfText, IsGraphText, IsTimetableOf, IsTimetableText};
-ghost use Rattle.planner_run.specs.Drawn.{IsGraphOf};
+ghost use Rattle.planner_run.specs.Drawn.{IsGraphOf, IsGraphWithWaits};
 
 use crate::Answer;
 use crate::running::{Found, run_in};
@@ -12,7 +12,8 @@ use rail_model::Names;
 use run_timetable::{Run, columns, csv};
 use std::alloc::{AllocError, Global};
 use svg_text::text;
-use train_graph::train_graph;
+use train_graph::{Wish, train_graph};
+use wait_causes::{Wait, waits};
 
 /// The timetable of a timed run.
 pub(crate) fn timetable<W: Watcher>(
@@ -43,48 +44,67 @@ fn timetable_of(alloc: Global, doc: &Doc, run: &Run, is_csv: bool) -> Result<Ans
     }
 }
 
-/// The graph of a timed run, along the route of a train if one is named.
+/// What a graph is asked for: the names of the sections of each table, the train along whose route it is, if one is named, and whether it
+/// has bars where points are taken.
+#[derive(Clone, Copy)]
+pub(crate) struct GraphAsked<'a> {
+    pub(crate) names: &'a [Vec<String>],
+    pub(crate) train: Option<&'a str>,
+    pub(crate) blocks: bool,
+}
+
+/// The graph of a timed run.
 pub(crate) fn graph<W: Watcher>(
     alloc: Global,
     input: &[u8],
     delay: Option<&str>,
-    train: Option<&str>,
+    asked: GraphAsked<'_>,
     watcher: &W,
 ) -> Result<Answer, AllocError>
-    ensures { IfOk result (IfText (IsGraphText input.now delay.entry)) }
+    ensures { IfOk result (IfText (IsGraphText input.now asked.entry.names.now delay.entry asked.entry.blocks)) }
 {
     match run_in(alloc, input, delay, watcher)? {
-        Found::Run { doc, run } => graph_of(alloc, &doc, &run, train),
+        Found::Run { doc, run } => graph_of(alloc, &doc, &run, asked),
         Found::None(lines) => Ok(Answer::Wrong(lines)),
     }
 }
 
 // The graph of a run of a document.
-fn graph_of(alloc: Global, doc: &Doc, run: &Run, train: Option<&str>) -> Result<Answer, AllocError>
+fn graph_of(
+    alloc: Global,
+    doc: &Doc,
+    run: &Run,
+    asked: GraphAsked<'_>,
+) -> Result<Answer, AllocError>
     requires { IsToldRun doc.now run.now }
-    ensures { IfOk result (IfText (IsGraphOf doc.now.layout run.now)) }
+    ensures { IfOk result (IfText (IsGraphWithWaits doc.now asked.entry.names.now run.now asked.entry.blocks)) }
 {
-    let chosen = match train {
+    let chosen = match asked.train {
         Some(name) => match numbered(names_of(doc), name) {
             Some(train) => Some(train),
             None => return unknown(alloc, name),
         },
         None => None,
     };
-    Ok(Answer::Text(graph_text(alloc, doc, run, chosen)?))
+    let waits = waits(alloc, doc, run, asked.names)?;
+    let wish = Wish {
+        chosen,
+        waits: &waits,
+        blocks: asked.blocks,
+    };
+    Ok(Answer::Text(graph_text(alloc, doc, run, wish)?))
 }
 
-/// The graph of a run of a document, along the route of a train if one is chosen.
+/// The graph of a run of a document.
 pub(crate) fn graph_text(
     alloc: Global,
     doc: &Doc,
     run: &Run,
-    chosen: Option<u32>,
+    wish: Wish<'_>,
 ) -> Result<Vec<u8>, AllocError>
-    requires { IsToldRun doc.now run.now }
-    ensures { IfOk result (λ text. IsGraphOf doc.now.layout run.now text.items) }
+    ensures { IfOk result (λ text. IsGraphOf doc.now run.now wish.entry.waits.now wish.entry.blocks text.items) }
 {
-    let picture = train_graph(alloc, layout_of(doc), names_of(doc), run, chosen)?;
+    let picture = train_graph(alloc, layout_of(doc), names_of(doc), run, wish)?;
     text(alloc, &picture)
 }
 

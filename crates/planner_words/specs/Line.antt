@@ -60,7 +60,7 @@ abbrev pub timetable : Shape
 timetable = leaf (codes "timetable") (flag (codes "csv") ∷ valued (codes "journal") ∷ valued (codes "delay") ∷ [])
 
 abbrev pub graph : Shape
-graph = leaf (codes "graph") (valued (codes "train") ∷ valued (codes "journal") ∷ valued (codes "delay") ∷ [])
+graph = leaf (codes "graph") (valued (codes "train") ∷ valued (codes "journal") ∷ flag (codes "blocks") ∷ valued (codes "delay") ∷ [])
 
 abbrev pub report : Shape
 report = leaf (codes "report") (valued (codes "title") ∷ valued (codes "journal") ∷ valued (codes "delay") ∷ [])

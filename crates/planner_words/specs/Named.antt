@@ -23,7 +23,7 @@ name_of (Protect budget effort rounds output) = codes "protect"
 name_of (AddOrders output) = codes "order"
 name_of (OrderByRun seed journal output) = codes "order"
 name_of (Timetable csv journal delay) = codes "timetable"
-name_of (Graph train journal delay) = codes "graph"
+name_of (Graph train journal blocks delay) = codes "graph"
 name_of (Report title journal delay) = codes "report"
 name_of (CompareWith csv other) = codes "compare"
 name_of (CompareDelayed csv delay) = codes "compare"
@@ -123,8 +123,9 @@ HasValues given (OrderByRun seed journal output) =
 HasValues given (Certify budget effort) = (budget_in given ≡ Some budget) × IsEffort (first_of (codes "effort") given) effort
 HasValues given (Timetable csv journal delay) =
     IsFlag (one_of (codes "csv") given) csv × IsFile (first_of (codes "journal") given) journal × IsDelay given delay
-HasValues given (Graph train journal delay) =
-    (option_map (λ s. s.now) train ≡ first_of (codes "train") given) × IsFile (first_of (codes "journal") given) journal × IsDelay given delay
+HasValues given (Graph train journal blocks delay) =
+    (option_map (λ s. s.now) train ≡ first_of (codes "train") given) × IsFile (first_of (codes "journal") given) journal
+    × IsFlag (one_of (codes "blocks") given) blocks × IsDelay given delay
 HasValues given (Report title journal delay) = (title.now ≡ title_in given) × IsFile (first_of (codes "journal") given) journal × IsDelay given delay
 HasValues given (CompareWith csv other) = IsFlag (one_of (codes "csv") given) csv × (Some other.now ≡ first_of (codes "with") given)
 HasValues given (CompareDelayed csv delay) =

@@ -137,6 +137,11 @@ const TRAIN: Choice = Choice::Value {
     help: "The train whose route is the axis of places (default: the longest route)",
 };
 
+const BLOCKS: Choice = Choice::Flag {
+    name: "blocks",
+    help: "Shows how long each point is taken, as a bar in its row",
+};
+
 const TITLE: Choice = Choice::Value {
     name: "title",
     value: "WORDS",
@@ -215,7 +220,7 @@ const SUBCOMMANDS: [Subcommand; 11] = [
     Subcommand {
         name: "graph",
         about: "Reads what `timetable` reads; writes a picture (SVG) of the trains over time",
-        choices: &[TRAIN, JOURNAL, DELAY],
+        choices: &[TRAIN, JOURNAL, BLOCKS, DELAY],
     },
     Subcommand {
         name: "report",
@@ -251,7 +256,7 @@ fn start<'a>(alloc: Global) -> Command<'a>
     ensures { IsBuiltAs spec.start result }
 {
     Command::new(alloc, "planner")
-        .version("1.16.0")
+        .version("1.17.0")
         .about(ABOUT)
         .no_binary_name(true)
         .subcommand_required(true)

@@ -71,10 +71,11 @@ pub enum Order<'a> {
         journal: Option<&'a str>,
         delay: Option<&'a str>,
     },
-    /// Draw the same, along the route of a train.
+    /// Draw the same, along the route of a train, and with a bar for each point that is taken.
     Graph {
         train: Option<&'a str>,
         journal: Option<&'a str>,
+        blocks: bool,
         delay: Option<&'a str>,
     },
     /// Write a page of the same, with this title.

@@ -118,6 +118,7 @@ fn order_called<'a>(
         "graph" => Ok(Order::Graph {
             train: matches.get_str("train"),
             journal: matches.get_str("journal"),
+            blocks: matches.get_flag("blocks"),
             delay: matches.get_str("delay"),
         }),
         "report" => Ok(Order::Report {

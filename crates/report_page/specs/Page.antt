@@ -1,35 +1,40 @@
 -- The page, as text.
-use Rattle.std.specs.Prelude.{◌≡◌, ℕ, zero, suc, List, [], ◌++◌, codes, flat_map, Option, Some, None, string_bytes}
+use Rattle.std.specs.Prelude.{◌≡◌, ℕ, zero, suc, List, [], ◌++◌, codes, decimal, flat_map, length, slice_index_or, Option, Some, None, string_bytes, unwrap_or}
 use Rattle.std.specs.Borrow.{Bor}
-use Rattle.rail_model.specs.Layout.{Layout}
-use Rattle.rail_model.specs.Names.{Names, train_name}
+use Rattle.rail_model.specs.Names.{train_name}
 use Rattle.run_timetable.specs.Csv.{number_text, place_text}
 use Rattle.run_timetable.specs.Timetable.{rows_in, trains_of, wait_of}
 use Rattle.run_timetable.specs.declared.rows.Row.{Row}
 use Rattle.run_timetable.specs.declared.run.Run.{Run}
 use Rattle.svg_text.specs.Text.{escape}
+use Rattle.wait_causes.specs.Found.{cause_of}
+use Rattle.wait_causes.specs.declared.wait.Wait.{Wait}
 use Rattle.report_page.specs.Markup.{cell, markup}
 use Rattle.report_page.specs.Sections.{sections_text}
 use Rattle.report_page.specs.declared.markup.Part.{Part}
-use Rattle.report_page.specs.declared.markup.Part.TheVariants.{Start, Style, Heading, Certified as TablesCertified, Stuck as StateStuck, Undecided as SearchOpen, AfterWords, Tracks, Graph, AfterPicture, Timetable, AfterRows, Remarks, Script, End}
+use Rattle.report_page.specs.declared.markup.Part.TheVariants.{Start, Style, Heading, Certified as TablesCertified, AfterCertificates, Stuck as StateStuck, Undecided as SearchOpen, AfterWords, Tracks, Graph, AfterPicture, Timetable, AfterRows, Remarks, Script, End}
 use Rattle.report_page.specs.declared.writing.Report.{Report}
 use Rattle.report_page.specs.declared.writing.Verdict.{Verdict}
 use Rattle.report_page.specs.declared.writing.Verdict.TheVariants.{Certified, Stuck, Undecided}
 
--- a row: the train, its point, when it arrives there, when it leaves and how long it waits
-unfoldable pub row_text : Layout → Names → Row → List ℕ
-row_text L N row =
-    codes "<tr>" ++ cell (escape (train_name N row.train)) ++ cell (escape (place_text L row.point)) ++ cell (number_text row.arrives) ++ cell (number_text row.leaves)
-    ++ cell (number_text (wait_of row)) ++ codes "</tr>\n"
+-- what the train of a row waits for at its point, if it is known
+abbrev pub cause_text : List Wait → Row → List ℕ
+cause_text waits row = elim (row.leaves) [ None ↦ [] | Some tick ↦ unwrap_or (cause_of waits row.train tick) [] ]
+
+-- a row: the train, its point, when it arrives there, when it leaves, how long it waits and what for
+unfoldable pub row_text : Report → Row → List ℕ
+row_text r row =
+    codes "<tr>" ++ cell (escape (train_name r.trains.now row.train)) ++ cell (escape (place_text r.layout.now row.point)) ++ cell (number_text row.arrives)
+    ++ cell (number_text row.leaves) ++ cell (number_text (wait_of row)) ++ cell (escape (cause_text r.waits.now row)) ++ codes "</tr>\n"
 
 -- the rows of train i
-abbrev pub train_text : Layout → Names → Run → ℕ → List ℕ
-train_text L N run i = flat_map (row_text L N) (rows_in run i)
+abbrev pub train_text : Report → Run → ℕ → List ℕ
+train_text r run i = flat_map (row_text r) (rows_in run i)
 
 -- the rows of the first n trains
-abbrev pub trains_text : Layout → Names → Run → ℕ → List ℕ
-trains_text L N run zero = []
-trains_text L N run (suc n) = trains_text L N run n ++ train_text L N run n
+abbrev pub trains_text : Report → Run → ℕ → List ℕ
+trains_text r run zero = []
+trains_text r run (suc n) = trains_text r run n ++ train_text r run n
 
 -- what stands before the verdict, with the title and the style of the page
 abbrev pub head_text : List ℕ → List ℕ → List ℕ
@@ -43,19 +48,32 @@ words_text part words = markup part ++ escape words ++ markup AfterWords
 abbrev pub picture_text : Part → List ℕ → List ℕ
 picture_text part picture = markup part ++ picture ++ markup AfterPicture
 
+-- the certificate of table t, which has so many nodes
+unfoldable pub certificate_text : ℕ → ℕ → List ℕ
+certificate_text t nodes = codes "<li>table " ++ decimal t ++ codes ": " ++ decimal nodes ++ codes " nodes</li>\n"
+
+-- those of the first tables
+abbrev pub certificates_text : List ℕ → ℕ → List ℕ
+certificates_text nodes zero = []
+certificates_text nodes (suc t) = certificates_text nodes t ++ certificate_text t (slice_index_or nodes t 0)
+
+-- that each table has a certificate, and how many nodes these have
+abbrev pub certified_text : List ℕ → List ℕ
+certified_text nodes = markup TablesCertified ++ certificates_text nodes (length nodes) ++ markup AfterCertificates
+
 -- what is said of certificates
 abbrev pub verdict_text : Verdict → List ℕ
-verdict_text Certified = markup TablesCertified
+verdict_text (Certified nodes) = certified_text nodes.items
 verdict_text (Stuck words) = words_text StateStuck (string_bytes words)
 verdict_text (Undecided words) = words_text SearchOpen (string_bytes words)
 
 -- the timetable under its heading, and a row of names
-abbrev pub timetable_text : Layout → Names → Run → List ℕ
-timetable_text L N run = markup Timetable ++ trains_text L N run (trains_of run.starts.items) ++ markup AfterRows
+abbrev pub timetable_text : Report → Run → List ℕ
+timetable_text r run = markup Timetable ++ trains_text r run (trains_of run.starts.items) ++ markup AfterRows
 
 -- a run, if there is one: its graph and its timetable
 abbrev pub run_text : Report → List ℕ
-run_text r = elim (r.run) [ None ↦ [] | Some run ↦ picture_text Graph r.graph.now ++ timetable_text r.layout.now r.trains.now run.now ]
+run_text r = elim (r.run) [ None ↦ [] | Some run ↦ picture_text Graph r.graph.now ++ timetable_text r run.now ]
 
 -- remarks, if there are some
 abbrev pub remarks_text : Option (Bor (List ℕ)) → List ℕ

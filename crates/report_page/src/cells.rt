@@ -16,8 +16,12 @@ pub(crate) fn push_words(out: &mut Vec<u8>, words: &str) -> Result<(), AllocErro
     push_raw(out, "</td>")
 }
 
-// Adds the digits of a number, if there is one.
-fn push_digits(alloc: Global, out: &mut Vec<u8>, number: Option<u64>) -> Result<(), AllocError>
+/// Adds the digits of a number, if there is one.
+pub(crate) fn push_digits(
+    alloc: Global,
+    out: &mut Vec<u8>,
+    number: Option<u64>,
+) -> Result<(), AllocError>
     ensures { OnOk result (out.new.items ≡ out.old.items ++ number_text number) }
 {
     match number {

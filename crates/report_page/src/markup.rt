@@ -13,6 +13,8 @@ pub(crate) enum Part {
     Heading,
     /// That there are certificates.
     Certified,
+    /// What follows the list of them.
+    AfterCertificates,
     /// To words on a stuck state.
     Stuck,
     /// To words on a search that gave up.
@@ -50,7 +52,8 @@ pub(crate) fn markup(part: Part) -> &'static str
         Part::Style => "</title>\n<style>\n",
         Part::Heading => "</style>\n</head>\n<body>\n<main>\n<h1>",
         Part::Certified =>
-            "</h1>\n<section id=\"verdict\" class=\"certified\">\n<h2>Certified</h2>\n<p>Trains may move in any order that the sections allow: all of them arrive. A certificate of this was found for each table.</p>\n</section>\n",
+            "</h1>\n<section id=\"verdict\" class=\"certified\">\n<h2>Certified</h2>\n<p>Trains may move in any order that the sections allow: all of them arrive. A certificate of this was found for each table.</p>\n<ul>\n",
+        Part::AfterCertificates => "</ul>\n</section>\n",
         Part::Stuck =>
             "</h1>\n<section id=\"verdict\" class=\"open\">\n<h2>Not certified: a state is stuck</h2>\n<pre>",
         Part::Undecided =>
@@ -62,7 +65,7 @@ pub(crate) fn markup(part: Part) -> &'static str
             "<section id=\"graph\">\n<h2>Graph</h2>\n<div class=\"picture\"><template shadowrootmode=\"open\">\n",
         Part::AfterPicture => "</template></div>\n</section>\n",
         Part::Timetable =>
-            "<section id=\"timetable\">\n<h2>Timetable</h2>\n<table>\n<thead><tr><th>train</th><th>point</th><th>arrives</th><th>leaves</th><th>waits</th></tr></thead>\n<tbody>\n",
+            "<section id=\"timetable\">\n<h2>Timetable</h2>\n<table>\n<thead><tr><th>train</th><th>point</th><th>arrives</th><th>leaves</th><th>waits</th><th></th></tr></thead>\n<tbody>\n",
         Part::AfterRows => "</tbody>\n</table>\n</section>\n",
         Part::Sections =>
             "<section id=\"sections\">\n<h2>Sections</h2>\n<p>What trains take of a section is never more than its limit: a train whose next step would pass it waits.</p>\n<table>\n<thead><tr><th>section</th><th>limit</th><th>trains, and the points at which they take 1, or more where it says so</th></tr></thead>\n<tbody>\n",

@@ -29,9 +29,9 @@ function readPoints(picture) {
 function readTrains() {
   const found = [];
   for (const row of document.querySelectorAll("[id=timetable] tbody tr")) {
-    const [name, point, arrives, leaves] = [...row.cells].map((cell) => cell.textContent);
+    const [name, point, arrives, leaves, , cause] = [...row.cells].map((cell) => cell.textContent);
     if (!arrives) found.push({ name, stops: [] });
-    found.at(-1)?.stops.push({ row, point, arrives, leaves });
+    found.at(-1)?.stops.push({ row, point, arrives, leaves, cause });
     events.push(+arrives, +leaves);
   }
   return found;
@@ -41,10 +41,10 @@ function along(from, to, share) {
   return { x: from.x + share * (to.x - from.x), y: from.y + share * (to.y - from.y) };
 }
 
-function describe({ point, leaves }, next) {
+function describe({ point, leaves, cause }, next) {
   if (point === "-") return ["left", "has left"];
   if (!next) return ["arrived", `has arrived at ${point}`];
-  if (now < leaves) return ["waits", `waits at ${point} until ${leaves}`];
+  if (now < leaves) return ["waits", `waits at ${point} until ${leaves} ${cause}`];
   if (next.point === "-") return ["moves", `leaves the layout from ${point}`];
   return ["moves", `from ${point} to ${next.point} until ${next.arrives}`];
 }

@@ -21,6 +21,9 @@ h2 { margin: 26px 0 8px; font-size: 19px; line-height: 1.3; }
 #verdict h2 { display: flex; gap: 10px; align-items: center; margin: 0; }
 #verdict h2::before { flex: none; width: 1.4em; border-radius: 50%; color: var(--paper); line-height: 1.4; text-align: center; }
 #verdict p { margin: 4px 0 0; }
+#verdict ul { margin: 4px 0 0; padding: 0; list-style: none; }
+#verdict li { padding: 0; border: 0; font-variant-numeric: tabular-nums; }
+#verdict li::before { display: none; }
 pre { margin: 8px 0 0; font: 13px/1.5 ui-monospace, Menlo, Consolas, monospace; white-space: pre-wrap; overflow-wrap: anywhere; }
 #verdict h2 { color: var(--bad); }
 #verdict h2::before { content: "!"; background: var(--bad); }
@@ -76,7 +79,7 @@ table { border-collapse: separate; border-spacing: 0; width: 100%; max-width: 76
 th, td { padding: 4px 14px; border-bottom: 1px solid var(--line); text-align: right; }
 th { position: sticky; top: 0; background: var(--card); border-bottom: 2px solid var(--line); color: var(--faint); font-weight: 600; }
 #run:not(:empty) ~ #timetable th { top: var(--bar); }
-:is(th, td):nth-child(-n + 2) { text-align: left; overflow-wrap: anywhere; }
+:is(th, td):is(:nth-child(-n + 2), :last-child) { text-align: left; overflow-wrap: anywhere; }
 td:first-child { font-weight: 600; }
 #sections :is(th, td) { position: static; text-align: left; vertical-align: top; }
 #sections :is(th, td):nth-child(2) { overflow-wrap: normal; }

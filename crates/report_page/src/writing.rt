@@ -1,7 +1,8 @@
 // The page.
-ghost use Rattle.std.specs.Prelude.{◌≡◌, ◌++◌, IfOk, OnOk};
+ghost use Rattle.std.specs.Prelude.{◌≡◌, ◌++◌, IfOk, OnOk, length};
 ghost use Rattle.report_page.specs.Page as spec;
 
+use crate::cells::push_digits;
 use crate::markup::{Part, markup};
 use crate::script::SCRIPT;
 use crate::sections::push_sections;
@@ -11,20 +12,22 @@ use rail_model::{Layout, Names, Table};
 use run_timetable::Run;
 use std::alloc::{AllocError, Global};
 use svg_text::{push_escaped, push_raw};
+use wait_causes::Wait;
 
 /// Whether trains can block one another.
 #[derive(Drop)]
 pub enum Verdict {
-    /// Each table has a certificate.
-    Certified,
+    /// Each table has a certificate, of so many nodes.
+    Certified(Vec<u64>),
     /// A state is stuck, of which these lines tell.
     Stuck(String),
     /// Searches gave up, as these lines say.
     Undecided(String),
 }
 
-/// What a page shows: its title, the verdict, the tracks as SVG text, a run if there is one with its graph as SVG text, the sections of a
-/// table by their names, and remarks in lines if there are some. Points and trains have the names of `layout` and `trains`.
+/// What a page shows: its title, the verdict, the tracks as SVG text, a run if there is one with its graph as SVG text and what its trains
+/// wait for, the sections of a table by their names, and remarks in lines if there are some. Points and trains have the names of `layout`
+/// and `trains`.
 #[derive(Clone, Copy)]
 pub struct Report<'a> {
     pub title: &'a str,
@@ -32,6 +35,7 @@ pub struct Report<'a> {
     pub tracks: &'a [u8],
     pub run: Option<&'a Run>,
     pub graph: &'a [u8],
+    pub waits: &'a [Wait],
     pub layout: &'a Layout,
     pub trains: &'a Names,
     pub table: &'a Table,
@@ -60,12 +64,48 @@ fn push_words(out: &mut Vec<u8>, part: Part, words: &str) -> Result<(), AllocErr
     push_raw(out, markup(Part::AfterWords))
 }
 
+// Adds the certificate of a table, which has so many nodes.
+#[tactic(auto, unfolding(crate::specs::Page::certificate_text))]
+fn push_certificate(
+    alloc: Global,
+    out: &mut Vec<u8>,
+    table: usize,
+    nodes: u64,
+) -> Result<(), AllocError>
+    ensures { OnOk result (out.new.items ≡ out.old.items ++ spec.certificate_text table nodes) }
+{
+    push_raw(out, "<li>table ")?;
+    push_digits(alloc, out, Some(table as u64))?;
+    push_raw(out, ": ")?;
+    push_digits(alloc, out, Some(nodes))?;
+    push_raw(out, " nodes</li>\n")
+}
+
+// Adds those of all tables.
+fn push_certificates(alloc: Global, out: &mut Vec<u8>, nodes: &[u64]) -> Result<(), AllocError>
+    ensures { OnOk result (out.new.items ≡ out.old.items ++ spec.certificates_text nodes.now (length nodes.now)) }
+{
+    for (table, count) in nodes.iter().enumerate() {
+        push_certificate(alloc, out, table, *count)?;
+    }
+    Ok(())
+}
+
+// Adds that each table has a certificate.
+fn push_certified(alloc: Global, out: &mut Vec<u8>, nodes: &[u64]) -> Result<(), AllocError>
+    ensures { OnOk result (out.new.items ≡ out.old.items ++ spec.certified_text nodes.now) }
+{
+    push_raw(out, markup(Part::Certified))?;
+    push_certificates(alloc, out, nodes)?;
+    push_raw(out, markup(Part::AfterCertificates))
+}
+
 // Adds the verdict.
-fn push_verdict(out: &mut Vec<u8>, verdict: &Verdict) -> Result<(), AllocError>
+fn push_verdict(alloc: Global, out: &mut Vec<u8>, verdict: &Verdict) -> Result<(), AllocError>
     ensures { OnOk result (out.new.items ≡ out.old.items ++ spec.verdict_text verdict.now) }
 {
     match verdict {
-        Verdict::Certified => push_raw(out, markup(Part::Certified)),
+        Verdict::Certified(nodes) => push_certified(alloc, out, nodes),
         Verdict::Stuck(words) => push_words(out, Part::Stuck, words.as_str()),
         Verdict::Undecided(words) => push_words(out, Part::Undecided, words.as_str()),
     }
@@ -87,7 +127,7 @@ fn push_run(alloc: Global, out: &mut Vec<u8>, report: &Report<'_>) -> Result<(),
     match report.run {
         Some(run) => {
             push_picture(out, Part::Graph, report.graph)?;
-            push_timetable(alloc, out, report.layout, report.trains, run)
+            push_timetable(alloc, out, report, run)
         }
         None => Ok(()),
     }
@@ -123,7 +163,7 @@ fn page_with(
 {
     let mut out = Vec::new(alloc);
     push_head(&mut out, report.title, style)?;
-    push_verdict(&mut out, report.verdict)?;
+    push_verdict(alloc, &mut out, report.verdict)?;
     push_picture(&mut out, Part::Tracks, report.tracks)?;
     push_run(alloc, &mut out, report)?;
     push_sections(alloc, &mut out, report)?;

@@ -25,6 +25,12 @@ label_row : shape_text (label_of here (codes "A & B")) ≡ codes "<text x=\"3\" 
 unfolding digits
 label_row = refl
 
+-- a shape with a title
+titled_row : shape_text (record (line_of here there) { title = codes "T0 & T1" })
+    ≡ codes "<line x1=\"3\" y1=\"40\" x2=\"17\" y2=\"5\"><title>T0 &amp; T1</title>\n</line>\n"
+unfolding digits
+titled_row = refl
+
 polygon_row : shape_text (polygon_of (here ∷ there ∷ [])) ≡ codes "<polygon points=\"3,40 17,5 \"></polygon>\n"
 unfolding digits
 polygon_row = refl

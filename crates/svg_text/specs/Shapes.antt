@@ -13,6 +13,7 @@ line_of from to = record {
       ∷ record { name = codes "x2"; value = decimal to.x }
       ∷ record { name = codes "y2"; value = decimal to.y }
       ∷ [];
+  title = [];
   words = [];
 }
 
@@ -25,6 +26,7 @@ circle_of at radius = record {
       ∷ record { name = codes "cy"; value = decimal at.y }
       ∷ record { name = codes "r"; value = decimal radius }
       ∷ [];
+  title = [];
   words = [];
 }
 
@@ -33,6 +35,7 @@ abbrev pub label_of : Spot → List ℕ → Shape
 label_of at words = record {
   name = codes "text";
   attributes = record { name = codes "x"; value = decimal at.x } ∷ record { name = codes "y"; value = decimal at.y } ∷ [];
+  title = [];
   words = words;
 }
 
@@ -45,5 +48,6 @@ abbrev pub polygon_of : List Spot → Shape
 polygon_of corners = record {
   name = codes "polygon";
   attributes = record { name = codes "points"; value = flat_map corner_text corners } ∷ [];
+  title = [];
   words = [];
 }

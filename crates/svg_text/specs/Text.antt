@@ -27,8 +27,13 @@ close_text name = codes "</" ++ name ++ codes ">\n"
 abbrev pub element_text : List ℕ → List Attribute → List ℕ → List ℕ
 element_text name attributes content = open_text name attributes ++ content ++ close_text name
 
+-- the title of a shape, if it has one
+abbrev pub title_text : List ℕ → List ℕ
+title_text [] = []
+title_text (b ∷ words) = element_text (codes "title") [] (escape (b ∷ words))
+
 abbrev pub shape_text : Shape → List ℕ
-shape_text s = element_text s.name s.attributes (escape s.words)
+shape_text s = element_text s.name s.attributes (title_text s.title ++ escape s.words)
 
 abbrev pub class_of : Group → Attribute
 class_of g = record { name = codes "class"; value = g.class }

@@ -6,10 +6,11 @@ pub record Attribute : Type 0 where
   pub name : List ℕ
   pub value : List ℕ
 
--- an element without children
+-- an element with only words in it, and with a title: what a viewer shows when the pointer rests on it; none if it is empty
 pub record Shape : Type 0 where
   pub name : List ℕ
   pub attributes : List Attribute
+  pub title : List ℕ
   pub words : List ℕ
 
 -- shapes that belong together

@@ -43,11 +43,13 @@ impl Attribute {
     }
 }
 
-/// An element without children: its name, its attributes, and the words in it.
+/// An element: its name, its attributes, a title that a viewer shows when the pointer rests on it (none if it is empty), and the
+/// words in it.
 #[derive(Drop)]
 pub struct Shape {
     name: String,
     attributes: Vec<Attribute>,
+    title: String,
     words: String,
 }
 
@@ -57,19 +59,20 @@ impl Model for Shape {
 
     ghost Value = { ShapeValue };
 
-    ghost view = { λ s. record { name = string_bytes s.name; attributes = s.attributes.items; words = string_bytes s.words } };
+    ghost view = { λ s. record { name = string_bytes s.name; attributes = s.attributes.items; title = string_bytes s.title; words = string_bytes s.words } };
 }
 
 impl Shape {
-    /// An element with this name and these words, without attributes.
+    /// An element with this name and these words, without attributes and without a title.
     pub fn new(alloc: Global, name: &str, words: &str) -> Result<Shape, AllocError>
-        ensures { IfOk result (λ made. made ≡ record { name = name.now; attributes = []; words = words.now }) }
+        ensures { IfOk result (λ made. made ≡ record { name = name.now; attributes = []; title = []; words = words.now }) }
     {
         let name = String::from_str(alloc, name)?;
         let words = String::from_str(alloc, words)?;
         Ok(Shape {
             name,
             attributes: Vec::new(alloc),
+            title: String::new(alloc),
             words,
         })
     }
@@ -86,10 +89,24 @@ impl Shape {
         &self.attributes
     }
 
+    pub fn title(&self) -> &str
+        ensures { result.now ≡ self.now.title }
+    {
+        self.title.as_str()
+    }
+
     pub fn words(&self) -> &str
         ensures { result.now ≡ self.now.words }
     {
         self.words.as_str()
+    }
+
+    /// Gives it a title, in place of the one that it has.
+    pub fn set_title(&mut self, alloc: Global, words: &str) -> Result<(), AllocError>
+        ensures { OnOk result (self.new ≡ record self.old { title = words.now }) }
+    {
+        self.title = String::from_str(alloc, words)?;
+        Ok(())
     }
 
     /// Adds an attribute.

@@ -99,8 +99,20 @@ fn push_shape(out: &mut Vec<u8>, shape: &Shape) -> Result<(), AllocError>
     ensures { OnOk result (out.new.items ≡ out.old.items ++ spec.shape_text shape.now) }
 {
     push_open(out, shape.name(), shape.attributes())?;
+    push_title(out, shape.title())?;
     push_escaped(out, shape.words())?;
     push_close(out, shape.name())
+}
+
+// Adds the title of a shape, if it has one.
+fn push_title(out: &mut Vec<u8>, words: &str) -> Result<(), AllocError>
+    ensures { OnOk result (out.new.items ≡ out.old.items ++ spec.title_text words.now) }
+{
+    if words.is_empty() {
+        Ok(())
+    } else {
+        push_words(out, "title", words)
+    }
 }
 
 // Adds an element that has only words in it.

@@ -2,18 +2,19 @@
 use Rattle.std.specs.Prelude.{◌≡◌, ℕ, true, false, ◌+◌, ◌-◌, List, [], ◌∷◌, codes, flat_map, map}
 use Rattle.rail_model.specs.Layout.{Layout}
 use Rattle.run_timetable.specs.Timetable.{name_of}
-use Rattle.run_timetable.specs.declared.run.Run.{Run}
 use Rattle.svg_text.specs.Tree.{Group, Shape}
 use Rattle.svg_text.specs.Shapes.{label_of, line_of}
 use Rattle.train_graph.specs.declared.layers.Layer.{Layer}
-use Rattle.train_graph.specs.declared.layers.Layer.TheVariants.{Paper, Ticks, Points, Tables, Stays, Waits, Moves, Starts, Ends, Legend}
+use Rattle.train_graph.specs.declared.layers.Layer.TheVariants.{Paper, Ticks, Points, Tables, Blocks, Stays, Waits, Moves, Starts, Ends, Legend}
 use Rattle.train_graph.specs.declared.scale.Axes.{Axes}
+use Rattle.train_graph.specs.Blocks.{wished_blocks}
 use Rattle.train_graph.specs.Marks.{all_levels, mark_of}
 use Rattle.train_graph.specs.Places.{y_at}
+use Rattle.train_graph.specs.Subject.{Subject}
 
 -- all layers, from the back to the front
 abbrev pub layers : List Layer
-layers = Paper ∷ Ticks ∷ Points ∷ Tables ∷ Stays ∷ Waits ∷ Moves ∷ Starts ∷ Ends ∷ Legend ∷ []
+layers = Paper ∷ Ticks ∷ Points ∷ Tables ∷ Blocks ∷ Stays ∷ Waits ∷ Moves ∷ Starts ∷ Ends ∷ Legend ∷ []
 
 -- the class of a layer's group
 abbrev pub class_of : Layer → List ℕ
@@ -21,6 +22,7 @@ class_of Paper = codes "paper"
 class_of Ticks = codes "ticks"
 class_of Points = codes "points"
 class_of Tables = codes "table"
+class_of Blocks = codes "block"
 class_of Stays = codes "stay"
 class_of Waits = codes "wait"
 class_of Moves = codes "moves"
@@ -35,22 +37,25 @@ row_shapes axes L before p =
     ∷ label_of (record { x = axes.left - before; y = y_at axes p + 4 }) (name_of L p)
     ∷ []
 
--- Points: exactly a row for each point that has one. Moves: exactly a mark for each step. Stays: exactly a level line for each train where it
--- stays at the end; waits: for each train where it waits for its next step. Of the others nothing is said.
-abbrev pub Shows : Axes → Layout → Run → Layer → List Shape → Type 0
-Shows axes L run Points shapes = (before : ℕ) × (shapes ≡ flat_map (row_shapes axes L before) axes.rows.items)
-Shows axes L run Moves shapes = shapes ≡ map (mark_of axes) run.steps.items
-Shows axes L run Paper shapes = Unit {0}
-Shows axes L run Ticks shapes = Unit {0}
-Shows axes L run Tables shapes = Unit {0}
-Shows axes L run Stays shapes = shapes ≡ all_levels axes run true
-Shows axes L run Waits shapes = shapes ≡ all_levels axes run false
-Shows axes L run Starts shapes = Unit {0}
-Shows axes L run Ends shapes = Unit {0}
-Shows axes L run Legend shapes = Unit {0}
+-- Points: exactly a row for each point that has one. Moves: exactly a mark for each step, which says from where to where it leads, and when.
+-- Stays: exactly a level line for each train where it stays at the end; waits: for each train where it waits for its next step. They say when
+-- the train arrives and leaves, how long it waits, and for what. Blocks: exactly a bar for each point that a train takes, if bars are wished.
+-- Of the others nothing is said.
+abbrev pub Shows : Subject → Layer → List Shape → Type 0
+Shows S Points shapes = (before : ℕ) × (shapes ≡ flat_map (row_shapes S.axes S.layout before) S.axes.rows.items)
+Shows S Moves shapes = shapes ≡ map (mark_of S) S.run.steps.items
+Shows S Paper shapes = Unit {0}
+Shows S Ticks shapes = Unit {0}
+Shows S Tables shapes = Unit {0}
+Shows S Blocks shapes = shapes ≡ wished_blocks S
+Shows S Stays shapes = shapes ≡ all_levels S true
+Shows S Waits shapes = shapes ≡ all_levels S false
+Shows S Starts shapes = Unit {0}
+Shows S Ends shapes = Unit {0}
+Shows S Legend shapes = Unit {0}
 
 -- The group is that of the layer: it has its class and no other attribute, so that nothing hides or moves it, and shows what it should.
-pub record IsLayer (axes : Axes) (L : Layout) (run : Run) (layer : Layer) (g : Group) : Type 0 where
+pub record IsLayer (S : Subject) (layer : Layer) (g : Group) : Type 0 where
   pub class : g.class ≡ class_of layer
   pub plain : g.attributes ≡ []
-  pub shows : Shows axes L run layer g.shapes
+  pub shows : Shows S layer g.shapes

@@ -1,12 +1,14 @@
 // Pictures of runs.
-ghost use Rattle.std.specs.Prelude.{◌≡◌, ◌<◌, [], IfOk, OnOk};
+ghost use Rattle.std.specs.Prelude.{◌≡◌, ◌<◌, ◌≤◌, [], IfOk, OnOk, vec_len};
 ghost use Rattle.std.specs.List.{AllZip};
+ghost use Rattle.std.specs.List.Sorted.{IsStrictlyIncreasing};
 ghost use Rattle.train_graph.specs.Graph.{IsGraph};
 ghost use Rattle.train_graph.specs.Layers.{IsLayer, Shows, layers};
 ghost use Rattle.train_graph.specs.Marks.{span_of};
 ghost use Rattle.train_graph.specs.Rows.{HasRows, IsOnce};
+ghost use Rattle.train_graph.specs.Subject.{subject_of};
 
-use crate::Axes;
+use crate::blocks::push_wished_blocks;
 use crate::colours::style_of;
 use crate::grid::{push_paper, push_points, push_tables, push_ticks};
 use crate::labels::{Labels, text_width};
@@ -15,27 +17,34 @@ use crate::legend::{WIDTH, legend_end, push_legend};
 use crate::levels::{push_first_names, push_last_names, push_levels};
 use crate::marks::push_marks;
 use crate::order::rows_of;
+use crate::scale::MARGIN;
+use crate::sheet::Sheet;
+use crate::spacing::row_depths;
+use crate::{Axes, Wish};
 use rail_model::{Layout, Names};
 use run_timetable::{Run, point_name, train_name};
 use std::alloc::{AllocError, Global};
 use svg_text::{Group, Picture, Shape};
 
 /// The picture of a run: ticks to the right, points down, and a line for each move. The chosen train, or the one with the
-/// most places, goes down until it turns, and the points of the other trains lie where theirs meet it or branch off.
+/// most places, goes down until it turns, and the points of the other trains lie where theirs meet it or branch off. Lines say what
+/// they are of when the pointer rests on them.
 pub fn train_graph(
     alloc: Global,
     layout: &Layout,
     names: &Names,
     run: &Run,
-    chosen: Option<u32>,
+    wish: Wish<'_>,
 ) -> Result<Picture, AllocError>
-    ensures { IfOk result (IsGraph layout.now run.now) }
+    ensures { IfOk result (IsGraph layout.now names.now run.now wish.entry.waits.now wish.entry.blocks) }
 {
-    let axes = axes_of(alloc, layout, names, run, chosen)?;
+    let axes = axes_of(alloc, layout, names, run, wish.chosen)?;
     let sheet = Sheet {
         layout,
         names,
         run,
+        waits: wish.waits,
+        blocks: wish.blocks,
         axes: &axes,
     };
     drawn(alloc, &sheet)
@@ -43,7 +52,7 @@ pub fn train_graph(
 
 // The picture of a sheet, with a title and with the colours of its trains.
 fn drawn(alloc: Global, sheet: &Sheet) -> Result<Picture, AllocError>
-    ensures groups { IfOk result (λ picture. AllZip (IsLayer sheet.now.axes.now sheet.now.layout.now sheet.now.run.now) layers picture.groups) }
+    ensures groups { IfOk result (λ picture. AllZip (IsLayer (subject_of sheet.now)) layers picture.groups) }
     ensures broad { IfOk result (λ picture. 0 < picture.width) }
     ensures high { IfOk result (λ picture. 0 < picture.height) }
 {
@@ -56,7 +65,7 @@ fn drawn(alloc: Global, sheet: &Sheet) -> Result<Picture, AllocError>
 
 // The picture of a sheet, with this title and this style.
 fn framed(alloc: Global, sheet: &Sheet, title: &str, style: &str) -> Result<Picture, AllocError>
-    ensures groups { IfOk result (λ picture. AllZip (IsLayer sheet.now.axes.now sheet.now.layout.now sheet.now.run.now) layers picture.groups) }
+    ensures groups { IfOk result (λ picture. AllZip (IsLayer (subject_of sheet.now)) layers picture.groups) }
     ensures broad { IfOk result (λ picture. 0 < picture.width) }
     ensures high { IfOk result (λ picture. 0 < picture.height) }
 {
@@ -82,7 +91,8 @@ fn axes_of(
 ) -> Result<Axes, AllocError>
     ensures span { IfOk result (λ axes. axes.span ≡ span_of run.now.steps.items) }
     ensures wide { IfOk result (λ axes. 0 < axes.width) }
-    ensures apart { IfOk result (λ axes. 0 < axes.gap) }
+    ensures each { IfOk result (λ axes. vec_len axes.depths ≡ vec_len axes.rows) }
+    ensures apart { IfOk result (λ axes. IsStrictlyIncreasing axes.depths.items) }
     ensures rows { IfOk result (λ axes. HasRows run.now axes.rows.items) }
     ensures once { IfOk result (λ axes. IsOnce axes.rows.items) }
 {
@@ -90,18 +100,37 @@ fn axes_of(
     let points = widest_point(layout, &rows).saturating_add(10);
     let left = strip(names, run).saturating_add(points).min(260);
     let right = strip(names, run).min(130);
-    let tables = (run.takeovers.len() as u64).min(2).saturating_mul(12);
-    let gap = (480 / rows.len().max(1)).max(16).min(36);
-    let margin = tables.saturating_add(14 + gap as u64 / 2);
-    let top = legend_end(names, run).saturating_add(margin).min(1_000);
+    let top = top_of(names, run);
+    let depths = row_depths(alloc, layout, &rows, top + MARGIN, gap_of(&rows))?;
     Ok(Axes {
         left: left as u16,
         width: WIDTH - left as u16 - right as u16,
         span: run.end().max(1).min(1 << 40),
-        top: top as u16,
-        gap: gap as u16,
+        top,
+        bottom: bottom_of(&depths, top),
         rows,
+        depths,
     })
+}
+
+// How far down the grid begins: under the legend, and under the numbers of tables that take over.
+fn top_of(names: &Names, run: &Run) -> u16
+    ensures { result ≤ 1000 }
+{
+    let tables = (run.takeovers.len() as u64).min(2).saturating_mul(12);
+    let top = legend_end(names, run).saturating_add(tables + 2);
+    top.min(1_000) as u16
+}
+
+// How far down the grid ends, which begins at `top`: under the last row.
+fn bottom_of(depths: &[u32], top: u16) -> u32 {
+    let last = depths.last().copied().unwrap_or(u32::from(top));
+    last.saturating_add(u32::from(MARGIN))
+}
+
+// How far apart rows lie that are not of one station.
+fn gap_of(rows: &[u32]) -> u16 {
+    (480 / rows.len().max(1)).max(16).min(36) as u16
 }
 
 // How wide the names of trains beside a picture are, with room round them.
@@ -127,15 +156,6 @@ fn widest_train(names: &Names, run: &Run) -> u64 {
     widest
 }
 
-// What a picture is drawn from: a run, its names, and where ticks and points lie.
-#[derive(Clone, Copy)]
-struct Sheet<'a> {
-    layout: &'a Layout,
-    names: &'a Names,
-    run: &'a Run,
-    axes: &'a Axes,
-}
-
 // Draws a layer.
 fn draw(
     alloc: Global,
@@ -145,25 +165,28 @@ fn draw(
     layer: Layer,
 ) -> Result<(), AllocError>
     requires { shapes.old.items ≡ [] }
-    ensures { OnOk result (Shows sheet.now.axes.now sheet.now.layout.now sheet.now.run.now layer shapes.new.items) }
+    ensures { OnOk result (Shows (subject_of sheet.now) layer shapes.new.items) }
 {
     let Sheet {
         layout,
         names,
         run,
         axes,
+        blocks,
+        ..
     } = *sheet;
     match layer {
         Layer::Paper => push_paper(alloc, shapes, u64::from(WIDTH), height_of(axes)),
         Layer::Ticks => push_ticks(alloc, shapes, axes),
         Layer::Points => push_points(alloc, shapes, axes, layout, strip(names, run)),
         Layer::Tables => push_tables(alloc, shapes, labels, axes, &run.takeovers),
-        Layer::Stays => push_levels(alloc, shapes, axes, run, true),
-        Layer::Waits => push_levels(alloc, shapes, axes, run, false),
-        Layer::Moves => push_marks(alloc, shapes, axes, &run.steps),
+        Layer::Blocks => push_wished_blocks(alloc, shapes, sheet),
+        Layer::Stays => push_levels(alloc, shapes, sheet, true),
+        Layer::Waits => push_levels(alloc, shapes, sheet, false),
+        Layer::Moves => push_marks(alloc, shapes, sheet, &run.steps),
         Layer::Starts => push_first_names(alloc, shapes, axes, names, run),
         Layer::Ends => push_last_names(alloc, shapes, labels, axes, names, run),
-        Layer::Legend => push_legend(alloc, shapes, names, run),
+        Layer::Legend => push_legend(alloc, shapes, names, run, blocks),
     }
 }
 
@@ -174,7 +197,7 @@ fn group_of(
     sheet: &Sheet,
     layer: Layer,
 ) -> Result<Group, AllocError>
-    ensures { IfOk result (IsLayer sheet.now.axes.now sheet.now.layout.now sheet.now.run.now layer) }
+    ensures { IfOk result (IsLayer (subject_of sheet.now) layer) }
 {
     let mut shapes = Vec::new(alloc);
     draw(alloc, &mut shapes, labels, sheet, layer)?;
@@ -183,7 +206,7 @@ fn group_of(
 
 // The groups of all layers, from the back to the front.
 fn groups_of(alloc: Global, sheet: &Sheet) -> Result<Vec<Group>, AllocError>
-    ensures { IfOk result (λ groups. AllZip (IsLayer sheet.now.axes.now sheet.now.layout.now sheet.now.run.now) layers groups.items) }
+    ensures { IfOk result (λ groups. AllZip (IsLayer (subject_of sheet.now)) layers groups.items) }
 {
     let mut labels = Labels::new(alloc);
     let mut groups = Vec::new(alloc);

@@ -9,6 +9,7 @@ pub(crate) enum Layer {
     Ticks,
     Points,
     Tables,
+    Blocks,
     Stays,
     Waits,
     Moves,
@@ -18,11 +19,12 @@ pub(crate) enum Layer {
 }
 
 /// All layers, from the back to the front.
-pub(crate) const LAYERS: [Layer; 10] = [
+pub(crate) const LAYERS: [Layer; 11] = [
     Layer::Paper,
     Layer::Ticks,
     Layer::Points,
     Layer::Tables,
+    Layer::Blocks,
     Layer::Stays,
     Layer::Waits,
     Layer::Moves,
@@ -40,6 +42,7 @@ pub(crate) fn class_of(layer: Layer) -> &'static str
         Layer::Ticks => "ticks",
         Layer::Points => "points",
         Layer::Tables => "table",
+        Layer::Blocks => "block",
         Layer::Stays => "stay",
         Layer::Waits => "wait",
         Layer::Moves => "moves",
@@ -56,6 +59,7 @@ pub(crate) fn title_of(layer: Layer) -> &'static str {
         Layer::Ticks => "ticks",
         Layer::Points => "points",
         Layer::Tables => "tables that take over",
+        Layer::Blocks => "points that are taken",
         Layer::Stays => "trains that have arrived",
         Layer::Waits => "trains that wait",
         Layer::Moves => "moves",

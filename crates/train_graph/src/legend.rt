@@ -74,6 +74,7 @@ pub(crate) fn push_legend(
     shapes: &mut Vec<Shape>,
     names: &Names,
     run: &Run,
+    blocks: bool,
 ) -> Result<(), AllocError> {
     let mut at = FIRST;
     for train in 0..run.trains() {
@@ -82,12 +83,23 @@ pub(crate) fn push_legend(
         push_entry(alloc, shapes, spot, train, name)?;
         at = behind(spot, name);
     }
-    let words = if run.takeovers.is_empty() {
-        "sloped: it travels; level: it waits; thin: it has arrived"
-    } else {
-        "sloped: it travels; level: it waits; thin: it has arrived; dotted: a table takes over"
-    };
-    push_label(alloc, shapes, under(at), words)
+    push_label(alloc, shapes, under(at), meaning(run, blocks))
+}
+
+// What the lines of a picture mean, which has bars or not.
+fn meaning(run: &Run, blocks: bool) -> &'static str {
+    match (run.takeovers.is_empty(), blocks) {
+        (true, false) => "sloped: it travels; level: it waits; thin: it has arrived",
+        (true, true) => {
+            "sloped: it travels; level: it waits; thin: it has arrived; broad: the point is taken"
+        }
+        (false, false) => {
+            "sloped: it travels; level: it waits; thin: it has arrived; dotted: a table takes over"
+        }
+        (false, true) => {
+            "sloped: it travels; level: it waits; thin: it has arrived; broad: the point is taken; dotted: a table takes over"
+        }
+    }
 }
 
 // Adds the sample of a train's line, and its name.

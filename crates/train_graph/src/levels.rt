@@ -1,13 +1,16 @@
 // Trains that stand, and their names.
-ghost use Rattle.std.specs.Prelude.{◌≡◌, ◌++◌, ◌<◌, OnOk, flat_map};
-ghost use Rattle.train_graph.specs.Marks.{all_levels, level_at, level_of, levels_of};
+ghost use Rattle.std.specs.Prelude.{◌≡◌, ◌++◌, ◌∷◌, [], OnOk, flat_map};
+ghost use Rattle.train_graph.specs.Marks.{all_levels, level_at, level_line, level_of, levels_of, titled};
+ghost use Rattle.train_graph.specs.Subject.{subject_of};
+ghost use Rattle.train_graph.specs.Titles.{level_title as title_of};
 
 use crate::Axes;
 use crate::labels::{Labels, text_width};
-use crate::marks::set_train;
-use crate::shapes::push_train_line;
+use crate::marks::{set_train, titled_line};
+use crate::sheet::Sheet;
+use crate::titles::level_title;
 use rail_model::Names;
-use run_timetable::{Row, Run, Step, rows_of, train_name};
+use run_timetable::{Row, Run, Step, rows_in, train_name};
 use std::alloc::{AllocError, Global};
 use svg_text::{Shape, Spot, label};
 
@@ -15,14 +18,13 @@ use svg_text::{Shape, Spot, label};
 pub(crate) fn push_levels(
     alloc: Global,
     shapes: &mut Vec<Shape>,
-    axes: &Axes,
-    run: &Run,
+    sheet: &Sheet,
     stay: bool,
 ) -> Result<(), AllocError>
-    ensures { OnOk result (shapes.new.items ≡ shapes.old.items ++ all_levels axes.now run.now stay) }
+    ensures { OnOk result (shapes.new.items ≡ shapes.old.items ++ all_levels (subject_of sheet.now) stay) }
 {
-    for train in 0..run.trains() {
-        push_train_levels(alloc, shapes, axes, run, train, stay)?;
+    for train in 0..sheet.run.trains() {
+        push_train_levels(alloc, shapes, sheet, train, stay)?;
     }
     Ok(())
 }
@@ -31,29 +33,28 @@ pub(crate) fn push_levels(
 fn push_train_levels(
     alloc: Global,
     shapes: &mut Vec<Shape>,
-    axes: &Axes,
-    run: &Run,
+    sheet: &Sheet,
     train: u32,
     stay: bool,
 ) -> Result<(), AllocError>
-    ensures { OnOk result (shapes.new.items ≡ shapes.old.items ++ levels_of axes.now run.now stay train) }
+    ensures { OnOk result (shapes.new.items ≡ shapes.old.items ++ levels_of (subject_of sheet.now) stay train) }
 {
-    let rows = rows_of(alloc, &run.steps, train, run.start(train))?;
-    push_rows(alloc, shapes, axes, &rows, stay)
+    let rows = rows_in(alloc, sheet.run, train)?;
+    push_rows(alloc, shapes, sheet, &rows, stay)
 }
 
 // Adds the level lines of these rows that a train leaves, or of those where it stays.
 fn push_rows(
     alloc: Global,
     shapes: &mut Vec<Shape>,
-    axes: &Axes,
+    sheet: &Sheet,
     rows: &[Row],
     stay: bool,
 ) -> Result<(), AllocError>
-    ensures { OnOk result (shapes.new.items ≡ shapes.old.items ++ flat_map (level_of axes.now stay) rows.now) }
+    ensures { OnOk result (shapes.new.items ≡ shapes.old.items ++ flat_map (level_of (subject_of sheet.now) stay) rows.now) }
 {
     for row in rows {
-        push_row(alloc, shapes, axes, row, stay)?;
+        push_row(alloc, shapes, sheet, row, stay)?;
     }
     Ok(())
 }
@@ -62,14 +63,14 @@ fn push_rows(
 fn push_row(
     alloc: Global,
     shapes: &mut Vec<Shape>,
-    axes: &Axes,
+    sheet: &Sheet,
     row: &Row,
     stay: bool,
 ) -> Result<(), AllocError>
-    ensures { OnOk result (shapes.new.items ≡ shapes.old.items ++ level_of axes.now stay row.now) }
+    ensures { OnOk result (shapes.new.items ≡ shapes.old.items ++ level_of (subject_of sheet.now) stay row.now) }
 {
     if row.leaves.is_none() == stay {
-        push_level(alloc, shapes, axes, row)
+        push_level(alloc, shapes, sheet, row)
     } else {
         Ok(())
     }
@@ -79,21 +80,41 @@ fn push_row(
 fn push_level(
     alloc: Global,
     shapes: &mut Vec<Shape>,
-    axes: &Axes,
+    sheet: &Sheet,
     row: &Row,
 ) -> Result<(), AllocError>
-    ensures { OnOk result (shapes.new.items ≡ shapes.old.items ++ level_at axes.now row.now row.now.point) }
+    ensures { OnOk result (shapes.new.items ≡ shapes.old.items ++ level_at (subject_of sheet.now) row.now row.now.point) }
 {
     let Some(point) = row.point else {
         return Ok(());
     };
     let from = row.arrives.unwrap_or(0);
-    let until = row.leaves.unwrap_or(axes.span);
+    let until = row.leaves.unwrap_or(sheet.axes.span);
     if from < until {
-        let start = axes.spot(from, point);
-        let end = axes.spot(until, point);
-        return push_train_line(alloc, shapes, row.train, start, end);
+        return push_line(alloc, shapes, sheet, row, point, from, until);
     }
+    Ok(())
+}
+
+// Adds the line of a train between two ticks at a point.
+fn push_line(
+    alloc: Global,
+    shapes: &mut Vec<Shape>,
+    sheet: &Sheet,
+    row: &Row,
+    point: u32,
+    from: u64,
+    until: u64,
+) -> Result<(), AllocError>
+    ensures { OnOk result (shapes.new.items ≡ shapes.old.items
+        ++ titled (title_of sheet.now.layout.now sheet.now.names.now sheet.now.waits.now row.now point)
+        (level_line sheet.now.axes.now row.now.train from until point)
+        ∷ []) }
+{
+    let start = sheet.axes.spot(from, point);
+    let end = sheet.axes.spot(until, point);
+    let title = level_title(alloc, sheet.layout, sheet.names, sheet.waits, row, point)?;
+    shapes.push(titled_line(alloc, row.train, title.as_str(), start, end)?)?;
     Ok(())
 }
 

@@ -90,8 +90,8 @@ fn push_new(points: &mut Vec<u32>, point: Option<u32>) -> Result<(), AllocError>
     Ok(())
 }
 
-// What the names of one station begin with: all before the last `_`, if a letter follows.
-fn stem_of(name: &str) -> &str {
+/// What the names of one station begin with: all before the last `_`, if a letter follows.
+pub(crate) fn stem_of(name: &str) -> &str {
     if let Some((stem, track)) = name.rsplit_once("_")
         && matches!(track.as_bytes().first(), Some(b'A'..=b'Z' | b'a'..=b'z'))
     {

@@ -3,16 +3,24 @@ ghost use Rattle.std.specs.Prelude.{◌≡◌, ◌+◌, ◌<◌, ◌≤◌, ◌^
 
 use svg_text::Spot;
 
+// How far up or down a train goes that leaves the layout.
+const OUT: u64 = 10;
+
+/// How far the lines of the grid reach beyond the first row and the last one: a train that leaves has room there.
+pub(crate) const MARGIN: u16 = 22;
+
 /// Where ticks and points lie in a picture: tick 0 is at `left`, and `span` ticks later comes `width` further; the points
-/// of `rows` lie below one another, `gap` apart, from `top` on.
+/// of `rows` lie below one another, as far down as `depths` says, in the same order. The lines of the grid go from `top` to
+/// `bottom`.
 #[derive(Drop)]
 pub struct Axes {
     pub left: u16,
     pub width: u16,
     pub span: u64,
     pub top: u16,
-    pub gap: u16,
+    pub bottom: u32,
     pub rows: Vec<u32>,
+    pub depths: Vec<u32>,
     ghost some_tick: { 0 < span },
     ghost few_ticks: { span ≤ 2 ^ 40 },
     ghost few_rows: { vec_len rows ≤ 512 },
@@ -35,22 +43,23 @@ impl Axes {
         place_in(&self.rows, point).unwrap_or(self.rows.len())
     }
 
-    /// How far down a point lies.
+    /// How far down a point lies. A point without a row lies at the bottom.
     pub fn y(&self, point: u32) -> u64
-        ensures { result ≡ y_at self.now point }
+        ensures at { result ≡ y_at self.now point }
+        ensures fits { result < 2 ^ 32 }
     {
-        u64::from(self.top) + u64::from(self.gap) * self.row(point) as u64
+        let depth = self.depths.get(self.row(point)).copied();
+        u64::from(depth.unwrap_or(self.bottom))
     }
 
-    /// How far down a train that leaves the layout from a point goes: half a row up in the upper half, else down.
+    /// How far down a train that leaves the layout from a point goes: a bit up in the upper half, else down.
     pub fn out(&self, point: u32) -> u64
         ensures { result ≡ y_out self.now point }
     {
-        let half = u64::from(self.gap / 2);
         if self.row(point) * 2 < self.rows.len() {
-            self.y(point).saturating_sub(half)
+            self.y(point).saturating_sub(OUT)
         } else {
-            self.y(point) + half
+            self.y(point) + OUT
         }
     }
 
@@ -71,21 +80,14 @@ impl Axes {
         u64::from(self.left) + u64::from(self.width)
     }
 
-    // How far the lines of the grid reach beyond the first row and the last one: a train that leaves has room there.
-    fn margin(&self) -> u64 {
-        u64::from(self.gap / 2) + 12
-    }
-
     /// How far down the lines of the grid begin.
     pub fn ceiling(&self) -> u64 {
-        u64::from(self.top).saturating_sub(self.margin())
+        u64::from(self.top)
     }
 
     /// How far down the lines of the grid end.
     pub fn floor(&self) -> u64 {
-        let rows = self.rows.len() as u64;
-        let last = u64::from(self.top) + u64::from(self.gap) * rows.saturating_sub(1);
-        last.saturating_add(self.margin())
+        u64::from(self.bottom)
     }
 
     /// The spot of a tick at a point.

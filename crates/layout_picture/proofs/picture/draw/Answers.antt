@@ -1,10 +1,12 @@
-use Rattle.std.proofs.Common.{◌∙◌, List, [], ◌∷◌, ◌++◌, map, ap, subst}
+use Rattle.std.proofs.Common.{◌∙◌, List, [], ◌∷◌, ◌++◌, length, map, flat_map, ap, subst}
 use Rattle.std.proofs.lemmas.Result.{on_ok_weaker}
 use Rattle.svg_text.specs.Tree.{Shape}
 use Rattle.rail_model.specs.Layout.{Link, point_names}
 use Rattle.layout_frame.specs.Legend.{AddsLegend}
 use Rattle.layout_frame.specs.Spots.{words_of}
 use Rattle.layout_picture.specs.declared.layers.Layer.TheVariants as layer
+use Rattle.rail_model.specs.Checks.{below}
+use Rattle.layout_picture.specs.Areas.{area_of, stripes_over}
 use Rattle.layout_picture.specs.Marks.{dot_at}
 use Rattle.layout_picture.specs.Drawn.{AreLinkLines, ground_of, subject_of}
 use Rattle.layout_picture.proofs.Adding.{all_added}
@@ -34,8 +36,17 @@ returns-in-Links c =
 
 pub returns-in-Sections : goal.returns-in-Sections
 returns-in-Sections c =
-    of_layer (subject_of c.args.view.now) c.args.layer layer.Sections _ c.push_areas.result c.in-Sections.is
-    (on_ok_weaker c.push_areas.result (λ adds. all_added _ _ _ c.requires adds) c.push_areas.ensures)
+    let view = c.args.view.now in
+    let all = map (area_of view.layout.now view.scene.now.table.now view.frame.now.spots.items view.frame.now.grid.across) (below (length view.scene.now.table.now.sections)) in
+    of_layer (subject_of view) c.args.layer layer.Sections _ c.push_areas.result c.in-Sections.is
+    (on_ok_weaker c.push_areas.result (λ pushed. pushed ∙ ap (λ (shapes : List Shape). shapes ++ all) c.requires) c.push_areas.ensures)
+
+pub returns-in-Stripes : goal.returns-in-Stripes
+returns-in-Stripes c =
+    let view = c.args.view.now in
+    let all = flat_map (stripes_over view.layout.now view.scene.now.table.now view.frame.now.spots.items view.frame.now.grid.across) (below (length view.scene.now.table.now.sections)) in
+    of_layer (subject_of view) c.args.layer layer.Stripes _ c.push_stripes.result c.in-Stripes.is
+    (on_ok_weaker c.push_stripes.result (λ pushed. pushed ∙ ap (λ (shapes : List Shape). shapes ++ all) c.requires) c.push_stripes.ensures)
 
 pub returns-in-Circle : goal.returns-in-Circle
 returns-in-Circle c =

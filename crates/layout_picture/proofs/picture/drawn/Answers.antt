@@ -11,6 +11,7 @@ returns c =
     IfOk-weaker c.new.result _ shows
     (λ picture made. subst shows (sym made) (record {
       spots = view.frame.now.spots.items;
+      across = view.frame.now.grid.across;
       knot = view.knot.now;
       wide = c.requires.wide;
       high = c.requires.high;

@@ -22,7 +22,15 @@ returns-in-timetable-clause-asked c =
 pub returns-in-graph-clause-asked : goal.returns-in-graph-clause-asked
 returns-in-graph-clause-asked c =
     let found = first_value-rows (found_of c.args.matches.now) in
-    (search rules, (c.get_str-in-graph.ensures ∙ found (codes "train"), c.get_str-in-graph-2.ensures ∙ found (codes "journal"), c.get_str-in-graph-3.ensures ∙ found (codes "delay")))
+    let flag = one_text-rows (found_of c.args.matches.now) (codes "blocks") in (
+      search rules,
+      (
+        c.get_str-in-graph.ensures ∙ found (codes "train"),
+        c.get_str-in-graph-2.ensures ∙ found (codes "journal"),
+        (λ up. c.get_flag-in-graph.ensures.value (flag ∙ up), λ down. c.get_flag-in-graph.ensures.other (flag ∙ down)),
+        c.get_str-in-graph-3.ensures ∙ found (codes "delay"),
+      ),
+    )
 
 pub returns-in-report-clause-asked : goal.returns-in-report-clause-asked
 returns-in-report-clause-asked c =

@@ -11,6 +11,7 @@ returns c =
       axes = axes;
       span = lie.span;
       wide = lie.wide;
+      each = lie.each;
       apart = lie.apart;
       rows = lie.rows;
       once = lie.once;

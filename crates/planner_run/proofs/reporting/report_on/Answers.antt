@@ -1,18 +1,18 @@
 use Rattle.std.proofs.Common.{rules, inl, inr}
 use Rattle.planner_run.proofs.Weaker.{if_ok-weaker}
-use Rattle.planner_run.proofs.reporting.report.Goals as goal
+use Rattle.planner_run.proofs.reporting.report_on.Goals as goal
 
-pub returns-in_ok-verdict-in-Given : goal.returns-in_ok-verdict-in-Given
-returns-in_ok-verdict-in-Given g c =
-    if_ok-weaker c.report_of.result
+pub returns-in-Given : goal.returns-in-Given
+returns-in-Given g c =
+    if_ok-weaker c.given_report.result
     (λ text is. inl (record { document = c.in-Given.doc; run = c.in-Given.run'; is_run = search rules; is_report = is }))
-    c.report_of.ensures
+    c.given_report.ensures
 
 pub returns-in-Own : goal.returns-in-Own
 returns-in-Own g c =
-    if_ok-weaker c.report_of-in-Own.result
+    if_ok-weaker c.own_report.result
     (λ text is. inl (record { document = c.in-Own.doc; run = c.in-Own.run'; is_run = search rules; is_report = is }))
-    c.report_of-in-Own.ensures
+    c.own_report.ensures
 
 pub returns-in-Open : goal.returns-in-Open
 returns-in-Open g c =

@@ -1,0 +1,6 @@
+mod Kept
+mod OneCause
+mod Pushed
+mod Rows
+mod TableInForce
+mod TooFar

@@ -1,0 +1,4 @@
+pub mod Before
+pub mod Causes
+pub mod Found
+pub mod Waits
